@@ -1,0 +1,120 @@
+-- Document 01, "Evaluation": "depth first, left to right, over a list of definitions that are visible at each place", as a run.
+use Prim.Native.Nat.{ℕ, zero, suc}
+use mathlib.Core.List.{List, [], _∷_, _++_}
+use mathlib.Core.Bool.{Bool, true, false, not}
+use lib.ListN.{length, drop}
+use lib.Dec.{ltb}
+use Rattle.spec.specs.Expr.{if_then_else_, Atom, array, ref, if-array, Expr, atom, form, Exprs, none, more, only, append, canonical, deepest}
+use Rattle.spec.specs.Nodes.{core, ns, rest, name-byte, Node, leaf, branch, Nodes, empty, cons, number-all, headed-by, markers}
+use Rattle.spec.specs.Runs.{step, charge, Run, give, stop, before, bind}
+use Rattle.spec.specs.Plan.{Definition, value, Namespace, Place, top, inner, outside, given, Here, Finish, as-form, as-definition, as-concat, as-call, Plan, refuse, leave, associate, define-function, inside, plan}
+
+-- What an evaluated expression leaves: values (one; of `define` none, of `rest` any number), and where what follows in the same list is
+-- evaluated.
+pub record Left : Type 0 where
+  pub values : Exprs
+  pub here : Here
+
+abbrev pub standing : Place → Here → Here
+standing p h = record { place = p; scope = h .scope; namespaces = h .namespaces; arguments = h .arguments }
+
+abbrev pub add-namespace : Namespace → Here → Here
+add-namespace n h = record { place = h .place; scope = h .scope; namespaces = n ∷ h .namespaces; arguments = h .arguments }
+
+-- "The definition is visible to what follows in the same list, at all depths [..]. It leaves nothing in the result."
+abbrev pub add-definition : Definition → Here → Run Left
+add-definition d h = give (record {
+  values = none;
+  here = record { place = h .place; scope = d ∷ h .scope; namespaces = h .namespaces; arguments = h .arguments };
+})
+
+-- "when an expression's value is complete, its canonical length is charged (`rest`: its items together; `define`: nothing beyond its
+-- value)". 6: "a value with over 64 forms one inside another"; "then 6, 17".
+abbrev pub complete : ℕ → Exprs → Here → Run Left
+complete r vs h =
+    if ltb 64 (deepest vs) then stop 6 r else
+    before (charge r (length (canonical vs))) (give (record { values = vs; here = h }))
+
+-- "both arrays; their bytes joined": bs of the operands before. "Concat's 11 for an operand whose value is no array comes after both
+-- operands".
+unfoldable pub join : ℕ → List ℕ → Exprs → Here → Run Left
+join r bs none h = complete r (only (atom (array bs))) h
+join r bs (more (atom a) vs) h = if-array a (λ cs. join r (bs ++ cs) vs h) (stop 11 r)
+join r bs (more (form es) vs) h = stop 11 r
+
+-- "If the code is one expression other than a `rest` form, its value is the call's; else the call's value is the form of all its values."
+abbrev pub one-value : Nodes → Bool
+one-value empty = false
+one-value (cons e empty) = not (headed-by rest e)
+one-value (cons e (cons f es)) = false
+
+-- how the code of the call at a row runs
+abbrev pub Call : Type 0
+Call = ℕ → Nodes → Here → Run Left
+
+-- what the values of a form's elements become. A call: "The arguments are [evaluated], in order; then the code, with the function's
+-- definitions [..] and these arguments."
+abbrev pub finish : Call → ℕ → Here → Finish → Exprs → Run Left
+finish call r h as-form vs = complete r (only (form vs)) h
+finish call r h (as-definition m n) vs = add-definition (record { marker = m; name = n; is = value vs }) h
+finish call r h as-concat vs = join r [] vs h
+finish call r h (as-call code scope) vs =
+    bind (call r code (record { place = inner; scope = scope; namespaces = h .namespaces; arguments = given vs }))
+    λ left. complete r (if one-value code then left .values else only (form (left .values))) h
+
+-- an expression's evaluation, where it is evaluated
+abbrev pub Meaning : Type 0
+Meaning = Here → Run Left
+
+-- the expressions of a list, one after the other
+unfoldable pub in-order : List Meaning → Here → Run Left
+in-order [] h = give (record { values = none; here = h })
+in-order (e ∷ es) h =
+    bind (e h) λ left. bind (in-order es (left .here))
+    λ later. give (record { values = append (left .values) (later .values); here = later .here })
+
+-- "( ns ref id ) [..] Its value is itself"
+abbrev pub ns-form : ℕ → ℕ → List ℕ → Exprs
+ns-form m n id = only (form (more (atom (ref core (name-byte ns))) (more (atom (ref m n)) (only (atom (array id))))))
+
+-- a plan carried out for the expression at row r, whose elements' evaluations are es; a definition "ends with that list"
+abbrev pub perform : Call → ℕ → List Meaning → Here → Plan → Run Left
+perform call r es h (refuse w) = stop w r
+perform call r es h (leave vs) = complete r vs h
+perform call r es h (associate m n i) = complete r (ns-form m n i) (add-namespace (record { marker = m; id = i }) h)
+perform call r es h (define-function d) = add-definition d h
+perform call r es h (inside k p f) = bind (in-order (drop k es) (standing p h)) λ left. finish call r h f (left .values)
+
+-- "Steps: one for each expression evaluated, at its start."
+unfoldable mutual
+  pub eval : Call → Node → Meaning
+  eval call (leaf r a) h = before (step r) (perform call r [] h (plan (leaf r a) h))
+  eval call (branch r es) h = before (step r) (perform call r (eval-all call es) h (plan (branch r es) h))
+
+  pub eval-all : Call → Nodes → List Meaning
+  eval-all call empty = []
+  eval-all call (cons e es) = (λ h. eval call e h) ∷ eval-all call es
+
+-- 19: "32 codes in progress", at the call; here k more may be
+unfoldable pub run-code : ℕ → Call
+run-code zero r code h = stop 19 r
+run-code (suc k) r code h = in-order (eval-all (run-code k) code) h
+
+-- the top level: what each expression leaves, where references before it bear the markers `earlier`
+unfoldable pub top-level : List ℕ → Nodes → Here → Run (List Exprs)
+top-level earlier empty h = give []
+top-level earlier (cons e es) h =
+    bind (eval (run-code 32) e (standing (top earlier) h))
+    λ left. bind (top-level (markers e ++ earlier) es (left .here)) λ ls. give (left .values ∷ ls)
+
+abbrev pub start : Here
+start = record { place = top []; scope = []; namespaces = []; arguments = outside }
+
+-- the run of a stream's meaning
+unfoldable pub run : Exprs → Run (List Exprs)
+run es = top-level [] (number-all 0 es) start
+
+-- "Result: the top-level values in order."
+unfoldable pub result : List Exprs → Exprs
+result [] = none
+result (vs ∷ ls) = append vs (result ls)

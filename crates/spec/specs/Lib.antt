@@ -1,0 +1,7 @@
+pub mod Expr
+pub mod Reading
+pub mod Nodes
+pub mod Runs
+pub mod Plan
+pub mod Evaluation
+pub mod Calls

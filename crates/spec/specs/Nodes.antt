@@ -1,0 +1,89 @@
+-- Names and nodes. A node is an expression with its row number at every level. The numbers follow from the meaning alone: "in order
+-- of first bytes", from 0. Evaluation speaks of row numbers; only the calls turn one into a place, the row's start.
+use Prim.Native.Nat.{ℕ, _+_}
+use mathlib.Core.List.{List, [], _∷_, _++_}
+use mathlib.Core.Bool.{Bool}
+use lib.Dec.{eqb}
+use Rattle.spec.specs.Expr.{if_then_else_, Atom, if-ref, Expr, atom, form, Exprs, none, more, rows}
+
+-- "Names of the core namespace, marker 0x20": the mixed list of drafts 04 and 05. `version` (00) is looked for at the stream's
+-- beginning; `true` (01), `false` (02) and names that are not listed have no rule.
+abbrev pub core : ℕ
+core = 0x20
+
+-- "The last six from ns on are *function names*"; every other reference is plain
+pub data Word : Type 0 where
+  ns define concat subst arg rest : Word
+  plain : Word
+
+-- a function name's byte; for `plain` no byte
+abbrev pub name-byte : Word → ℕ
+name-byte ns = 0x06
+name-byte define = 0x09
+name-byte concat = 0x0A
+name-byte subst = 0x0B
+name-byte arg = 0x0C
+name-byte rest = 0x0D
+name-byte plain = 0x100
+
+abbrev pub is : Word → Word → Bool
+is v w = eqb (name-byte v) (name-byte w)
+
+unfoldable pub among : List Word → ℕ → Word
+among [] name = plain
+among (w ∷ ws) name = if eqb (name-byte w) name then w else among ws name
+
+-- the word of a reference's marker and name
+unfoldable pub word : ℕ → ℕ → Word
+word m n = if eqb m core then among (ns ∷ define ∷ concat ∷ subst ∷ arg ∷ rest ∷ []) n else plain
+
+mutual
+  pub data Node : Type 0 where
+    leaf : ℕ → Atom → Node
+    branch : ℕ → Nodes → Node
+
+  pub data Nodes : Type 0 where
+    empty : Nodes
+    cons : Node → Nodes → Nodes
+
+unfoldable mutual
+  pub number : ℕ → Expr → Node
+  number r (atom a) = leaf r a
+  number r (form es) = branch r (number-all (r + 1) es)
+
+  pub number-all : ℕ → Exprs → Nodes
+  number-all r none = empty
+  number-all r (more e es) = cons (number r e) (number-all (r + rows e) es)
+
+abbrev pub row : Node → ℕ
+row (leaf r a) = r
+row (branch r es) = r
+
+-- a form's elements, and what follows its head
+abbrev pub elements : Node → Nodes
+elements (leaf r a) = empty
+elements (branch r es) = es
+
+abbrev pub tail : Nodes → Nodes
+tail empty = empty
+tail (cons e es) = es
+
+-- the word of the head, which is the first element as it is written
+abbrev pub head-word : Nodes → Word
+head-word empty = plain
+head-word (cons (leaf r a) es) = if-ref a word plain
+head-word (cons (branch r fs) es) = plain
+
+-- whether an expression is a form headed by a word
+abbrev pub headed-by : Word → Node → Bool
+headed-by w e = is (head-word (elements e)) w
+
+-- the markers that the references in an expression bear
+unfoldable mutual
+  pub markers : Node → List ℕ
+  markers (leaf r a) = if-ref a (λ m n. m ∷ []) []
+  markers (branch r es) = markers-all es
+
+  pub markers-all : Nodes → List ℕ
+  markers-all empty = []
+  markers-all (cons e es) = markers e ++ markers-all es
