@@ -56,7 +56,7 @@ Call = ℕ → Nodes → Here → Run Left
 -- definitions [..] and these arguments."
 abbrev pub finish : Call → ℕ → Here → Finish → Exprs → Run Left
 finish call r h as-form vs = complete r (only (form vs)) h
-finish call r h (as-definition m n) vs = add-definition (record { marker = m; name = n; is = value vs }) h
+finish call r h (as-definition m n) vs = add-definition (record { marker = m; name = n; content = value vs }) h
 finish call r h as-concat vs = join r [] vs h
 finish call r h (as-call code scope) vs =
     bind (call r code (record { place = inner; scope = scope; namespaces = h .namespaces; arguments = given vs }))

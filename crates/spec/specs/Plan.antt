@@ -18,7 +18,7 @@ pub data Defined : Type 0 where
 pub record Definition : Type 0 where
   pub marker : ℕ
   pub name : ℕ
-  pub is : Defined
+  pub content : Defined
 
 -- The visible definitions, the latest first. "its code, with the definitions visible here": those behind a function's own entry.
 abbrev pub Scope : Type 0
@@ -31,7 +31,7 @@ pub data Found : Type 0 where
 
 unfoldable pub look-up : ℕ → ℕ → Scope → Found
 look-up m n [] = nothing
-look-up m n (d ∷ ds) = if eqb (d .marker) m && eqb (d .name) n then latest (d .is) ds else look-up m n ds
+look-up m n (d ∷ ds) = if eqb (d .marker) m && eqb (d .name) n then latest (d .content) ds else look-up m n ds
 
 -- a marker with the id that it is associated with
 pub record Namespace : Type 0 where
@@ -95,11 +95,19 @@ expect-two (cons h (cons a empty)) f = refuse 11
 expect-two (cons h (cons a (cons b empty))) f = f a b
 expect-two (cons h (cons a (cons b (cons c es)))) f = refuse 11
 
-abbrev pub expect-atom : Node → (Atom → Plan) → Plan
-expect-atom (leaf r a) f = f a
-expect-atom (branch r es) f = refuse 11
+abbrev pub expect-ref : Node → (ℕ → ℕ → Plan) → Plan
+expect-ref (leaf r a) f = if-ref a f (refuse 11)
+expect-ref (branch r es) f = refuse 11
 
--- the rules
+abbrev pub expect-array : Node → (List ℕ → Plan) → Plan
+expect-array (leaf r a) f = if-array a f (refuse 11)
+expect-array (branch r es) f = refuse 11
+
+abbrev pub expect-int : Node → (ℕ → Plan) → Plan
+expect-int (leaf r a) f = if-int a f (refuse 11)
+expect-int (branch r es) f = refuse 11
+
+-- The rules
 
 -- "( ns ref id ), top level only: associates ref's marker with id, an array of 1 to 64 bytes." 14: "marker 0x20, marker borne by a
 -- reference earlier in the stream, or id used before". 19: "64 namespaces".
@@ -107,23 +115,21 @@ abbrev pub plan-ns : Place → Nodes → Here → Plan
 plan-ns element es h = refuse 13
 plan-ns inner es h = refuse 13
 plan-ns (top earlier) es h =
-    expect-two es λ a b. expect-atom a λ r. expect-atom b λ i. if-ref r (λ m n. if-array i (λ id.
+    expect-two es λ a b. expect-ref a λ m n. expect-array b λ id.
     if ltb (length id) 1 || ltb 64 (length id) then refuse 11 else
     if eqb m core || some (eqb m) earlier || some (λ k. same (k .id) id) (h .namespaces) then refuse 14 else
-    if leb 64 (length (h .namespaces)) then refuse 19 else associate m n id)
-    (refuse 11)) (refuse 11)
+    if leb 64 (length (h .namespaces)) then refuse 19 else associate m n id
 
 -- "( define ref value )". 11: "a `rest` form is a wrong kind for define's value". 14: "marker 0x20 or not yet associated". 19: "256
 -- definitions visible". "If it is a form headed by `subst`, ref becomes a function: its code".
 abbrev pub plan-definition : Nodes → Here → Plan
 plan-definition es h =
-    expect-two es λ a v. expect-atom a λ r. if-ref r (λ m n.
+    expect-two es λ a v. expect-ref a λ m n.
     if headed-by rest v then refuse 11 else
     if eqb m core || not (some (λ k. eqb (k .marker) m) (h .namespaces)) then refuse 14 else
     if leb 256 (length (h .scope)) then refuse 19 else
-    if headed-by subst v then define-function (record { marker = m; name = n; is = function (tail (elements v)) }) else
-    inside 2 inner (as-definition m n))
-    (refuse 11)
+    if headed-by subst v then define-function (record { marker = m; name = n; content = function (tail (elements v)) }) else
+    inside 2 inner (as-definition m n)
 
 -- "as an element of the top level or of a data form"
 abbrev pub plan-define : Place → Nodes → Here → Plan
@@ -145,10 +151,6 @@ abbrev pub plan-rest : ℕ → Arguments → Plan
 plan-rest n outside = refuse 15
 plan-rest n (given vs) = if leb n (size vs) then leave (without n vs) else refuse 15
 
--- "n is a written small integer"
-abbrev pub with-n : Nodes → (ℕ → Plan) → Plan
-with-n es f = expect-one es λ a. expect-atom a λ i. if-int i f (refuse 11)
-
 -- "Other forms are data forms: every element is evaluated, the head too."
 abbrev pub data-form : Plan
 data-form = inside 0 element as-form
@@ -165,14 +167,14 @@ plan-other empty scope = data-form
 plan-other (cons (leaf r a) es) scope = if-ref a (λ m n. plan-head (look-up m n scope)) data-form
 plan-other (cons (branch r fs) es) scope = if is (head-word fs) subst then inside 1 inner (as-call (tail fs) scope) else data-form
 
--- 12: "`subst` form where a value is wanted"
+-- 12: "`subst` form where a value is wanted". "n is a written small integer."
 unfoldable pub plan-form : Word → Nodes → Here → Plan
 plan-form ns es h = plan-ns (h .place) es h
 plan-form define es h = plan-define (h .place) es h
 plan-form concat es h = plan-concat es
 plan-form subst es h = refuse 12
-plan-form arg es h = with-n es λ n. plan-arg n (h .arguments)
-plan-form rest es h = with-n es λ n. plan-rest n (h .arguments)
+plan-form arg es h = expect-one es λ a. expect-int a λ n. plan-arg n (h .arguments)
+plan-form rest es h = expect-one es λ a. expect-int a λ n. plan-rest n (h .arguments)
 plan-form plain es h = plan-other es (h .scope)
 
 -- "A reference has the value of the latest visible definition of that marker and name, and that value isn't evaluated again; with none,

@@ -1,0 +1,362 @@
+-- Laws of `read-atom`: an atom that is read fits and has no more canonical bytes than it was written with, a refusal's place is in the
+-- stream, and the canonical bytes of an atom that fits are read as that atom.
+use Prim.Native.Nat.{ℕ, zero, suc, _+_, _-_, _*_, _/_, _%_, _≤_, _<_}
+use mathlib.Core.Path.{_≡_, refl, sym, ap, _∙_, subst}
+use mathlib.Core.List.{List, [], _∷_, _++_, append-assoc}
+use mathlib.Core.Bool.{Bool, true, false}
+use lib.ListN.{length, take, drop, length-append, length-take, length-drop, replicate, length-replicate}
+use lib.Seq.{take-at, drop-at}
+use lib.Dec.{ltb, leb, eqb}
+use borrow.Author.Tests.{ltb-true, ltb-false, leb-true, leb-false, eqb-true, eqb-false, lt-ltb, le-ltb, le-leb, ne-eqb, eq-eqb}
+use native.Mathlib.Omega.{arith}
+use Rattle.spec.specs.Expr.{if_then_else_, Atom, nil, array, int, ref, array-head, marker-bytes, atom-bytes}
+use Rattle.spec.specs.Reading.{Taken, taken, failed, and-then, take-bytes, natural, as-length, plain-length, length-expr, marker, name, as-array, read-atom}
+use Rattle.laws.specs.Demands.{Bytes}
+use Rattle.laws.proofs.Fits.{Fits}
+
+-- What was read off at most n bytes: a thing of which P holds with the number of bytes left, or a refusal
+abbrev pub Off : {A : Type 0} → (A → ℕ → Type 0) → ℕ → Taken A → Type 0
+Off P n (taken a s) = P a (length s) × Bytes s × (length s ≤ n)
+Off P n (failed w s) = length s ≤ n
+
+off-choice : {A : Type 0} (P : A → ℕ → Type 0) (n : ℕ) (b : Bool) (x y : Taken A) → (b ≡ true → Off P n x) → (b ≡ false → Off P n y) → Off P n (if b then x else y)
+off-choice P n true x y f g = f refl
+off-choice P n false x y f g = g refl
+
+off-then : {A B : Type 0} (P : A → ℕ → Type 0) (Q : B → ℕ → Type 0) (n : ℕ) (x : Taken A) (f : A → List ℕ → Taken B)
+    → Off P n x → ((a : A) (s : List ℕ) → P a (length s) → Bytes s → length s ≤ n → Off Q n (f a s)) → Off Q n (and-then x f)
+off-then P Q n (taken a s) f x g = g a s (x .0) (x .1) (x .2)
+off-then P Q n (failed w s) f x g = x
+
+bytes-take : (n : ℕ) (s : List ℕ) → Bytes s → Bytes (take n s)
+bytes-take zero s b = tt
+bytes-take (suc n) [] b = tt
+bytes-take (suc n) (x ∷ s) b = (b .0, bytes-take n s (b .1))
+
+pub bytes-drop : (n : ℕ) (s : List ℕ) → Bytes s → Bytes (drop n s)
+bytes-drop zero s b = b
+bytes-drop (suc n) [] b = tt
+bytes-drop (suc n) (x ∷ s) b = bytes-drop n s (b .1)
+
+-- take-bytes
+
+abbrev Part : ℕ → ℕ → List ℕ → ℕ → Type 0
+Part n total bs left = (length bs ≡ n) × (length bs + left ≡ total) × Bytes bs
+
+off-take : (n m : ℕ) (s : List ℕ) → Bytes s → length s ≤ m → Off (Part n (length s)) m (take-bytes n s)
+unfolding take-bytes
+off-take n m s b h = off-choice (Part n (length s)) m (leb n (length s)) (taken (take n s) (drop n s)) (failed 2 [])
+    (λ e. let k = leb-true n (length s) e in ((simp length-take (omega arith), simp (length-take, length-drop) (omega arith), bytes-take n s b), bytes-drop n s b, simp length-drop (omega arith)))
+    (λ e. omega arith)
+
+-- lengths
+
+-- how many canonical bytes an array has before its own
+abbrev head-size : ℕ → ℕ
+head-size n = length (array-head n)
+
+head-small : (n : ℕ) → n < 64 → head-size n ≡ 1
+unfolding array-head
+head-small n h = rw (lt-ltb n 64 h)
+
+head-middle : (n : ℕ) → n < 256 → head-size n ≤ 3
+unfolding array-head
+head-middle n h = go (ltb n 64)
+  where
+    go : (b : Bool) → length (if b then (0xC0 + n) ∷ [] else if ltb n 256 then 0x03 ∷ 0xC1 ∷ n ∷ [] else 0x03 ∷ 0xC2 ∷ (n / 256) ∷ (n % 256) ∷ []) ≤ 3
+    go true = omega arith
+    go false = rw (lt-ltb n 256 h) (omega arith)
+
+head-any : (n : ℕ) → head-size n ≤ 4
+unfolding array-head
+head-any n = go (ltb n 64) (ltb n 256)
+  where
+    go : (b c : Bool) → length (if b then (0xC0 + n) ∷ [] else if c then 0x03 ∷ 0xC1 ∷ n ∷ [] else 0x03 ∷ 0xC2 ∷ (n / 256) ∷ (n % 256) ∷ []) ≤ 4
+    go true c = omega arith
+    go false true = omega arith
+    go false false = omega arith
+
+-- a length written in so many bytes
+head-natural : (bs : List ℕ) → Bytes bs → head-size (natural 0 bs) ≤ length bs + 2
+unfolding natural
+head-natural [] b = omega (arith, head-small 0 (omega arith))
+head-natural (x ∷ []) b = omega (arith, head-middle (0 * 256 + x) (omega (arith, b .0)))
+head-natural (x ∷ y ∷ s) b = omega (arith, head-any (natural ((0 * 256 + x) * 256 + y) s))
+
+-- a length that begins with the first of `total` bytes
+abbrev Length : ℕ → ℕ → ℕ → Type 0
+Length total n left = head-size n + left ≤ 1 + total
+
+off-as-length : (n m total : ℕ) (s : List ℕ) → 1 + length s ≤ total → length s ≤ m → (x : Taken (List ℕ)) → Off (Part n (length s)) m x → Off (Length total) m (and-then x as-length)
+off-as-length n m total s h k x o = off-then (Part n (length s)) (Length total) m x as-length o
+    (λ bs t p b l. (omega (arith, head-natural bs (p .2), p .1), b, l))
+
+off-plain : (b : ℕ) (s : List ℕ) → b < 256 → Bytes s → Off (Length (suc (length s))) (suc (length s)) (plain-length b s)
+unfolding plain-length
+off-plain b s h bs =
+    off-choice (Length (suc (length s))) (suc (length s)) (ltb b 0x80) _ _ (λ e. omega arith) λ e.
+    off-choice (Length (suc (length s))) (suc (length s)) (ltb b 0xC0) _ _
+    (λ e′. (omega (arith, head-small (b - 0x80) (omega (arith, ltb-true b 0xC0 e′))), bs, omega arith))
+    (λ e′. off-as-length (b - 0xC0) (suc (length s)) (suc (length s)) s (omega arith) (omega arith) (take-bytes (b - 0xC0) s) (off-take (b - 0xC0) (suc (length s)) s bs (omega arith)))
+
+head-some : (n : ℕ) → 1 ≤ head-size n
+unfolding array-head
+head-some n = go (ltb n 64) (ltb n 256)
+  where
+    go : (b c : Bool) → 1 ≤ length (if b then (0xC0 + n) ∷ [] else if c then 0x03 ∷ 0xC1 ∷ n ∷ [] else 0x03 ∷ 0xC2 ∷ (n / 256) ∷ (n % 256) ∷ [])
+    go true c = omega arith
+    go false true = omega arith
+    go false false = omega arith
+
+-- the bytes of a generic array whose length begins with the first of `total` bytes
+abbrev Generic : ℕ → List ℕ → ℕ → Type 0
+Generic total bs left = Bytes bs × (head-size (length bs) + (length bs + left) ≤ 1 + total)
+
+off-generic : (total : ℕ) (x : Taken ℕ) → Off (Length total) total x → Off (Generic total) total (and-then x take-bytes)
+off-generic total (failed w s) o = o
+off-generic total (taken n s) o = weaker (take-bytes n s) (off-take n total s (o .1) (o .2))
+  where
+    weaker : (y : Taken (List ℕ)) → Off (Part n (length s)) total y → Off (Generic total) total y
+    weaker (taken bs t) y = ((y .0 .2, omega (arith, ap (λ k. head-size k) (y .0 .0), y .0 .1, o .0)), y .1, y .2)
+    weaker (failed w t) y = y
+
+off-length : (k : ℕ) (s : List ℕ) → Bytes s → Off (Length (length s)) (length s) (length-expr k s)
+unfolding length-expr
+off-length zero [] bs = omega arith
+off-length (suc k) [] bs = omega arith
+off-length zero (b ∷ s) bs = off-choice (Length (suc (length s))) (suc (length s)) (eqb b 3) _ _ (λ e. omega arith) (λ e. off-plain b s (bs .0) (bs .1))
+off-length (suc k) (b ∷ s) bs =
+    off-choice (Length (suc (length s))) (suc (length s)) (eqb b 3) _ _
+    (λ e. as-number (and-then (length-expr k s) take-bytes) (off-generic (length s) (length-expr k s) (off-length k s (bs .1))))
+    (λ e. off-plain b s (bs .0) (bs .1))
+  where
+    as-number : (x : Taken (List ℕ)) → Off (Generic (length s)) (length s) x → Off (Length (suc (length s))) (suc (length s)) (and-then x as-length)
+    as-number (taken ds t) o = (omega (arith, head-natural ds (o .0 .0), head-some (length ds), o .0 .1), o .1, omega (arith, o .2))
+    as-number (failed w t) o = omega arith
+
+-- markers
+
+-- how many bytes the sum takes that leads from m to a marker
+abbrev Sum : ℕ → ℕ → ℕ → ℕ → Type 0
+Sum m total k left = (m ≤ k) × ((k - m) / 0xFF + 1 + left ≡ total)
+
+off-marker : (m : ℕ) (s : List ℕ) → Bytes s → Off (Sum m (length s)) (length s) (marker m s)
+unfolding marker
+off-marker m [] bs = omega arith
+off-marker m (b ∷ s) bs =
+    off-choice (Sum m (suc (length s))) (suc (length s)) (eqb b 0xFF) _ _
+    (λ e. weaker (eqb-true b 0xFF e) (marker (m + b) s) (off-marker (m + b) s (bs .1)))
+    (λ e. ((omega arith, omega (arith, bs .0, eqb-false b 0xFF e)), bs .1, omega arith))
+  where
+    weaker : b ≡ 0xFF → (x : Taken ℕ) → Off (Sum (m + b) (length s)) (length s) x → Off (Sum m (suc (length s))) (suc (length s)) x
+    weaker e (taken k t) o = ((omega (arith, o .0 .0), omega (arith, o .0 .0, o .0 .1, e)), o .1, omega (arith, o .2))
+    weaker e (failed w t) o = omega arith
+
+-- atoms
+
+-- an atom that begins with the first of `total` bytes
+abbrev pub Read : ℕ → Atom → ℕ → Type 0
+Read total a left = Fits a × (length (atom-bytes a) + left ≤ total)
+
+marker-size-small : (m n : ℕ) → m < 0x7F → length (atom-bytes (ref m n)) ≡ 2
+unfolding atom-bytes marker-bytes
+marker-size-small m n h = rw (lt-ltb m 0x7F h)
+
+marker-size-large : (m n : ℕ) → 0x7F ≤ m → length (atom-bytes (ref m n)) ≡ (m - 0x7F) / 0xFF + 3
+unfolding atom-bytes marker-bytes
+marker-size-large m n h = rw (le-ltb m 0x7F h) (simp (length-append, length-replicate) (omega arith))
+
+-- a name byte after a marker, in a reference of so many bytes
+off-name : (total m : ℕ) (from s : List ℕ) → 16 ≤ m → Bytes s → length s ≤ total → length from ≤ total
+    → ((n : ℕ) → length (atom-bytes (ref m n)) + length s ≤ 1 + total) → Off (Read total) total (name from m s)
+unfolding name
+off-name total m from [] g bs l k f = omega arith
+off-name total m from (n ∷ s) g bs l k f =
+    off-choice (Read total) total (ltb 65535 m) _ _ (λ e. k)
+    (λ e. ((((g, ltb-false 65535 m e, bs .0)), omega (arith, f n)), bs .1, omega arith))
+
+array-size : (bs : List ℕ) → length (atom-bytes (array bs)) ≡ head-size (length bs) + length bs
+unfolding atom-bytes
+array-size bs = length-append (array-head (length bs)) bs
+
+-- an array of so many bytes
+off-array : (total : ℕ) (x : Taken (List ℕ)) → Off (Generic total) total x → Off (Read (suc total)) (suc total) (and-then x as-array)
+off-array total (taken bs t) o = ((o .0 .0, omega (arith, array-size bs, o .0 .1)), o .1, omega (arith, o .2))
+off-array total (failed w t) o = omega arith
+
+off-small-array : (n : ℕ) (s : List ℕ) → n < 64 → Bytes s → Off (Generic (length s)) (length s) (take-bytes n s)
+off-small-array n s h bs = go (take-bytes n s) (off-take n (length s) s bs (omega arith))
+  where
+    go : (x : Taken (List ℕ)) → Off (Part n (length s)) (length s) x → Off (Generic (length s)) (length s) x
+    go (taken ds t) o = ((o .0 .2, omega (arith, head-small (length ds) (omega (arith, o .0 .0)), o .0 .1)), o .1, o .2)
+    go (failed w t) o = o
+
+off-large : (b : ℕ) (s : List ℕ) → Bytes s → Off (Read (suc (length s))) (suc (length s)) (and-then (marker 0x7F s) (name (b ∷ s)))
+off-large b s bs = go (marker 0x7F s) (off-marker 0x7F s bs)
+  where
+    go : (x : Taken ℕ) → Off (Sum 0x7F (length s)) (length s) x → Off (Read (suc (length s))) (suc (length s)) (and-then x (name (b ∷ s)))
+    go (taken m t) o =
+        off-name (suc (length s)) m (b ∷ s) t (omega (arith, o .0 .0)) (o .1) (omega (arith, o .2)) (omega arith)
+        (λ n. omega (arith, marker-size-large m n (o .0 .0), o .0 .1))
+    go (failed w t) o = omega arith
+
+pub off-atom : (b : ℕ) (s : List ℕ) → b < 256 → Bytes s → Off (Read (suc (length s))) (suc (length s)) (read-atom b s)
+unfolding read-atom atom-bytes
+off-atom b s h bs =
+    let n : ℕ = suc (length s) in
+    off-choice (Read n) n (eqb b 0x00) _ _ (λ e. ((tt, omega arith), bs, omega arith)) λ e0.
+    off-choice (Read n) n (eqb b 0x03) _ _ (λ e. off-array (length s) (and-then (length-expr 7 s) take-bytes) (off-generic (length s) (length-expr 7 s) (off-length 7 s bs))) λ e3.
+    off-choice (Read n) n (ltb b 0x10) _ _ (λ e. omega arith) λ e10.
+    off-choice (Read n) n (ltb b 0x7F) _ _
+    (λ e. off-name n b (b ∷ s) s (ltb-false b 0x10 e10) bs (omega arith) (omega arith) (λ k. omega (arith, marker-size-small b k (ltb-true b 0x7F e)))) λ e7F.
+    off-choice (Read n) n (ltb b 0x80) _ _ (λ e. off-large b s bs) λ e80.
+    off-choice (Read n) n (ltb b 0xC0) _ _ (λ e. ((omega (arith, ltb-true b 0xC0 e), omega arith), bs, omega arith)) λ eC0.
+    off-array (length s) (take-bytes (b - 0xC0) s) (off-small-array (b - 0xC0) s (omega arith) bs)
+
+-- The canonical bytes of an atom
+
+-- the branches of `read-atom`
+
+module _ (b : ℕ) (s : List ℕ) where
+  read-reference : 16 ≤ b → b < 0x7F → read-atom b s ≡ name (b ∷ s) b s
+  unfolding read-atom
+  read-reference h k =
+      rw (ne-eqb b 0x00 (λ e. omega arith), ne-eqb b 0x03 (λ e. omega arith), le-ltb b 0x10 h, lt-ltb b 0x7F k)
+
+  read-int : 0x80 ≤ b → b < 0xC0 → read-atom b s ≡ taken (int (b - 0x80)) s
+  unfolding read-atom
+  read-int h k =
+      rw (
+        ne-eqb b 0x00 (λ e. omega arith),
+        ne-eqb b 0x03 (λ e. omega arith),
+        le-ltb b 0x10 (omega arith),
+        le-ltb b 0x7F (omega arith),
+        le-ltb b 0x80 h,
+        lt-ltb b 0xC0 k,
+      )
+
+  read-small-array : 0xC0 ≤ b → read-atom b s ≡ and-then (take-bytes (b - 0xC0) s) as-array
+  unfolding read-atom
+  read-small-array h =
+      rw (
+        ne-eqb b 0x00 (λ e. omega arith),
+        ne-eqb b 0x03 (λ e. omega arith),
+        le-ltb b 0x10 (omega arith),
+        le-ltb b 0x7F (omega arith),
+        le-ltb b 0x80 (omega arith),
+        le-ltb b 0xC0 h,
+      )
+
+-- so many bytes in front are taken
+take-front : (n : ℕ) (bs s : List ℕ) → length bs ≡ n → take-bytes n (bs ++ s) ≡ taken bs s
+unfolding take-bytes
+take-front n bs s h =
+    let fits : leb n (length (bs ++ s)) ≡ true = le-leb n (length (bs ++ s)) (simp length-append (omega arith)) in
+    rw (fits, take-at bs s n h, drop-at bs s n h)
+
+-- a generic array whose length is a small array
+read-generic : (b : ℕ) (hs bs s : List ℕ) → 0xC0 ≤ b → length hs ≡ b - 0xC0 → natural 0 hs ≡ length bs → read-atom 0x03 (b ∷ (hs ++ (bs ++ s))) ≡ taken (array bs) s
+unfolding read-atom length-expr plain-length
+read-generic b hs bs s h k e =
+    rw (
+      ne-eqb b 0x03 (λ z. omega arith),
+      le-ltb b 0x80 (omega arith),
+      le-ltb b 0xC0 h,
+      take-front (b - 0xC0) hs (bs ++ s) k,
+      e,
+      take-front (length bs) bs s refl,
+    )
+
+-- bytes FF are added up
+marker-sum : (k m b : ℕ) (s : List ℕ) → b < 0xFF → marker m (replicate k 0xFF ++ (b ∷ s)) ≡ taken (m + k * 0xFF + b) s
+unfolding marker
+marker-sum zero m b s h = rw (ne-eqb b 0xFF (λ e. omega arith)) (ap (λ (x : ℕ). taken x s) (omega arith))
+marker-sum (suc k) m b s h = marker-sum k (m + 0xFF) b s h ∙ ap (λ (x : ℕ). taken x s) (omega arith)
+
+-- the first byte of an atom's canonical bytes, and that the atom is read from them
+pub record Front (a : Atom) : Type 0 where
+  pub byte : ℕ
+  pub others : List ℕ
+  pub is : atom-bytes a ≡ byte ∷ others
+  pub no-opening : byte ≡ 0x01 → ⊥
+  pub no-closing : byte ≡ 0x02 → ⊥
+  pub reads : (s : List ℕ) → read-atom byte (others ++ s) ≡ taken a s
+
+front-array : (bs : List ℕ) → Front (array bs)
+unfolding atom-bytes array-head
+front-array bs = go (ltb (length bs) 64) refl (ltb (length bs) 256) refl
+  where
+    n : ℕ
+    n = length bs
+
+    go : (b : Bool) → ltb n 64 ≡ b → (c : Bool) → ltb n 256 ≡ c → Front (array bs)
+    go true e c e′ = record {
+      byte = 0xC0 + n;
+      others = bs;
+      is = rw e;
+      no-opening = λ h. omega arith;
+      no-closing = λ h. omega arith;
+      reads = λ s. read-small-array (0xC0 + n) (bs ++ s) (omega arith) ∙ ap (λ x. and-then x as-array) (take-front (0xC0 + n - 0xC0) bs s (omega arith));
+    }
+    go false e true e′ = record {
+      byte = 0x03;
+      others = 0xC1 ∷ n ∷ bs;
+      is = rw (e, e′);
+      no-opening = λ h. omega arith;
+      no-closing = λ h. omega arith;
+      reads = λ s. unfold natural in read-generic 0xC1 (n ∷ []) bs s (omega arith) refl (omega arith);
+    }
+    go false e false e′ = record {
+      byte = 0x03;
+      others = 0xC2 ∷ (n / 256) ∷ (n % 256) ∷ bs;
+      is = rw (e, e′);
+      no-opening = λ h. omega arith;
+      no-closing = λ h. omega arith;
+      reads = λ s. unfold natural in read-generic 0xC2 ((n / 256) ∷ (n % 256) ∷ []) bs s (omega arith) refl (omega arith);
+    }
+
+front-ref : (m n : ℕ) → 16 ≤ m → m ≤ 65535 → Front (ref m n)
+unfolding atom-bytes marker-bytes name
+front-ref m n h k = go (ltb m 0x7F) refl
+  where
+    -- not above 65,535, so that a reference is made
+    kept : ltb 65535 m ≡ false
+    kept = le-ltb 65535 m k
+
+    long : (x s : List ℕ) → marker 0x7F x ≡ taken m (n ∷ s) → read-atom 0x7F x ≡ taken (ref m n) s
+    long x s q = unfold read-atom in rw (q, kept)
+
+    go : (b : Bool) → ltb m 0x7F ≡ b → Front (ref m n)
+    go true e = record {
+      byte = m;
+      others = n ∷ [];
+      is = rw e;
+      no-opening = λ z. omega arith;
+      no-closing = λ z. omega arith;
+      reads = λ s. read-reference m (n ∷ s) h (ltb-true m 0x7F e) ∙ rw kept;
+    }
+    go false e = record {
+      byte = 0x7F;
+      others = (replicate ((m - 0x7F) / 0xFF) 0xFF ++ (((m - 0x7F) % 0xFF) ∷ [])) ++ (n ∷ []);
+      is = rw e;
+      no-opening = λ z. omega arith;
+      no-closing = λ z. omega arith;
+      reads = λ s.
+          long _ s
+          (simp append-assoc
+          (marker-sum ((m - 0x7F) / 0xFF) 0x7F ((m - 0x7F) % 0xFF) (n ∷ s) (omega arith) ∙ ap (λ (x : ℕ). taken x (n ∷ s)) (omega (arith, ltb-false m 0x7F e))));
+    }
+
+pub front : (a : Atom) → Fits a → Front a
+unfolding atom-bytes
+front nil f = record { byte = 0x00; others = []; is = refl; no-opening = λ h. omega arith; no-closing = λ h. omega arith; reads = λ s. unfold read-atom in refl }
+front (array bs) f = front-array bs
+front (int v) f = record {
+  byte = 0x80 + v;
+  others = [];
+  is = refl;
+  no-opening = λ h. omega arith;
+  no-closing = λ h. omega arith;
+  reads = λ s. read-int (0x80 + v) s (omega arith) (omega arith) ∙ ap (λ (x : ℕ). taken (int x) s) (omega arith);
+}
+front (ref m n) f = front-ref m n (f .0) (f .1)

@@ -1,0 +1,4 @@
+pub mod Fits
+pub mod Atoms
+pub mod Tokens
+pub mod Rows

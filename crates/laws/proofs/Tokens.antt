@@ -1,0 +1,104 @@
+-- Laws of `tokens` and `check`: how the tokens of a stream lie in it, and what holds of tokens that are right.
+use Prim.Native.Nat.{ℕ, zero, suc, _+_, _-_, _≤_, _<_}
+use mathlib.Core.Path.{_≡_, refl, ap, subst}
+use mathlib.Core.List.{List, [], _∷_}
+use mathlib.Core.Bool.{Bool, true, false}
+use lib.ListN.{length}
+use lib.Dec.{leb, eqb}
+use borrow.Author.Tests.{leb-false, eqb-true, eqb-false}
+use native.Mathlib.Omega.{arith}
+use Rattle.spec.specs.Expr.{if_then_else_, Atom, atom-bytes}
+use Rattle.spec.specs.Reading.{Taken, taken, failed, read-atom, Token, opening, closing, whole, bad, atom-token, token, further, tokens, Verdict, right, wrong, check}
+use Rattle.laws.specs.Demands.{Bytes}
+use Rattle.laws.proofs.Fits.{Fits}
+use Rattle.laws.proofs.Atoms.{Off, Read, off-atom, front}
+
+-- a verdict is right only by way of the branch that does not refuse
+not-refused : (b : Bool) (w p : ℕ) (v : Verdict) → (if b then wrong w p else v) ≡ right → (b ≡ false) × (v ≡ right)
+not-refused true w p v h = absurd (let z : _≡_ {A = ℕ} 0 1 = cc in omega arith)
+not-refused false w p v h = (refl, h)
+
+module _ (end room : ℕ) where
+  pub right-end : (d n : ℕ) → check end room [] d n ≡ right → d ≡ 0
+  unfolding check
+  right-end d n h = go (eqb d 0) refl h
+    where
+      go : (b : Bool) → eqb d 0 ≡ b → (if b then right else wrong 2 end) ≡ right → d ≡ 0
+      go true e h = eqb-true d 0 e
+      go false e h = absurd (let z : _≡_ {A = ℕ} 0 1 = cc in omega arith)
+
+  pub right-opening : (ts : List Token) (p d n : ℕ) → check end room (opening p ∷ ts) d n ≡ right → (d < 64) × (n < room) × (check end room ts (d + 1) (n + 1) ≡ right)
+  unfolding check
+  right-opening ts p d n h =
+      let a = not-refused (leb 64 d) 6 p _ h in
+      let b = not-refused (leb room n) 8 p _ (a .1) in
+      (leb-false 64 d (a .0), leb-false room n (b .0), b .1)
+
+  pub right-closing : (ts : List Token) (p d n : ℕ) → check end room (closing p ∷ ts) d n ≡ right → (0 < d) × (check end room ts (d - 1) n ≡ right)
+  unfolding check
+  right-closing ts p d n h =
+      let a = not-refused (eqb d 0) 3 p _ h in
+      let z = eqb-false d 0 (a .0) in
+      (omega (arith, z), a .1)
+
+  pub right-whole : (ts : List Token) (a : Atom) (p e d n : ℕ) → check end room (whole a p e ∷ ts) d n ≡ right → (n < room) × (check end room ts d (n + 1) ≡ right)
+  unfolding check
+  right-whole ts a p e d n h =
+      let b = not-refused (leb room n) 8 p _ h in
+      (leb-false room n (b .0), b .1)
+
+  pub right-bad : (ts : List Token) (w p d n : ℕ) → check end room (bad w p ∷ ts) d n ≡ right → ⊥
+  unfolding check
+  right-bad ts w p d n h = let z : _≡_ {A = ℕ} 0 1 = cc in omega arith
+
+-- Tokens that lie one after the other from place p on in a stream that ends at `end`. An atom fits, and takes no fewer bytes than its
+-- canonical ones. Of what follows a bad token nothing is said.
+abbrev pub Laid : ℕ → List Token → ℕ → Type 0
+Laid p [] end = p ≤ end
+Laid p (opening q ∷ ts) end = (p ≤ q) × Laid (q + 1) ts end
+Laid p (closing q ∷ ts) end = (p ≤ q) × Laid (q + 1) ts end
+Laid p (whole a q e ∷ ts) end = (p ≤ q) × (q < e) × (q + length (atom-bytes a) ≤ e) × Fits a × Laid e ts end
+Laid p (bad w q ∷ ts) end = q ≤ end
+
+laid-at : (p q : ℕ) (ts : List Token) (end end′ : ℕ) → p ≡ q → end ≡ end′ → Laid p ts end → Laid q ts end′
+laid-at p q ts end end′ e e′ l = subst (λ (x : ℕ). Laid x ts end′) e (subst (λ (x : ℕ). Laid p ts x) e′ l)
+
+-- a first token, with those of the bytes behind it
+laid-first : (p b : ℕ) (s : List ℕ) → b < 256 → Bytes s → ((k : ℕ) → k ≤ length s → Laid (p + 1 + k) (tokens (p + 1) k s) (p + 1 + length s))
+    → Laid p (token p b s ∷ tokens (p + 1) (further (token p b s)) s) (p + 1 + length s)
+unfolding token
+laid-first p b s h bs rest = go (eqb b 0x01) (eqb b 0x02) (read-atom b s) (off-atom b s h bs)
+  where
+    end : ℕ
+    end = p + 1 + length s
+
+    next : Laid (p + 1) (tokens (p + 1) 0 s) end
+    next = laid-at (p + 1 + 0) (p + 1) (tokens (p + 1) 0 s) end end (omega arith) refl (rest 0 (omega arith))
+
+    atomic : (x : Taken Atom) → Off (Read (suc (length s))) (suc (length s)) x → Laid p (atom-token p end x ∷ tokens (p + 1) (further (atom-token p end x)) s) end
+    atomic (taken a t) o =
+        let size = ap length (front a (o .0 .0) .is) in
+        let l : length t ≤ length s = omega (arith, size, o .0 .1) in (
+          omega arith,
+          omega arith,
+          omega (arith, o .0 .1),
+          o .0 .0,
+          laid-at (p + 1 + (end - length t - p - 1)) (end - length t) (tokens (p + 1) (end - length t - p - 1) s) end end (omega arith) refl (rest (end - length t - p - 1) (omega arith)),
+        )
+    atomic (failed w t) o = omega arith
+
+    go : (c d : Bool) (x : Taken Atom) → Off (Read (suc (length s))) (suc (length s)) x
+        → Laid p ((if c then opening p else if d then closing p else atom-token p end x) ∷ tokens (p + 1) (further (if c then opening p else if d then closing p else atom-token p end x)) s) end
+    go true d x o = (omega arith, next)
+    go false true x o = (omega arith, next)
+    go false false x o = atomic x o
+
+pub tokens-laid : (s : List ℕ) (p k : ℕ) → Bytes s → k ≤ length s → Laid (p + k) (tokens p k s) (p + length s)
+unfolding tokens
+tokens-laid [] p zero bs h = omega arith
+tokens-laid [] p (suc k) bs h = omega arith
+tokens-laid (b ∷ s) p zero bs h =
+    laid-at p (p + 0) (token p b s ∷ tokens (p + 1) (further (token p b s)) s) (p + 1 + length s) (p + suc (length s)) (omega arith) (omega arith)
+    (laid-first p b s (bs .0) (bs .1) (λ k l. tokens-laid s (p + 1) k (bs .1) l))
+tokens-laid (b ∷ s) p (suc k) bs h =
+    laid-at (p + 1 + k) (p + suc k) (tokens (p + 1) k s) (p + 1 + length s) (p + suc (length s)) (omega arith) (omega arith) (tokens-laid s (p + 1) k (bs .1) (omega arith))

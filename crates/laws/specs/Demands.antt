@@ -1,0 +1,71 @@
+-- Document 01, "For demand 3" and "Step count": the words in which the demands are stated.
+use Prim.Native.Nat.{ℕ, _-_, _≤_, _<_, min}
+use mathlib.Core.Path.{_≡_}
+use mathlib.Core.List.{List, [], _∷_, _++_, map}
+use mathlib.Core.Bool.{not}
+use lib.ListN.{length, take}
+use lib.Dec.{ltb}
+use Rattle.spec.specs.Expr.{if_then_else_, same, Exprs, size, first, canonical}
+use Rattle.spec.specs.Reading.{Row, tokens, meaning, Reading, refused, readable}
+use Rattle.spec.specs.Runs.{Event, step, charge, End, done, stopped}
+use Rattle.spec.specs.Evaluation.{run, result}
+use Rattle.spec.specs.Calls.{Answer, Evaluate, reading, is-versioned, version-bytes, row-at}
+
+-- a list of bytes
+abbrev pub Bytes : List ℕ → Type 0
+Bytes [] = Unit {0}
+Bytes (b ∷ s) = (b < 256) × Bytes s
+
+-- what a list begins with
+pub record Begins (s front : List ℕ) : Type 0 where
+  pub back : List ℕ
+  pub is : s ≡ front ++ back
+
+-- "result bytes are the output's first bytes, as many as the length given"
+abbrev pub result-bytes : Answer → List ℕ
+result-bytes a = take (a .given) (a .output)
+
+-- "A stream is accepted if Evaluate gives number 0 for it with some table, workspace, output and steps."
+pub record Accepted (s : List ℕ) : Type 0 where
+  pub table : List ℕ
+  pub work : ℕ
+  pub output : List ℕ
+  pub steps : ℕ
+  pub accepts : Evaluate s table work output steps .number ≡ 0
+
+-- the meaning of a stream that can be read
+abbrev pub meaning-of : List ℕ → Exprs
+meaning-of s = meaning (tokens 0 0 s)
+
+-- "The first q top-level expressions of two streams are equal in meaning if each stream has at least q and the two lists of these q
+-- are equal"
+pub record SameFirst (q : ℕ) (s t : List ℕ) : Type 0 where
+  pub enough : q ≤ size (meaning-of s)
+  pub enough′ : q ≤ size (meaning-of t)
+  pub equal : first q (meaning-of s) ≡ first q (meaning-of t)
+
+abbrev pub left-by : End (List Exprs) → List Exprs
+left-by (done ls) = ls
+left-by (stopped w r) = []
+
+-- "The bytes that they give are the canonical bytes of the values that they leave in the result, in order"
+abbrev pub bytes-of-first : ℕ → List ℕ → List ℕ
+bytes-of-first q s = canonical (result (take q (left-by (run (meaning-of s) .end))))
+
+-- the rows of the steps that a run takes with a workspace "and no bound on steps"
+unfoldable pub steps-within : ℕ → List Event → List ℕ
+steps-within work [] = []
+steps-within work (step r ∷ es) = r ∷ steps-within work es
+steps-within work (charge r n ∷ es) = if ltb work n then [] else steps-within (work - n) es
+
+-- the places of the expressions that take a step when "these rules, reading first," are run "with the table, workspace [..] given and no
+-- bound on steps"
+abbrev pub steps-once-read : List ℕ → ℕ → Reading → List ℕ
+steps-once-read s work (refused w p) = []
+steps-once-read s work (readable rows es) =
+    if not (is-versioned es) then [] else
+    if not (same (take 6 s) version-bytes) then [] else
+    map (λ r. row-at rows r .start) (steps-within (min work 65536) (run es .events))
+
+unfoldable pub Steps : List ℕ → List ℕ → ℕ → List ℕ
+Steps s table work = steps-once-read s work (reading s table)
