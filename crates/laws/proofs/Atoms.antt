@@ -12,12 +12,12 @@ use native.Mathlib.Omega.{arith}
 use Rattle.spec.specs.Expr.{if_then_else_, Atom, nil, array, int, ref, array-head, marker-bytes, atom-bytes}
 use Rattle.spec.specs.Reading.{Taken, taken, failed, and-then, take-bytes, natural, as-length, plain-length, length-expr, marker, name, as-array, read-atom}
 use Rattle.laws.specs.Demands.{Bytes}
-use Rattle.laws.proofs.Fits.{Fits}
+use Rattle.laws.proofs.Fits.{bytes-take, bytes-drop, Fits}
 
--- What was read off at most n bytes: a thing of which P holds with the number of bytes left, or a refusal
+-- What was read off at most n bytes: a thing of which P holds with the number of bytes left, or one of reading's refusals
 abbrev pub Off : {A : Type 0} → (A → ℕ → Type 0) → ℕ → Taken A → Type 0
 Off P n (taken a s) = P a (length s) × Bytes s × (length s ≤ n)
-Off P n (failed w s) = length s ≤ n
+Off P n (failed w s) = (length s ≤ n) × (w ≤ 8)
 
 off-choice : {A : Type 0} (P : A → ℕ → Type 0) (n : ℕ) (b : Bool) (x y : Taken A) → (b ≡ true → Off P n x) → (b ≡ false → Off P n y) → Off P n (if b then x else y)
 off-choice P n true x y f g = f refl
@@ -27,16 +27,6 @@ off-then : {A B : Type 0} (P : A → ℕ → Type 0) (Q : B → ℕ → Type 0) 
     → Off P n x → ((a : A) (s : List ℕ) → P a (length s) → Bytes s → length s ≤ n → Off Q n (f a s)) → Off Q n (and-then x f)
 off-then P Q n (taken a s) f x g = g a s (x .0) (x .1) (x .2)
 off-then P Q n (failed w s) f x g = x
-
-bytes-take : (n : ℕ) (s : List ℕ) → Bytes s → Bytes (take n s)
-bytes-take zero s b = tt
-bytes-take (suc n) [] b = tt
-bytes-take (suc n) (x ∷ s) b = (b .0, bytes-take n s (b .1))
-
-pub bytes-drop : (n : ℕ) (s : List ℕ) → Bytes s → Bytes (drop n s)
-bytes-drop zero s b = b
-bytes-drop (suc n) [] b = tt
-bytes-drop (suc n) (x ∷ s) b = bytes-drop n s (b .1)
 
 -- take-bytes
 
@@ -172,7 +162,7 @@ off-name : (total m : ℕ) (from s : List ℕ) → 16 ≤ m → Bytes s → leng
 unfolding name
 off-name total m from [] g bs l k f = omega arith
 off-name total m from (n ∷ s) g bs l k f =
-    off-choice (Read total) total (ltb 65535 m) _ _ (λ e. k)
+    off-choice (Read total) total (ltb 65535 m) _ _ (λ e. (k, omega arith))
     (λ e. ((((g, ltb-false 65535 m e, bs .0)), omega (arith, f n)), bs .1, omega arith))
 
 array-size : (bs : List ℕ) → length (atom-bytes (array bs)) ≡ head-size (length bs) + length bs

@@ -1,8 +1,24 @@
--- Which expressions have canonical bytes that can be read back, depth and length apart: the numbers in them are small enough.
-use Prim.Native.Nat.{ℕ, _≤_, _<_}
-use mathlib.Core.List.{List}
+-- Laws of `Bytes`. And which expressions have canonical bytes that can be read back, depth and length apart: those in which the numbers
+-- are small enough.
+use Prim.Native.Nat.{ℕ, zero, suc, _≤_, _<_}
+use mathlib.Core.List.{List, [], _∷_, _++_}
+use lib.ListN.{take, drop}
 use Rattle.spec.specs.Expr.{Atom, nil, array, int, ref, Expr, atom, form, Exprs, none, more}
 use Rattle.laws.specs.Demands.{Bytes}
+
+pub bytes-take : (n : ℕ) (s : List ℕ) → Bytes s → Bytes (take n s)
+bytes-take zero s b = tt
+bytes-take (suc n) [] b = tt
+bytes-take (suc n) (x ∷ s) b = (b .0, bytes-take n s (b .1))
+
+pub bytes-drop : (n : ℕ) (s : List ℕ) → Bytes s → Bytes (drop n s)
+bytes-drop zero s b = b
+bytes-drop (suc n) [] b = tt
+bytes-drop (suc n) (x ∷ s) b = bytes-drop n s (b .1)
+
+pub bytes-append : (s t : List ℕ) → Bytes s → Bytes t → Bytes (s ++ t)
+bytes-append [] t b c = c
+bytes-append (x ∷ s) t b c = (b .0, bytes-append s t (b .1) c)
 
 abbrev pub Fits : Atom → Type 0
 Fits nil = Unit {0}

@@ -5,7 +5,7 @@ use mathlib.Core.List.{List, [], _∷_}
 use mathlib.Core.Bool.{Bool, true, false}
 use lib.ListN.{length}
 use lib.Dec.{leb, eqb}
-use borrow.Author.Tests.{leb-false, eqb-true, eqb-false}
+use borrow.Author.Tests.{leb-false, eqb-true, eqb-false, lt-leb}
 use native.Mathlib.Omega.{arith}
 use Rattle.spec.specs.Expr.{if_then_else_, Atom, atom-bytes}
 use Rattle.spec.specs.Reading.{Taken, taken, failed, read-atom, Token, opening, closing, whole, bad, atom-token, token, further, tokens, Verdict, right, wrong, check}
@@ -51,6 +51,8 @@ module _ (end room : ℕ) where
   unfolding check
   right-bad ts w p d n h = let z : _≡_ {A = ℕ} 0 1 = cc in omega arith
 
+-- Where tokens lie
+
 -- Tokens that lie one after the other from place p on in a stream that ends at `end`. An atom fits, and takes no fewer bytes than its
 -- canonical ones. Of what follows a bad token nothing is said.
 abbrev pub Laid : ℕ → List Token → ℕ → Type 0
@@ -58,7 +60,7 @@ Laid p [] end = p ≤ end
 Laid p (opening q ∷ ts) end = (p ≤ q) × Laid (q + 1) ts end
 Laid p (closing q ∷ ts) end = (p ≤ q) × Laid (q + 1) ts end
 Laid p (whole a q e ∷ ts) end = (p ≤ q) × (q < e) × (q + length (atom-bytes a) ≤ e) × Fits a × Laid e ts end
-Laid p (bad w q ∷ ts) end = q ≤ end
+Laid p (bad w q ∷ ts) end = (p ≤ end) × (q ≤ end) × (w ≤ 8)
 
 laid-at : (p q : ℕ) (ts : List Token) (end end′ : ℕ) → p ≡ q → end ≡ end′ → Laid p ts end → Laid q ts end′
 laid-at p q ts end end′ e e′ l = subst (λ (x : ℕ). Laid x ts end′) e (subst (λ (x : ℕ). Laid p ts x) e′ l)
@@ -102,3 +104,56 @@ tokens-laid (b ∷ s) p zero bs h =
     (laid-first p b s (bs .0) (bs .1) (λ k l. tokens-laid s (p + 1) k (bs .1) l))
 tokens-laid (b ∷ s) p (suc k) bs h =
     laid-at (p + 1 + k) (p + suc k) (tokens (p + 1) k s) (p + 1 + length s) (p + suc (length s)) (omega arith) (omega arith) (tokens-laid s (p + 1) k (bs .1) (omega arith))
+
+-- Refusals
+
+laid-inside : (p : ℕ) (ts : List Token) (end : ℕ) → Laid p ts end → p ≤ end
+laid-inside p [] end l = l
+laid-inside p (opening q ∷ ts) end l = omega (arith, l .0, laid-inside (q + 1) ts end (l .1))
+laid-inside p (closing q ∷ ts) end l = omega (arith, l .0, laid-inside (q + 1) ts end (l .1))
+laid-inside p (whole a q e ∷ ts) end l = omega (arith, l .0, l .1, laid-inside e ts end (l .4))
+laid-inside p (bad w q ∷ ts) end l = l .0
+
+-- one of reading's numbers, and a place in the stream
+abbrev pub Refusal : ℕ → Verdict → Type 0
+Refusal end right = Unit {0}
+Refusal end (wrong w p) = (w ≤ 8) × (p ≤ end)
+
+refusal-choice : (end : ℕ) (b : Bool) (v v′ : Verdict) → Refusal end v → Refusal end v′ → Refusal end (if b then v else v′)
+refusal-choice end true v v′ h k = h
+refusal-choice end false v v′ h k = k
+
+pub check-refusal : (end room : ℕ) (ts : List Token) (p d n : ℕ) → Laid p ts end → Refusal end (check end room ts d n)
+unfolding check
+check-refusal end room [] p d n l = refusal-choice end (eqb d 0) right (wrong 2 end) tt (omega arith)
+check-refusal end room (opening q ∷ ts) p d n l =
+    let here = laid-inside (q + 1) ts end (l .1) in
+    refusal-choice end (leb 64 d) (wrong 6 q) _ (omega arith)
+    (refusal-choice end (leb room n) (wrong 8 q) _ (omega arith) (check-refusal end room ts (q + 1) (d + 1) (n + 1) (l .1)))
+check-refusal end room (closing q ∷ ts) p d n l =
+    let here = laid-inside (q + 1) ts end (l .1) in
+    refusal-choice end (eqb d 0) (wrong 3 q) _ (omega arith) (check-refusal end room ts (q + 1) (d - 1) n (l .1))
+check-refusal end room (whole a q e ∷ ts) p d n l =
+    let here = laid-inside e ts end (l .4) in
+    refusal-choice end (leb room n) (wrong 8 q) _ (omega (arith, l .1)) (check-refusal end room ts e d (n + 1) (l .4))
+check-refusal end room (bad w q ∷ ts) p d n l = (l .2, l .1)
+
+-- Rows enough
+
+pub tokens-few : (s : List ℕ) (p k : ℕ) → length (tokens p k s) ≤ length s
+unfolding tokens
+tokens-few [] p zero = omega arith
+tokens-few [] p (suc k) = omega arith
+tokens-few (b ∷ s) p zero = omega (arith, tokens-few s (p + 1) (further (token p b s)))
+tokens-few (b ∷ s) p (suc k) = omega (arith, tokens-few s (p + 1) k)
+
+-- with a row for each token, more make no difference
+pub check-room : (end room room′ : ℕ) (ts : List Token) (d n : ℕ) → n + length ts ≤ room → n + length ts ≤ room′ → check end room ts d n ≡ check end room′ ts d n
+unfolding check
+check-room end room room′ [] d n h k = refl
+check-room end room room′ (opening q ∷ ts) d n h k =
+    rw (lt-leb room n (omega arith), lt-leb room′ n (omega arith), check-room end room room′ ts (d + 1) (n + 1) (omega arith) (omega arith))
+check-room end room room′ (closing q ∷ ts) d n h k = rw (check-room end room room′ ts (d - 1) n (omega arith) (omega arith))
+check-room end room room′ (whole a q e ∷ ts) d n h k =
+    rw (lt-leb room n (omega arith), lt-leb room′ n (omega arith), check-room end room room′ ts d (n + 1) (omega arith) (omega arith))
+check-room end room room′ (bad w q ∷ ts) d n h k = refl

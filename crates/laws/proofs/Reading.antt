@@ -1,0 +1,211 @@
+-- Laws of `read`: what holds of a meaning that was read, and that the canonical bytes of such a meaning are read as that meaning.
+use Prim.Native.Nat.{ℕ, zero, suc, _+_, _-_, _≤_, _<_}
+use mathlib.Core.Path.{_≡_, refl, sym, ap, _∙_, subst}
+use mathlib.Core.List.{List, [], _∷_, _++_, append-assoc, append-nil}
+use mathlib.Core.Bool.{Bool, true, false}
+use lib.ListN.{length, getD, length-append}
+use lib.Dec.{ltb, leb, eqb}
+use borrow.Author.Tests.{ltb-false, le-ltb, lt-leb, ne-eqb}
+use native.Mathlib.Omega.{arith}
+use native.Mathlib.Numerals.{add-one}
+use Rattle.spec.specs.Expr.{if_then_else_, Atom, atom-bytes, Expr, atom, form, Exprs, none, more, rows, rows-all, depth, deepest, bytes, canonical}
+use Rattle.spec.specs.Reading.{taken, read-atom, Token, opening, closing, whole, bad, atom-token, token, further, tokens, Verdict, right, wrong, check, put, wrap, lists, meaning, Row, rows-of, Reading, refused, readable, by-verdict, read}
+use Rattle.laws.specs.Demands.{Bytes, meaning-of}
+use Rattle.laws.proofs.Fits.{Fits, FitsExpr, FitsAll}
+use Rattle.laws.proofs.Atoms.{Front, front}
+use Rattle.laws.proofs.Tokens.{right-end, right-opening, right-closing, right-whole, right-bad, Laid, tokens-laid}
+use Rattle.laws.proofs.Rows.{rows-in, rows-count, rows-room}
+
+-- What was read
+
+-- the lists that tokens fill, at d open forms: each fits, and none is too deep where it stands
+abbrev Sound : ℕ → List Exprs → Type 0
+Sound d [] = ⊥
+Sound zero (es ∷ []) = FitsAll es × (deepest es ≤ 64)
+Sound zero (es ∷ fs ∷ ls) = ⊥
+Sound (suc d) (es ∷ ls) = FitsAll es × (deepest es + suc d ≤ 64) × Sound d ls
+
+-- their canonical bytes, with a byte 02 for each
+abbrev weight : List Exprs → ℕ
+weight [] = 0
+weight (es ∷ ls) = length (canonical es) + 1 + weight ls
+
+put-sound : (d : ℕ) (e : Expr) (ls : List Exprs) → FitsExpr e → depth e + d ≤ 64 → Sound d ls → Sound d (put e ls) × (weight (put e ls) ≡ length (bytes e) + weight ls)
+unfolding depth bytes
+put-sound zero e [] f h s = absurd s
+put-sound zero e (es ∷ []) f h s = (((f, s .0), omega (arith, s .1)), simp length-append (omega arith))
+put-sound zero e (es ∷ fs ∷ ls) f h s = absurd s
+put-sound (suc d) e [] f h s = absurd s
+put-sound (suc d) e (es ∷ ls) f h s = (((f, s .0), omega (arith, s .1), s .2), simp length-append (omega arith))
+
+wrap-sound : (d : ℕ) (ls : List Exprs) → Sound (suc d) ls → Sound d (wrap ls) × (weight (wrap ls) ≡ weight ls + 1)
+unfolding depth bytes
+wrap-sound d [] s = absurd s
+wrap-sound d (es ∷ ls) s =
+    let p = put-sound d (form es) ls (s .0) (omega (arith, s .1)) (s .2) in
+    (p .0, simp length-append at (p .1) ∙ omega arith)
+
+module _ (end room : ℕ) where
+  lists-sound : (ts : List Token) (p d n : ℕ) → d ≤ 64 → Laid p ts end → check end room ts d n ≡ right → Sound d (lists ts) × (p + weight (lists ts) ≤ end + 1)
+  unfolding lists depth bytes
+  lists-sound [] p d n h l c =
+      let z = right-end end room d n c in
+      (subst (λ (x : ℕ). Sound x (none ∷ [])) (sym z) (tt, omega arith), omega arith)
+  lists-sound (opening q ∷ ts) p d n h l c =
+      let k = right-opening end room ts q d n c in
+      let a = lists-sound ts (q + 1) (d + 1) (n + 1) (omega (arith, k .0)) (l .1) (k .2) in
+      let b = wrap-sound d (lists ts) (rw (add-one d) at (a .0)) in
+      (b .0, omega (arith, a .1, b .1, l .0))
+  lists-sound (closing q ∷ ts) p zero n h l c = absurd (omega (arith, right-closing end room ts q 0 n c .0))
+  lists-sound (closing q ∷ ts) p (suc d) n h l c =
+      let back : suc d - 1 ≡ d = omega arith in
+      let a = lists-sound ts (q + 1) d n (omega arith) (l .1) (rw back at (right-closing end room ts q (suc d) n c .1)) in
+      ((tt, omega arith, a .0), omega (arith, a .1, l .0))
+  lists-sound (whole x q e ∷ ts) p d n h l c =
+      let a = lists-sound ts e d (n + 1) h (l .4) (right-whole end room ts x q e d n c .1) in
+      let b = put-sound d (atom x) (lists ts) (l .3) (omega arith) (a .0) in
+      (b .0, omega (arith, a .1, b .1, l .0, l .2))
+  lists-sound (bad w q ∷ ts) p d n h l c = absurd (right-bad end room ts w q d n c)
+
+-- how a stream is readable
+pub record Readable (s : List ℕ) (room : ℕ) (rs : List Row) (es : Exprs) : Type 0 where
+  pub short : length s ≤ 65536
+  pub passes : check (length s) room (tokens 0 0 s) 0 0 ≡ right
+  pub rows-are : rs ≡ rows-of (tokens 0 0 s)
+  pub means : es ≡ meaning-of s
+
+pub read-readable : (s : List ℕ) (room : ℕ) (rs : List Row) (es : Exprs) → read s room ≡ readable rs es → Readable s room rs es
+unfolding read
+read-readable s room rs es h = go (ltb 65536 (length s)) refl (check (length s) room (tokens 0 0 s) 0 0) refl h
+  where
+    go : (b : Bool) → ltb 65536 (length s) ≡ b → (v : Verdict) → check (length s) room (tokens 0 0 s) 0 0 ≡ v
+        → (if b then refused 1 0 else by-verdict v (tokens 0 0 s)) ≡ readable rs es → Readable s room rs es
+    go true e v k h = absurd (let z : _≡_ {A = ℕ} 0 1 = cc in omega arith)
+    go false e right k h = record { short = ltb-false 65536 (length s) e; passes = k; rows-are = cc; means = cc }
+    go false e (wrong w p) k h = absurd (let z : _≡_ {A = ℕ} 0 1 = cc in omega arith)
+
+pub readable-read : (s : List ℕ) (room : ℕ) → length s ≤ 65536 → check (length s) room (tokens 0 0 s) 0 0 ≡ right → read s room ≡ readable (rows-of (tokens 0 0 s)) (meaning-of s)
+unfolding read
+readable-read s room h k = rw (le-ltb 65536 (length s) h, k)
+
+-- what holds of a meaning that was read: its canonical bytes can be read too, in as many rows, and are no more than the stream's
+pub record Meant (s : List ℕ) (room : ℕ) (rs : List Row) (es : Exprs) : Type 0 where
+  pub fits : FitsAll es
+  pub shallow : deepest es ≤ 64
+  pub shorter : length (canonical es) ≤ length s
+  pub counted : length rs ≡ rows-all es
+  pub roomy : rows-all es ≤ room
+
+pub read-meant : (s : List ℕ) (room : ℕ) (rs : List Row) (es : Exprs) → Bytes s → Readable s room rs es → Meant s room rs es
+read-meant s room rs es b r =
+    let ts = tokens 0 0 s in
+    let laid : Laid 0 ts (length s) = subst (λ (x : ℕ). Laid 0 ts x) (omega arith) (tokens-laid s 0 0 b (omega arith)) in
+    let sound = lists-sound (length s) room ts 0 0 0 (omega arith) laid (r .passes) in
+    let size : length rs ≡ length (rows-of ts) = ap length (r .rows-are) in
+    subst (λ (x : Exprs). Meant s room rs x) (sym (r .means))
+    (only-list (lists ts) (sound .0) (sound .1) (size ∙ rows-count (length s) room ts 0 0 (r .passes) .0) (omega (arith, size, rows-room (length s) room ts 0 0 (r .passes) (omega arith))))
+  where
+    only-list : (ls : List Exprs) → Sound 0 ls → 0 + weight ls ≤ length s + 1 → length rs ≡ rows-in ls → length rs ≤ room → Meant s room rs (getD ls 0 none)
+    only-list [] o w c k = absurd o
+    only-list (fs ∷ []) o w c k = record { fits = o .0; shallow = o .1; shorter = omega arith; counted = omega arith; roomy = omega arith }
+    only-list (fs ∷ gs ∷ ls) o w c k = absurd o
+
+-- The canonical bytes
+
+-- bytes that belong to the token before
+tokens-skip : (x s : List ℕ) (p : ℕ) → tokens p (length x) (x ++ s) ≡ tokens (p + length x) 0 s
+unfolding tokens
+tokens-skip [] s p = ap (λ (q : ℕ). tokens q 0 s) (omega arith)
+tokens-skip (b ∷ x) s p = tokens-skip x s (p + 1) ∙ ap (λ (q : ℕ). tokens q 0 s) (omega arith)
+
+tokens-form : (es : Exprs) (p : ℕ) (s : List ℕ) → tokens p 0 (bytes (form es) ++ s) ≡ opening p ∷ tokens (p + 1) 0 (canonical es ++ (0x02 ∷ s))
+unfolding tokens token bytes
+tokens-form es p s = ap (λ x. opening p ∷ tokens (p + 1) 0 x) (append-assoc (canonical es) (0x02 ∷ []) s)
+
+tokens-closing : (p : ℕ) (s : List ℕ) → tokens p 0 (0x02 ∷ s) ≡ closing p ∷ tokens (p + 1) 0 s
+unfolding tokens token
+tokens-closing p s = refl
+
+token-atom : (a : Atom) (f : Front a) (p : ℕ) (s : List ℕ) → token p (f .byte) (f .others ++ s) ≡ whole a p (p + suc (length (f .others)))
+unfolding token
+token-atom a f p s =
+    let end : p + 1 + length (f .others ++ s) - length s ≡ p + suc (length (f .others)) = simp length-append (omega arith) in
+    rw (ne-eqb (f .byte) 0x01 (f .no-opening), ne-eqb (f .byte) 0x02 (f .no-closing), f .reads s, end)
+
+tokens-atom : (a : Atom) → Fits a → (p : ℕ) (s : List ℕ) → tokens p 0 (atom-bytes a ++ s) ≡ whole a p (p + length (atom-bytes a)) ∷ tokens (p + length (atom-bytes a)) 0 s
+unfolding tokens
+tokens-atom a fits p s =
+    let f = front a fits in
+    let n : ℕ = length (f .others) in
+    let further-bytes : p + suc n - p - 1 ≡ n = omega arith in
+    rw (f .is, token-atom a f p s, further-bytes, tokens-skip (f .others) s (p + 1)) (ap (λ (q : ℕ). whole a p (p + suc n) ∷ tokens q 0 s) (omega arith))
+
+-- a list of expressions in front of the lists that tokens fill
+abbrev put-all : Exprs → List Exprs → List Exprs
+put-all none ls = ls
+put-all (more e es) ls = put e (put-all es ls)
+
+put-all-none : (es : Exprs) (ls : List Exprs) → put-all es (none ∷ ls) ≡ es ∷ ls
+put-all-none none ls = refl
+put-all-none (more e es) ls = ap (put e) (put-all-none es ls)
+
+-- where a form ends
+form-end : (es : Exprs) (p : ℕ) → p + 1 + length (canonical es) + 1 ≡ p + length (bytes (form es))
+unfolding bytes
+form-end es p = simp length-append (omega arith)
+
+more-end : (e : Expr) (es : Exprs) (p : ℕ) → p + length (bytes e) + length (canonical es) ≡ p + length (canonical (more e es))
+unfolding bytes
+more-end e es p = simp length-append (omega arith)
+
+mutual
+  unfolding bytes lists
+
+  lists-expr : (e : Expr) → FitsExpr e → (p : ℕ) (s : List ℕ) → lists (tokens p 0 (bytes e ++ s)) ≡ put e (lists (tokens (p + length (bytes e)) 0 s))
+  lists-expr (atom a) f p s = ap lists (tokens-atom a f p s)
+  lists-expr (form es) f p s =
+      ap lists (tokens-form es p s)
+      ∙ ap wrap (lists-all es f (p + 1) (0x02 ∷ s) ∙ ap (λ x. put-all es (lists x)) (tokens-closing (p + 1 + length (canonical es)) s) ∙ put-all-none es _)
+      ∙ ap (λ (q : ℕ). put (form es) (lists (tokens q 0 s))) (form-end es p)
+
+  lists-all : (es : Exprs) → FitsAll es → (p : ℕ) (s : List ℕ) → lists (tokens p 0 (canonical es ++ s)) ≡ put-all es (lists (tokens (p + length (canonical es)) 0 s))
+  lists-all none f p s = ap (λ (q : ℕ). lists (tokens q 0 s)) (omega arith)
+  lists-all (more e es) f p s =
+      rw (append-assoc (bytes e) (canonical es) s)
+      (lists-expr e (f .0) p (canonical es ++ s)
+      ∙ ap (put e) (lists-all es (f .1) (p + length (bytes e)) s ∙ ap (λ (q : ℕ). put-all es (lists (tokens q 0 s))) (more-end e es p)))
+
+module _ (end room : ℕ) where
+  mutual
+    unfolding bytes check rows depth
+
+    check-expr : (e : Expr) → FitsExpr e → (p d n : ℕ) (s : List ℕ) → depth e + d ≤ 64 → n + rows e ≤ room
+        → check end room (tokens p 0 (bytes e ++ s)) d n ≡ check end room (tokens (p + length (bytes e)) 0 s) d (n + rows e)
+    check-expr (atom a) f p d n s h k = rw (tokens-atom a f p s, lt-leb room n (omega arith))
+    check-expr (form es) f p d n s h k =
+        let back : d + 1 - 1 ≡ d = omega arith in
+        let count : n + 1 + rows-all es ≡ n + (1 + rows-all es) = omega arith in
+        rw (tokens-form es p s, lt-leb 64 d (omega arith), lt-leb room n (omega arith), check-all es f (p + 1) (d + 1) (n + 1) (0x02 ∷ s) (omega arith) (omega arith), tokens-closing (p + 1 + length (canonical es)) s, ne-eqb (d + 1) 0 (λ z. omega arith), back, count, form-end es p)
+
+    check-all : (es : Exprs) → FitsAll es → (p d n : ℕ) (s : List ℕ) → deepest es + d ≤ 64 → n + rows-all es ≤ room
+        → check end room (tokens p 0 (canonical es ++ s)) d n ≡ check end room (tokens (p + length (canonical es)) 0 s) d (n + rows-all es)
+    check-all none f p d n s h k =
+        let place : p + 0 ≡ p = omega arith in
+        let count : n + 0 ≡ n = omega arith in
+        rw (place, count)
+    check-all (more e es) f p d n s h k =
+        let count : n + rows e + rows-all es ≡ n + (rows e + rows-all es) = omega arith in
+        rw (append-assoc (bytes e) (canonical es) s, ← more-end e es p, ← count)
+        (check-expr e (f .0) p d n (canonical es ++ s) (omega arith) (omega arith)
+        ∙ check-all es (f .1) (p + length (bytes e)) d (n + rows e) s (omega arith) (omega arith))
+
+pub read-canonical : (es : Exprs) (room : ℕ) → FitsAll es → deepest es ≤ 64 → length (canonical es) ≤ 65536 → rows-all es ≤ room
+    → read (canonical es) room ≡ readable (rows-of (tokens 0 0 (canonical es))) es
+unfolding check lists tokens
+read-canonical es room f h l r =
+    let s = canonical es in
+    let passes : check (length s) room (tokens 0 0 s) 0 0 ≡ right =
+    ap (λ (x : List ℕ). check (length s) room (tokens 0 0 x) 0 0) (sym (append-nil s)) ∙ check-all (length s) room es f 0 0 0 [] (omega arith) (omega arith) in
+    let means : meaning-of s ≡ es =
+    ap (λ (x : List ℕ). meaning-of x) (sym (append-nil s)) ∙ ap (λ (ls : List Exprs). getD ls 0 none) (lists-all es f 0 [] ∙ put-all-none es []) in
+    readable-read s room l passes ∙ ap (readable (rows-of (tokens 0 0 s))) means
