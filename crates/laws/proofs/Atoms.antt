@@ -17,7 +17,7 @@ use Rattle.laws.proofs.Fits.{bytes-take, bytes-drop, Fits}
 -- What was read off at most n bytes: a thing of which P holds with the number of bytes left, or one of reading's refusals
 abbrev pub Off : {A : Type 0} → (A → ℕ → Type 0) → ℕ → Taken A → Type 0
 Off P n (taken a s) = P a (length s) × Bytes s × (length s ≤ n)
-Off P n (failed w s) = (length s ≤ n) × (w ≤ 8)
+Off P n (failed w s) = (length s ≤ n) × (1 ≤ w) × (w ≤ 8)
 
 off-choice : {A : Type 0} (P : A → ℕ → Type 0) (n : ℕ) (b : Bool) (x y : Taken A) → (b ≡ true → Off P n x) → (b ≡ false → Off P n y) → Off P n (if b then x else y)
 off-choice P n true x y f g = f refl
@@ -162,7 +162,7 @@ off-name : (total m : ℕ) (from s : List ℕ) → 16 ≤ m → Bytes s → leng
 unfolding name
 off-name total m from [] g bs l k f = omega arith
 off-name total m from (n ∷ s) g bs l k f =
-    off-choice (Read total) total (ltb 65535 m) _ _ (λ e. (k, omega arith))
+    off-choice (Read total) total (ltb 65535 m) _ _ (λ e. (k, omega arith, omega arith))
     (λ e. ((((g, ltb-false 65535 m e, bs .0)), omega (arith, f n)), bs .1, omega arith))
 
 array-size : (bs : List ℕ) → length (atom-bytes (array bs)) ≡ head-size (length bs) + length bs

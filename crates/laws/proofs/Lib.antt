@@ -6,3 +6,7 @@ pub mod Reading
 pub mod Exprs
 pub mod Runs
 pub mod Values
+pub mod Prefix
+pub mod Calls
+pub mod Retry
+pub mod Theorems

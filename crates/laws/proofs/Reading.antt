@@ -13,7 +13,7 @@ use Rattle.spec.specs.Reading.{taken, read-atom, Token, opening, closing, whole
 use Rattle.laws.specs.Demands.{Bytes, meaning-of}
 use Rattle.laws.proofs.Fits.{Fits, FitsExpr, FitsAll}
 use Rattle.laws.proofs.Atoms.{Front, front}
-use Rattle.laws.proofs.Tokens.{right-end, right-opening, right-closing, right-whole, right-bad, Laid, tokens-laid}
+use Rattle.laws.proofs.Tokens.{right-end, right-opening, right-closing, right-whole, right-bad, Laid, tokens-laid, Refusal, check-refusal, tokens-few, check-room}
 use Rattle.laws.proofs.Rows.{rows-in, rows-count, rows-room}
 
 -- What was read
@@ -67,6 +67,9 @@ module _ (end room : ℕ) where
       (b .0, omega (arith, a .1, b .1, l .0, l .2))
   lists-sound (bad w q ∷ ts) p d n h l c = absurd (right-bad end room ts w q d n c)
 
+stream-laid : (s : List ℕ) → Bytes s → Laid 0 (tokens 0 0 s) (length s)
+stream-laid s b = subst (λ (x : ℕ). Laid 0 (tokens 0 0 s) x) (omega arith) (tokens-laid s 0 0 b (omega arith))
+
 -- how a stream is readable
 pub record Readable (s : List ℕ) (room : ℕ) (rs : List Row) (es : Exprs) : Type 0 where
   pub short : length s ≤ 65536
@@ -88,6 +91,16 @@ pub readable-read : (s : List ℕ) (room : ℕ) → length s ≤ 65536 → check
 unfolding read
 readable-read s room h k = rw (le-ltb 65536 (length s) h, k)
 
+-- a refusal has one of reading's numbers, and its place is in the stream
+pub read-refused : (s : List ℕ) (room w p : ℕ) → Bytes s → read s room ≡ refused w p → (1 ≤ w) × (w ≤ 8) × (p ≤ length s)
+unfolding read
+read-refused s room w p b h = go (ltb 65536 (length s)) (check (length s) room (tokens 0 0 s) 0 0) (check-refusal (length s) room (tokens 0 0 s) 0 0 0 (stream-laid s b)) h
+  where
+    go : (c : Bool) (v : Verdict) → Refusal (length s) v → (if c then refused 1 0 else by-verdict v (tokens 0 0 s)) ≡ refused w p → (1 ≤ w) × (w ≤ 8) × (p ≤ length s)
+    go true v r h = let number : 1 ≡ w = cc in let place : 0 ≡ p = cc in omega arith
+    go false right r h = absurd (let z : _≡_ {A = ℕ} 0 1 = cc in omega arith)
+    go false (wrong v q) r h = let number : v ≡ w = cc in let place : q ≡ p = cc in omega (arith, r .0, r .1, r .2)
+
 -- what holds of a meaning that was read: its canonical bytes can be read too, in as many rows, and are no more than the stream's
 pub record Meant (s : List ℕ) (room : ℕ) (rs : List Row) (es : Exprs) : Type 0 where
   pub fits : FitsAll es
@@ -99,8 +112,7 @@ pub record Meant (s : List ℕ) (room : ℕ) (rs : List Row) (es : Exprs) : Type
 pub read-meant : (s : List ℕ) (room : ℕ) (rs : List Row) (es : Exprs) → Bytes s → Readable s room rs es → Meant s room rs es
 read-meant s room rs es b r =
     let ts = tokens 0 0 s in
-    let laid : Laid 0 ts (length s) = subst (λ (x : ℕ). Laid 0 ts x) (omega arith) (tokens-laid s 0 0 b (omega arith)) in
-    let sound = lists-sound (length s) room ts 0 0 0 (omega arith) laid (r .passes) in
+    let sound = lists-sound (length s) room ts 0 0 0 (omega arith) (stream-laid s b) (r .passes) in
     let size : length rs ≡ length (rows-of ts) = ap length (r .rows-are) in
     subst (λ (x : Exprs). Meant s room rs x) (sym (r .means))
     (only-list (lists ts) (sound .0) (sound .1) (size ∙ rows-count (length s) room ts 0 0 (r .passes) .0) (omega (arith, size, rows-room (length s) room ts 0 0 (r .passes) (omega arith))))
@@ -109,6 +121,13 @@ read-meant s room rs es b r =
     only-list [] o w c k = absurd o
     only-list (fs ∷ []) o w c k = record { fits = o .0; shallow = o .1; shorter = omega arith; counted = omega arith; roomy = omega arith }
     only-list (fs ∷ gs ∷ ls) o w c k = absurd o
+
+-- with as many rows as bytes, more rows make no difference
+pub read-room : (s : List ℕ) (room : ℕ) → length s ≤ room → read s room ≡ read s (length s)
+unfolding read
+read-room s room h =
+    let few = tokens-few s 0 0 in
+    rw (check-room (length s) room (length s) (tokens 0 0 s) 0 0 (omega arith) (omega arith))
 
 -- The canonical bytes
 

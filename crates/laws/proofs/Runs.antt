@@ -1,4 +1,5 @@
--- Laws of `cut`: more room changes nothing but refusals 16 and 17; what an accepted run took; when 16 is given.
+-- Laws of `bind`: how a run in two parts ends. Laws of `cut`: more room changes nothing but refusals 16 and 17; what an accepted run
+-- took; when 16 is given.
 use Prim.Native.Nat.{ℕ, zero, suc, _+_, _-_, _≤_, _<_}
 use mathlib.Core.Path.{_≡_, refl, sym, ap, _∙_}
 use mathlib.Core.List.{List, [], _∷_, _++_}
@@ -8,8 +9,19 @@ use lib.Dec.{ltb, eqb}
 use borrow.Author.Tests.{ltb-true, ltb-false, eqb-true, eqb-false, le-ltb, ne-eqb}
 use native.Mathlib.Omega.{arith}
 use Rattle.spec.specs.Expr.{if_then_else_}
-use Rattle.spec.specs.Runs.{Event, step, charge, End, done, stopped, cut, steps-in}
+use Rattle.spec.specs.Runs.{Event, step, charge, End, done, stopped, Run, follow, bind, cut, steps-in}
 use Rattle.laws.specs.Demands.{steps-within}
+
+module _ {A B : Type 0} where
+  pub bind-end : (run : Run A) (f : A → Run B) (a : A) → run .end ≡ done a → bind run f .end ≡ f a .end
+  bind-end run f a h = rw h
+
+  pub bind-done : (run : Run A) (f : A → Run B) (b : B) → bind run f .end ≡ done b → (a : A) × (run .end ≡ done a) × (f a .end ≡ done b)
+  bind-done run f b h = go (run .end) refl h
+    where
+      go : (e : End A) → run .end ≡ e → follow (run .events) e f .end ≡ done b → (a : A) × (run .end ≡ done a) × (f a .end ≡ done b)
+      go (done a) q h = (a, q, h)
+      go (stopped w r) q h = absurd (let z : _≡_ {A = ℕ} 0 1 = cc in omega arith)
 
 -- all charges together
 unfoldable pub charges : List Event → ℕ

@@ -60,7 +60,7 @@ Laid p [] end = p ≤ end
 Laid p (opening q ∷ ts) end = (p ≤ q) × Laid (q + 1) ts end
 Laid p (closing q ∷ ts) end = (p ≤ q) × Laid (q + 1) ts end
 Laid p (whole a q e ∷ ts) end = (p ≤ q) × (q < e) × (q + length (atom-bytes a) ≤ e) × Fits a × Laid e ts end
-Laid p (bad w q ∷ ts) end = (p ≤ end) × (q ≤ end) × (w ≤ 8)
+Laid p (bad w q ∷ ts) end = (p ≤ end) × (q ≤ end) × (1 ≤ w) × (w ≤ 8)
 
 laid-at : (p q : ℕ) (ts : List Token) (end end′ : ℕ) → p ≡ q → end ≡ end′ → Laid p ts end → Laid q ts end′
 laid-at p q ts end end′ e e′ l = subst (λ (x : ℕ). Laid x ts end′) e (subst (λ (x : ℕ). Laid p ts x) e′ l)
@@ -117,7 +117,7 @@ laid-inside p (bad w q ∷ ts) end l = l .0
 -- one of reading's numbers, and a place in the stream
 abbrev pub Refusal : ℕ → Verdict → Type 0
 Refusal end right = Unit {0}
-Refusal end (wrong w p) = (w ≤ 8) × (p ≤ end)
+Refusal end (wrong w p) = (1 ≤ w) × (w ≤ 8) × (p ≤ end)
 
 refusal-choice : (end : ℕ) (b : Bool) (v v′ : Verdict) → Refusal end v → Refusal end v′ → Refusal end (if b then v else v′)
 refusal-choice end true v v′ h k = h
@@ -136,7 +136,7 @@ check-refusal end room (closing q ∷ ts) p d n l =
 check-refusal end room (whole a q e ∷ ts) p d n l =
     let here = laid-inside e ts end (l .4) in
     refusal-choice end (leb room n) (wrong 8 q) _ (omega (arith, l .1)) (check-refusal end room ts e d (n + 1) (l .4))
-check-refusal end room (bad w q ∷ ts) p d n l = (l .2, l .1)
+check-refusal end room (bad w q ∷ ts) p d n l = (l .2, l .3, l .1)
 
 -- Rows enough
 
