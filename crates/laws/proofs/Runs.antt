@@ -119,3 +119,19 @@ module _ {A : Type 0} where
           → (cut (length (steps-within (w - m) es)) (w - m) es e ≡ stopped 16 r → e ≡ stopped 16 r) → e ≡ stopped 16 r
       go true h on = absurd (let z : _≡_ {A = ℕ} 17 16 = cc in omega arith)
       go false h on = on h
+
+  -- why a run that is cut stops
+  pub data StoppedBy (e : End A) (v r : ℕ) : Type 0 where
+    by-steps : v ≡ 16 → StoppedBy e v r
+    by-work : v ≡ 17 → StoppedBy e v r
+    by-rule : e ≡ stopped v r → StoppedBy e v r
+
+  stopped-choice : (e : End A) (b : Bool) (w q : ℕ) (x : End A) (v r : ℕ) → (w ≡ v → StoppedBy e v r) → (x ≡ stopped v r → StoppedBy e v r) → (if b then stopped w q else x) ≡ stopped v r → StoppedBy e v r
+  stopped-choice e true w q x v r f g h = f (cc)
+  stopped-choice e false w q x v r f g h = g h
+
+  pub cut-stopped : (es : List Event) (e : End A) (n w v r : ℕ) → cut n w es e ≡ stopped v r → StoppedBy e v r
+  unfolding cut
+  cut-stopped [] e n w v r h = by-rule h
+  cut-stopped (step q ∷ es) e n w v r h = stopped-choice e (eqb n 0) 16 q (cut (n - 1) w es e) v r (λ k. by-steps (sym k)) (λ k. cut-stopped es e (n - 1) w v r k) h
+  cut-stopped (charge q m ∷ es) e n w v r h = stopped-choice e (ltb w m) 17 q (cut n (w - m) es e) v r (λ k. by-work (sym k)) (λ k. cut-stopped es e n (w - m) v r k) h

@@ -1,14 +1,15 @@
 -- What a run leaves in the result. Its canonical bytes are no more than what the run has charged. If the stream's expressions fit, so do
--- those of the result, and none has over 64 forms one inside another.
-use Prim.Native.Nat.{ℕ, zero, suc, _+_, _≤_}
+-- those of the result, and none has over 64 forms one inside another; every row that the run names is a row of the stream, and it stops
+-- only with the numbers of the rules.
+use Prim.Native.Nat.{ℕ, zero, suc, _+_, _≤_, _<_}
 use mathlib.Core.Path.{_≡_, refl}
 use mathlib.Core.List.{List, [], _∷_, _++_}
-use mathlib.Core.Bool.{Bool, true, false, _&&_}
+use mathlib.Core.Bool.{Bool, true, false, _&&_, _||_}
 use native.Mathlib.Omega.{arith}
 use lib.ListN.{length, drop, length-append}
 use lib.Dec.{ltb, eqb}
 use borrow.Author.Tests.{ltb-false}
-use Rattle.spec.specs.Expr.{if_then_else_, if-ref, Atom, nil, array, int, ref, Expr, atom, form, Exprs, none, more, only, append, first, without, rows, depth, deepest, canonical}
+use Rattle.spec.specs.Expr.{if_then_else_, if-ref, Atom, nil, array, int, ref, Expr, atom, form, Exprs, none, more, only, append, first, without, rows, rows-all, depth, deepest, canonical}
 use Rattle.spec.specs.Nodes.{Word, ns, define, concat, subst, arg, rest, plain, Node, leaf, branch, Nodes, empty, cons, number, number-all, elements, tail, head-word, markers}
 use Rattle.spec.specs.Runs.{Event, step, charge, End, done, stopped, Run, stop, give, before, follow, bind}
 use Rattle.spec.specs.Plan.{Defined, value, function, Definition, Scope, Found, latest, nothing, look-up, Place, top, element, inner, Arguments, outside, given, Here, Finish, as-form, as-definition, as-concat, as-call, Plan, refuse, leave, associate, define-function, inside, expect-one, expect-two, expect-ref, expect-array, expect-int, plan-ns, plan-define, plan-definition, plan-concat, plan-arg, plan-rest, plan-head, plan-other, plan-form, plan-reference, plan-atom, plan}
@@ -20,25 +21,25 @@ use Rattle.laws.proofs.Runs.{charges}
 
 -- Runs
 
+-- what holds of a result, or of a refusal
+abbrev Ends : {A : Type 0} → (ℕ → ℕ → Type 0) → (A → Type 0) → End A → Type 0
+Ends S P (done a) = P a
+Ends S P (stopped w r) = S w r
+
 -- what holds of a result, if there is one
-abbrev Ends : {A : Type 0} → (A → Type 0) → End A → Type 0
-Ends P (done a) = P a
-Ends P (stopped w r) = Unit {0}
+abbrev IfDone : {A : Type 0} → (A → Type 0) → End A → Type 0
+IfDone = Ends (λ w r. Unit {0})
 
 -- what holds of a run's events and result
 record Gives {A : Type 0} (P : List Event → A → Type 0) (run : Run A) : Type 0 where
-  holds : Ends (P (run .events)) (run .end)
-
--- a result has what was shown of it
-at-end : {A : Type 0} {P : List Event → A → Type 0} {run : Run A} {a : A} → Gives P run → run .end ≡ done a → P (run .events) a
-at-end g p = rw p at (g .holds)
+  holds : IfDone (P (run .events)) (run .end)
 
 -- a run, then what follows from its result
 bind-gives : {A B : Type 0} {P : List Event → A → Type 0} {Q : List Event → B → Type 0} {run : Run A} {f : A → Run B} → Gives P run →
     ((a : A) → P (run .events) a → Gives (λ es. Q (run .events ++ es)) (f a)) → Gives Q (bind run f)
 bind-gives {A} {P = P} {Q = Q} {run = run} {f = f} p q = record { holds = go (run .end) (p .holds) }
   where
-    go : (e : End A) → Ends (P (run .events)) e → Ends (Q (follow (run .events) e f .events)) (follow (run .events) e f .end)
+    go : (e : End A) → IfDone (P (run .events)) e → IfDone (Q (follow (run .events) e f .events)) (follow (run .events) e f .end)
     go (done a) h = q a h .holds
     go (stopped w r) h = tt
 
@@ -46,14 +47,14 @@ stop-gives : {A : Type 0} {P : List Event → A → Type 0} {w r : ℕ} → Give
 stop-gives = record { holds = tt }
 
 -- a value that is complete has at most 64 forms one inside another, and is charged
-complete-gives : {P : List Event → Left → Type 0} (r : ℕ) (vs : Exprs) (h : Here) →
-    (deepest vs ≤ 64 → P (charge r (length (canonical vs)) ∷ []) (record { values = vs; here = h })) → Gives P (complete r vs h)
-complete-gives {P} r vs h p = go (ltb 64 (deepest vs)) refl
+complete-cases : (P : Run Left → Type 0) (r : ℕ) (vs : Exprs) (h : Here) → P (stop 6 r) →
+    (deepest vs ≤ 64 → P (before (charge r (length (canonical vs))) (give (record { values = vs; here = h })))) → P (complete r vs h)
+complete-cases P r vs h p q = go (ltb 64 (deepest vs)) refl
   where
     go : (b : Bool) → ltb 64 (deepest vs) ≡ b →
-        Gives P (if b then stop 6 r else before (charge r (length (canonical vs))) (give (record { values = vs; here = h })))
-    go true q = stop-gives
-    go false q = record { holds = p (ltb-false 64 (deepest vs) q) }
+        P (if b then stop 6 r else before (charge r (length (canonical vs))) (give (record { values = vs; here = h })))
+    go true e = p
+    go false e = q (ltb-false 64 (deepest vs) e)
 
 -- Charges
 
@@ -71,17 +72,17 @@ Paid es left = length (canonical (left .values)) ≤ charges es
 after-paid : {A : Type 0} (run : Run A) {f : A → Run Left} → ((a : A) → Gives Paid (f a)) → Gives Paid (bind run f)
 after-paid {A} run {f} p = record { holds = go (run .end) }
   where
-    later : (e : End Left) (es : List Event) → Ends (Paid es) e → Ends (Paid (run .events ++ es)) e
+    later : (e : End Left) (es : List Event) → IfDone (Paid es) e → IfDone (Paid (run .events ++ es)) e
     later (done left) es h = omega (arith, charges-append (run .events) es)
     later (stopped w r) es h = tt
 
-    go : (e : End A) → Ends (Paid (follow (run .events) e f .events)) (follow (run .events) e f .end)
+    go : (e : End A) → IfDone (Paid (follow (run .events) e f .events)) (follow (run .events) e f .end)
     go (done a) = later (f a .end) (f a .events) (p a .holds)
     go (stopped w r) = tt
 
 complete-paid : (r : ℕ) (vs : Exprs) (h : Here) → Gives Paid (complete r vs h)
 unfolding charges
-complete-paid r vs h = complete-gives r vs h λ d. omega arith
+complete-paid r vs h = complete-cases (Gives Paid) r vs h stop-gives λ d. record { holds = omega arith }
 
 join-paid : (r : ℕ) (bs : List ℕ) (vs : Exprs) (h : Here) → Gives Paid (join r bs vs h)
 unfolding join
@@ -126,37 +127,9 @@ top-level-paid earlier (cons e es) h =
 
 pub run-paid : (es : Exprs) (ls : List Exprs) → run es .end ≡ done ls → length (canonical (result ls)) ≤ charges (run es .events)
 unfolding run
-run-paid es ls p = at-end (top-level-paid [] (number-all 0 es) start) p
+run-paid es ls p = rw p at (top-level-paid [] (number-all 0 es) start .holds)
 
 -- Fitting
-
-abbrev mutual
-  FitsNode : Node → Type 0
-  FitsNode (leaf r a) = Fits a
-  FitsNode (branch r es) = FitsNodes es
-
-  FitsNodes : Nodes → Type 0
-  FitsNodes empty = Unit {0}
-  FitsNodes (cons e es) = FitsNode e × FitsNodes es
-
-mutual
-  unfolding number
-
-  number-fits : (r : ℕ) (e : Expr) → FitsExpr e → FitsNode (number r e)
-  number-fits r (atom a) f = f
-  number-fits r (form es) f = number-all-fits (r + 1) es f
-
-  number-all-fits : (r : ℕ) (es : Exprs) → FitsAll es → FitsNodes (number-all r es)
-  number-all-fits r none f = tt
-  number-all-fits r (more e es) f = (number-fits r e (f .0), number-all-fits (r + rows e) es (f .1))
-
-tail-fits : (es : Nodes) → FitsNodes es → FitsNodes (tail es)
-tail-fits empty f = tt
-tail-fits (cons e es) f = f .1
-
-elements-fit : (e : Node) → FitsNode e → FitsNodes (elements e)
-elements-fit (leaf r a) f = tt
-elements-fit (branch r es) f = f
 
 -- values that fit and have at most 64 forms one inside another
 abbrev Sound : Exprs → Type 0
@@ -191,255 +164,355 @@ first-sound (suc n) (more v vs) s =
     let others : Sound (first n vs) = first-sound n vs (s .0 .1, omega arith) in
     ((s .0 .0, others .0), omega arith)
 
--- Where an expression is evaluated: values and arguments are sound, and code fits
-
-abbrev SoundDefined : Defined → Type 0
-SoundDefined (value vs) = Sound vs
-SoundDefined (function es) = FitsNodes es
-
-abbrev SoundScope : Scope → Type 0
-SoundScope [] = Unit {0}
-SoundScope (d ∷ ds) = SoundDefined (d .content) × SoundScope ds
-
-abbrev SoundArguments : Arguments → Type 0
-SoundArguments outside = Unit {0}
-SoundArguments (given vs) = Sound vs
-
-abbrev SoundHere : Here → Type 0
-SoundHere h = SoundScope (h .scope) × SoundArguments (h .arguments)
-
-abbrev SoundFound : Found → Type 0
-SoundFound (latest d behind) = SoundDefined d × SoundScope behind
-SoundFound nothing = Unit {0}
-
-look-up-sound : (m n : ℕ) (ds : Scope) → SoundScope ds → SoundFound (look-up m n ds)
-unfolding look-up
-look-up-sound m n [] s = tt
-look-up-sound m n (d ∷ ds) s = go (eqb (d .marker) m && eqb (d .name) n) (look-up-sound m n ds (s .1))
-  where
-    go : (b : Bool) → SoundFound (look-up m n ds) → SoundFound (if b then latest (d .content) ds else look-up m n ds)
-    go true t = s
-    go false t = t
-
--- Plans: what is to be done for an expression that fits
-
-abbrev SoundFinish : Finish → Type 0
-SoundFinish as-form = Unit {0}
-SoundFinish (as-definition m n) = Unit {0}
-SoundFinish as-concat = Unit {0}
-SoundFinish (as-call code scope) = FitsNodes code × SoundScope scope
-
-data SoundPlan : Plan → Type 0 where
-  refuses : {w : ℕ} → SoundPlan (refuse w)
-  leaves : {vs : Exprs} → Sound vs → SoundPlan (leave vs)
-  associates : {m n : ℕ} {i : List ℕ} → FitsAll (ns-form m n i) → SoundPlan (associate m n i)
-  defines : {d : Definition} → SoundDefined (d .content) → SoundPlan (define-function d)
-  goes-inside : {k : ℕ} {p : Place} {f : Finish} → SoundFinish f → SoundPlan (inside k p f)
-
-if-sound : (b : Bool) {p q : Plan} → SoundPlan p → SoundPlan q → SoundPlan (if b then p else q)
-if-sound true s t = s
-if-sound false s t = t
-
-if-ref-sound : (a : Atom) {f : ℕ → ℕ → Plan} {p : Plan} → Fits a → ((m n : ℕ) → Fits (ref m n) → SoundPlan (f m n)) → SoundPlan p →
-    SoundPlan (if-ref a f p)
-if-ref-sound nil g s t = t
-if-ref-sound (array bs) g s t = t
-if-ref-sound (int v) g s t = t
-if-ref-sound (ref m n) g s t = s m n g
-
-expect-one-sound : (es : Nodes) {f : Node → Plan} → FitsNodes es → ((a : Node) → FitsNode a → SoundPlan (f a)) →
-    SoundPlan (expect-one es f)
-expect-one-sound empty g s = refuses
-expect-one-sound (cons h empty) g s = refuses
-expect-one-sound (cons h (cons a empty)) g s = s a (g .1 .0)
-expect-one-sound (cons h (cons a (cons b es))) g s = refuses
-
-expect-two-sound : (es : Nodes) {f : Node → Node → Plan} → FitsNodes es →
-    ((a b : Node) → FitsNode a → FitsNode b → SoundPlan (f a b)) → SoundPlan (expect-two es f)
-expect-two-sound empty g s = refuses
-expect-two-sound (cons h empty) g s = refuses
-expect-two-sound (cons h (cons a empty)) g s = refuses
-expect-two-sound (cons h (cons a (cons b empty))) g s = s a b (g .1 .0) (g .1 .1 .0)
-expect-two-sound (cons h (cons a (cons b (cons c es)))) g s = refuses
-
-expect-ref-sound : (a : Node) {f : ℕ → ℕ → Plan} → FitsNode a → ((m n : ℕ) → Fits (ref m n) → SoundPlan (f m n)) →
-    SoundPlan (expect-ref a f)
-expect-ref-sound (leaf r a) g s = if-ref-sound a g s refuses
-expect-ref-sound (branch r es) g s = refuses
-
-expect-array-sound : (a : Node) {f : List ℕ → Plan} → FitsNode a → ((bs : List ℕ) → Bytes bs → SoundPlan (f bs)) →
-    SoundPlan (expect-array a f)
-expect-array-sound (leaf r nil) g s = refuses
-expect-array-sound (leaf r (array bs)) g s = s bs g
-expect-array-sound (leaf r (int v)) g s = refuses
-expect-array-sound (leaf r (ref m n)) g s = refuses
-expect-array-sound (branch r es) g s = refuses
-
-expect-int-sound : (a : Node) {f : ℕ → Plan} → ((n : ℕ) → SoundPlan (f n)) → SoundPlan (expect-int a f)
-expect-int-sound (leaf r nil) s = refuses
-expect-int-sound (leaf r (array bs)) s = refuses
-expect-int-sound (leaf r (int v)) s = s v
-expect-int-sound (leaf r (ref m n)) s = refuses
-expect-int-sound (branch r es) s = refuses
-
-plan-ns-sound : (p : Place) (es : Nodes) (h : Here) → FitsNodes es → SoundPlan (plan-ns p es h)
-plan-ns-sound element es h g = refuses
-plan-ns-sound inner es h g = refuses
-plan-ns-sound (top earlier) es h g =
-    expect-two-sound es g λ a b fa fb. expect-ref-sound a fa λ m n fr. expect-array-sound b fb λ id fi.
-    let it : SoundPlan (associate m n id) = associates (((omega arith, omega arith, omega arith), (fr, (fi, tt))), tt) in
-    search (if-sound, refuses)
-
-plan-definition-sound : (es : Nodes) (h : Here) → FitsNodes es → SoundPlan (plan-definition es h)
-plan-definition-sound es h g =
-    expect-two-sound es g λ a v fa fv. expect-ref-sound a fa λ m n fr.
-    let code : FitsNodes (tail (elements v)) = tail-fits (elements v) (elements-fit v fv) in
-    search (if-sound, refuses, defines, goes-inside, tt) depth 7
-
-plan-define-sound : (p : Place) (es : Nodes) (h : Here) → FitsNodes es → SoundPlan (plan-define p es h)
-plan-define-sound (top earlier) es h g = plan-definition-sound es h g
-plan-define-sound element es h g = plan-definition-sound es h g
-plan-define-sound inner es h g = refuses
-
-plan-concat-sound : (es : Nodes) → FitsNodes es → SoundPlan (plan-concat es)
-plan-concat-sound es g = expect-two-sound es g λ a b fa fb. search (if-sound, refuses, goes-inside, tt)
-
-plan-arg-sound : (n : ℕ) (vs : Arguments) → SoundArguments vs → SoundPlan (plan-arg n vs)
-plan-arg-sound n outside s = refuses
-plan-arg-sound n (given vs) s = search (if-sound, refuses, leaves (first-sound 1 (without n vs) (without-sound n vs s)))
-
-plan-rest-sound : (n : ℕ) (vs : Arguments) → SoundArguments vs → SoundPlan (plan-rest n vs)
-plan-rest-sound n outside s = refuses
-plan-rest-sound n (given vs) s = search (if-sound, refuses, leaves (without-sound n vs s))
-
-plan-head-sound : (f : Found) → SoundFound f → SoundPlan (plan-head f)
-plan-head-sound (latest (value vs) behind) s = goes-inside tt
-plan-head-sound (latest (function es) behind) s = goes-inside s
-plan-head-sound nothing s = goes-inside tt
-
-plan-other-sound : (es : Nodes) (ds : Scope) → FitsNodes es → SoundScope ds → SoundPlan (plan-other es ds)
-plan-other-sound empty ds g s = goes-inside tt
-plan-other-sound (cons (leaf r a) es) ds g s =
-    if-ref-sound a (g .0) (λ m n f. plan-head-sound (look-up m n ds) (look-up-sound m n ds s)) (goes-inside tt)
-plan-other-sound (cons (branch r fs) es) ds g s =
-    let code : FitsNodes (tail fs) = tail-fits fs (g .0) in
-    search (if-sound, goes-inside, tt)
-
-plan-form-sound : (w : Word) (es : Nodes) (h : Here) → FitsNodes es → SoundHere h → SoundPlan (plan-form w es h)
-unfolding plan-form
-plan-form-sound ns es h g s = plan-ns-sound (h .place) es h g
-plan-form-sound define es h g s = plan-define-sound (h .place) es h g
-plan-form-sound concat es h g s = plan-concat-sound es g
-plan-form-sound subst es h g s = refuses
-plan-form-sound arg es h g s = expect-one-sound es g λ a fa. expect-int-sound a λ n. plan-arg-sound n (h .arguments) (s .1)
-plan-form-sound rest es h g s = expect-one-sound es g λ a fa. expect-int-sound a λ n. plan-rest-sound n (h .arguments) (s .1)
-plan-form-sound plain es h g s = plan-other-sound es (h .scope) g (s .0)
-
-plan-reference-sound : (f : Found) (a : Atom) → SoundFound f → Fits a → SoundPlan (plan-reference f a)
-plan-reference-sound (latest (value vs) behind) a s g = leaves (s .0)
-plan-reference-sound (latest (function es) behind) a s g = refuses
-plan-reference-sound nothing a s g = leaves (atom-sound a g)
-
-plan-atom-sound : (a : Atom) (ds : Scope) → Fits a → SoundScope ds → SoundPlan (plan-atom a ds)
-unfolding plan-atom
-plan-atom-sound a ds g s =
-    if-ref-sound a g
-    (λ m n f. search (if-sound, refuses, plan-reference-sound (look-up m n ds) a (look-up-sound m n ds s) g))
-    (leaves (atom-sound a g))
-
--- Evaluation: an expression that fits leaves sound values, and what follows is evaluated where all is sound too
-
-abbrev SoundLeft : List Event → Left → Type 0
-SoundLeft es left = Sound (left .values) × SoundHere (left .here)
-
-abbrev SoundMeaning : Meaning → Type 0
-SoundMeaning m = (h : Here) → SoundHere h → Gives SoundLeft (m h)
-
-abbrev SoundMeanings : List Meaning → Type 0
-SoundMeanings [] = Unit {0}
-SoundMeanings (m ∷ ms) = SoundMeaning m × SoundMeanings ms
-
-drop-sound : (k : ℕ) (ms : List Meaning) → SoundMeanings ms → SoundMeanings (drop k ms)
-drop-sound zero ms s = s
-drop-sound (suc k) [] s = s
-drop-sound (suc k) (m ∷ ms) s = drop-sound k ms (s .1)
-
-complete-sound : (r : ℕ) (vs : Exprs) (h : Here) → FitsAll vs → SoundHere h → Gives SoundLeft (complete r vs h)
-complete-sound r vs h f s = complete-gives r vs h λ d. ((f, d), s)
-
-join-sound : (r : ℕ) (bs : List ℕ) (vs : Exprs) (h : Here) → Bytes bs → FitsAll vs → SoundHere h → Gives SoundLeft (join r bs vs h)
-unfolding join
-join-sound r bs none h g f s = complete-sound r (only (atom (array bs))) h (g, tt) s
-join-sound r bs (more (atom nil) vs) h g f s = stop-gives
-join-sound r bs (more (atom (array cs)) vs) h g f s = join-sound r (bs ++ cs) vs h (bytes-append bs cs g (f .0)) (f .1) s
-join-sound r bs (more (atom (int v)) vs) h g f s = stop-gives
-join-sound r bs (more (atom (ref m n)) vs) h g f s = stop-gives
-join-sound r bs (more (form es) vs) h g f s = stop-gives
-
 -- a call's value
 call-fits : (b : Bool) (vs : Exprs) → FitsAll vs → FitsAll (if b then vs else only (form vs))
 call-fits true vs f = f
 call-fits false vs f = (f, tt)
 
-in-order-sound : (ms : List Meaning) (h : Here) → SoundMeanings ms → SoundHere h → Gives SoundLeft (in-order ms h)
-unfolding in-order
-in-order-sound [] h m s = record { holds = (none-sound, s) }
-in-order-sound (e ∷ es) h m s =
-    bind-gives (m .0 h s) λ left l. bind-gives (in-order-sound es (left .here) (m .1) (l .1))
-    λ later k. record { holds = (append-sound (left .values) (later .values) (l .0) (k .0), k .1) }
+-- Rows and refusals
 
-abbrev SoundCall : Call → Type 0
-SoundCall call = (r : ℕ) (code : Nodes) (h : Here) → FitsNodes code → SoundHere h → Gives SoundLeft (call r code h)
+-- every row that is named is below a number
+abbrev pub RowsBelow : ℕ → List Event → Type 0
+RowsBelow n [] = Unit {0}
+RowsBelow n (step r ∷ es) = (r < n) × RowsBelow n es
+RowsBelow n (charge r m ∷ es) = (r < n) × RowsBelow n es
 
-module _ (call : Call) (calls : SoundCall call) where
-  finish-sound : (r : ℕ) (h : Here) (f : Finish) (vs : Exprs) → SoundFinish f → Sound vs → SoundHere h →
-      Gives SoundLeft (finish call r h f vs)
-  finish-sound r h as-form vs f v s = complete-sound r (only (form vs)) h (v .0, tt) s
-  finish-sound r h (as-definition m n) vs f v s = record { holds = (none-sound, ((v, s .0), s .1)) }
-  finish-sound r h as-concat vs f v s = join-sound r [] vs h tt (v .0) s
-  finish-sound r h (as-call code scope) vs f v s =
-      bind-gives (calls r code _ (f .0) (f .1, v))
-      λ left l. complete-sound r (if one-value code then left .values else only (form (left .values))) h
-      (call-fits (one-value code) (left .values) (l .0 .0)) s
+-- "every refusal 6 and 11 to 15 and 19"
+abbrev pub rule-number : ℕ → Bool
+rule-number w = eqb w 6 || eqb w 11 || eqb w 12 || eqb w 13 || eqb w 14 || eqb w 15 || eqb w 19
 
-  perform-sound : (r : ℕ) (ms : List Meaning) (h : Here) {p : Plan} → SoundPlan p → SoundMeanings ms → SoundHere h →
-      Gives SoundLeft (perform call r ms h p)
-  perform-sound r ms h refuses m s = stop-gives
-  perform-sound r ms h (leaves {vs} v) m s = complete-sound r vs h (v .0) s
-  perform-sound r ms h (associates {m = k} {n} {i} f) m s = complete-sound r (ns-form k n i) _ f s
-  perform-sound r ms h (defines d) m s = record { holds = (none-sound, ((d, s .0), s .1)) }
-  perform-sound r ms h (goes-inside {k} {p} {f} g) m s =
-      bind-gives (in-order-sound (drop k ms) (standing p h) (drop-sound k ms m) s)
-      λ left l. finish-sound r h f (left .values) g (l .0) s
+abbrev pub RuleNumber : ℕ → Type 0
+RuleNumber w = rule-number w ≡ true
+
+-- 16, 17 and 18 are none of them: `not-rule refl`
+pub not-rule : {v w : ℕ} → rule-number v ≡ false → RuleNumber w → w ≡ v → ⊥
+not-rule n p q = let z : _≡_ {A = ℕ} 0 1 = cc in omega arith
+
+-- What is so in a stream of so many rows
+module _ (bound : ℕ) where
+  -- as a rule says
+  abbrev Stops : ℕ → ℕ → Type 0
+  Stops w r = RuleNumber w × (r < bound)
+
+  -- a run that names rows of the stream and stops only as a rule says; P holds of its result
+  record Goes {A : Type 0} (P : A → Type 0) (run : Run A) : Type 0 where
+    rows-below : RowsBelow bound (run .events)
+    holds : Ends Stops P (run .end)
+
+  rows-append : (es fs : List Event) → RowsBelow bound es → RowsBelow bound fs → RowsBelow bound (es ++ fs)
+  rows-append [] fs p q = q
+  rows-append (step r ∷ es) fs p q = (p .0, rows-append es fs (p .1) q)
+  rows-append (charge r m ∷ es) fs p q = (p .0, rows-append es fs (p .1) q)
+
+  bind-goes : {A B : Type 0} {P : A → Type 0} {Q : B → Type 0} {run : Run A} {f : A → Run B} → Goes P run →
+      ((a : A) → P a → Goes Q (f a)) → Goes Q (bind run f)
+  bind-goes {A} {P = P} {Q = Q} {run = run} {f = f} p q = go (run .end) (p .holds)
+    where
+      go : (e : End A) → Ends Stops P e → Goes Q (follow (run .events) e f)
+      go (done a) h = record {
+        rows-below = rows-append (run .events) (f a .events) (p .rows-below) (q a h .rows-below);
+        holds = q a h .holds;
+      }
+      go (stopped w r) h = record { rows-below = p .rows-below; holds = h }
+
+  module _ {A : Type 0} {P : A → Type 0} where
+    stop-goes : {w r : ℕ} → RuleNumber w → r < bound → Goes P (stop w r)
+    stop-goes p q = record { rows-below = tt; holds = (p, q) }
+
+    give-goes : {a : A} → P a → Goes P (give a)
+    give-goes p = record { rows-below = tt; holds = p }
+
+    step-goes : {r : ℕ} {run : Run A} → r < bound → Goes P run → Goes P (before (step r) run)
+    step-goes p g = record { rows-below = (p, g .rows-below); holds = g .holds }
+
+  -- nodes that fit, at rows of the stream
+  abbrev mutual
+    FitsNode : Node → Type 0
+    FitsNode (leaf r a) = (r < bound) × Fits a
+    FitsNode (branch r es) = (r < bound) × FitsNodes es
+
+    FitsNodes : Nodes → Type 0
+    FitsNodes empty = Unit {0}
+    FitsNodes (cons e es) = FitsNode e × FitsNodes es
 
   mutual
-    unfolding eval
+    unfolding number rows
 
-    eval-sound : (e : Node) → FitsNode e → SoundMeaning (eval call e)
-    eval-sound (leaf r a) f h s = record { holds = perform-sound r [] h (plan-atom-sound a (h .scope) f (s .0)) tt s .holds }
-    eval-sound (branch r es) f h s = record {
-      holds = perform-sound r (eval-all call es) h (plan-form-sound (head-word es) es h f s) (eval-all-sound es f) s .holds;
-    }
+    number-fits : (r : ℕ) (e : Expr) → r + rows e ≤ bound → FitsExpr e → FitsNode (number r e)
+    number-fits r (atom a) h f = (omega arith, f)
+    number-fits r (form es) h f = (omega arith, number-all-fits (r + 1) es (omega arith) f)
 
-    eval-all-sound : (es : Nodes) → FitsNodes es → SoundMeanings (eval-all call es)
-    eval-all-sound empty f = tt
-    eval-all-sound (cons e es) f = (λ h s. eval-sound e (f .0) h s, eval-all-sound es (f .1))
+    number-all-fits : (r : ℕ) (es : Exprs) → r + rows-all es ≤ bound → FitsAll es → FitsNodes (number-all r es)
+    number-all-fits r none h f = tt
+    number-all-fits r (more e es) h f = (number-fits r e (omega arith) (f .0), number-all-fits (r + rows e) es (omega arith) (f .1))
 
-run-code-sound : (k : ℕ) → SoundCall (run-code k)
-unfolding run-code
-run-code-sound zero r code h f s = stop-gives
-run-code-sound (suc k) r code h f s =
-    in-order-sound (eval-all (run-code k) code) h (eval-all-sound (run-code k) (run-code-sound k) code f) s
+  tail-fits : (es : Nodes) → FitsNodes es → FitsNodes (tail es)
+  tail-fits empty f = tt
+  tail-fits (cons e es) f = f .1
 
-top-level-sound : (earlier : List ℕ) (es : Nodes) (h : Here) → FitsNodes es → SoundHere h →
-    Gives (λ es ls. Sound (result ls)) (top-level earlier es h)
-unfolding top-level result
-top-level-sound earlier empty h f s = record { holds = none-sound }
-top-level-sound earlier (cons e es) h f s =
-    bind-gives (eval-sound (run-code 32) (run-code-sound 32) e (f .0) (standing (top earlier) h) s)
-    λ left l. bind-gives (top-level-sound (markers e ++ earlier) es (left .here) (f .1) (l .1))
-    λ ls k. record { holds = append-sound (left .values) (result ls) (l .0) k }
+  elements-fit : (e : Node) → FitsNode e → FitsNodes (elements e)
+  elements-fit (leaf r a) f = tt
+  elements-fit (branch r es) f = f .1
+
+  -- Where an expression is evaluated: values and arguments are sound, and code fits
+
+  abbrev SoundDefined : Defined → Type 0
+  SoundDefined (value vs) = Sound vs
+  SoundDefined (function es) = FitsNodes es
+
+  abbrev SoundScope : Scope → Type 0
+  SoundScope [] = Unit {0}
+  SoundScope (d ∷ ds) = SoundDefined (d .content) × SoundScope ds
+
+  abbrev SoundArguments : Arguments → Type 0
+  SoundArguments outside = Unit {0}
+  SoundArguments (given vs) = Sound vs
+
+  abbrev SoundHere : Here → Type 0
+  SoundHere h = SoundScope (h .scope) × SoundArguments (h .arguments)
+
+  abbrev SoundFound : Found → Type 0
+  SoundFound (latest d behind) = SoundDefined d × SoundScope behind
+  SoundFound nothing = Unit {0}
+
+  look-up-sound : (m n : ℕ) (ds : Scope) → SoundScope ds → SoundFound (look-up m n ds)
+  unfolding look-up
+  look-up-sound m n [] s = tt
+  look-up-sound m n (d ∷ ds) s = go (eqb (d .marker) m && eqb (d .name) n) (look-up-sound m n ds (s .1))
+    where
+      go : (b : Bool) → SoundFound (look-up m n ds) → SoundFound (if b then latest (d .content) ds else look-up m n ds)
+      go true t = s
+      go false t = t
+
+  -- Plans: what is to be done for an expression that fits
+
+  abbrev SoundFinish : Finish → Type 0
+  SoundFinish as-form = Unit {0}
+  SoundFinish (as-definition m n) = Unit {0}
+  SoundFinish as-concat = Unit {0}
+  SoundFinish (as-call code scope) = FitsNodes code × SoundScope scope
+
+  data SoundPlan : Plan → Type 0 where
+    refuses : {w : ℕ} → RuleNumber w → SoundPlan (refuse w)
+    leaves : {vs : Exprs} → Sound vs → SoundPlan (leave vs)
+    associates : {m n : ℕ} {i : List ℕ} → FitsAll (ns-form m n i) → SoundPlan (associate m n i)
+    defines : {d : Definition} → SoundDefined (d .content) → SoundPlan (define-function d)
+    goes-inside : {k : ℕ} {p : Place} {f : Finish} → SoundFinish f → SoundPlan (inside k p f)
+
+  if-sound : (b : Bool) {p q : Plan} → SoundPlan p → SoundPlan q → SoundPlan (if b then p else q)
+  if-sound true s t = s
+  if-sound false s t = t
+
+  if-ref-sound : (a : Atom) {f : ℕ → ℕ → Plan} {p : Plan} → Fits a → ((m n : ℕ) → Fits (ref m n) → SoundPlan (f m n)) → SoundPlan p →
+      SoundPlan (if-ref a f p)
+  if-ref-sound nil g s t = t
+  if-ref-sound (array bs) g s t = t
+  if-ref-sound (int v) g s t = t
+  if-ref-sound (ref m n) g s t = s m n g
+
+  expect-one-sound : (es : Nodes) {f : Node → Plan} → FitsNodes es → ((a : Node) → FitsNode a → SoundPlan (f a)) →
+      SoundPlan (expect-one es f)
+  expect-one-sound empty g s = refuses refl
+  expect-one-sound (cons h empty) g s = refuses refl
+  expect-one-sound (cons h (cons a empty)) g s = s a (g .1 .0)
+  expect-one-sound (cons h (cons a (cons b es))) g s = refuses refl
+
+  expect-two-sound : (es : Nodes) {f : Node → Node → Plan} → FitsNodes es →
+      ((a b : Node) → FitsNode a → FitsNode b → SoundPlan (f a b)) → SoundPlan (expect-two es f)
+  expect-two-sound empty g s = refuses refl
+  expect-two-sound (cons h empty) g s = refuses refl
+  expect-two-sound (cons h (cons a empty)) g s = refuses refl
+  expect-two-sound (cons h (cons a (cons b empty))) g s = s a b (g .1 .0) (g .1 .1 .0)
+  expect-two-sound (cons h (cons a (cons b (cons c es)))) g s = refuses refl
+
+  expect-ref-sound : (a : Node) {f : ℕ → ℕ → Plan} → FitsNode a → ((m n : ℕ) → Fits (ref m n) → SoundPlan (f m n)) →
+      SoundPlan (expect-ref a f)
+  expect-ref-sound (leaf r a) g s = if-ref-sound a (g .1) s (refuses refl)
+  expect-ref-sound (branch r es) g s = refuses refl
+
+  expect-array-sound : (a : Node) {f : List ℕ → Plan} → FitsNode a → ((bs : List ℕ) → Bytes bs → SoundPlan (f bs)) →
+      SoundPlan (expect-array a f)
+  expect-array-sound (leaf r nil) g s = refuses refl
+  expect-array-sound (leaf r (array bs)) g s = s bs (g .1)
+  expect-array-sound (leaf r (int v)) g s = refuses refl
+  expect-array-sound (leaf r (ref m n)) g s = refuses refl
+  expect-array-sound (branch r es) g s = refuses refl
+
+  expect-int-sound : (a : Node) {f : ℕ → Plan} → ((n : ℕ) → SoundPlan (f n)) → SoundPlan (expect-int a f)
+  expect-int-sound (leaf r nil) s = refuses refl
+  expect-int-sound (leaf r (array bs)) s = refuses refl
+  expect-int-sound (leaf r (int v)) s = s v
+  expect-int-sound (leaf r (ref m n)) s = refuses refl
+  expect-int-sound (branch r es) s = refuses refl
+
+  plan-ns-sound : (p : Place) (es : Nodes) (h : Here) → FitsNodes es → SoundPlan (plan-ns p es h)
+  plan-ns-sound element es h g = refuses refl
+  plan-ns-sound inner es h g = refuses refl
+  plan-ns-sound (top earlier) es h g =
+      expect-two-sound es g λ a b fa fb. expect-ref-sound a fa λ m n fr. expect-array-sound b fb λ id fi.
+      let it : SoundPlan (associate m n id) = associates (((omega arith, omega arith, omega arith), (fr, (fi, tt))), tt) in
+      search (if-sound, refuses)
+
+  plan-definition-sound : (es : Nodes) (h : Here) → FitsNodes es → SoundPlan (plan-definition es h)
+  plan-definition-sound es h g =
+      expect-two-sound es g λ a v fa fv. expect-ref-sound a fa λ m n fr.
+      let code : FitsNodes (tail (elements v)) = tail-fits (elements v) (elements-fit v fv) in
+      search (if-sound, refuses, defines, goes-inside, tt) depth 7
+
+  plan-define-sound : (p : Place) (es : Nodes) (h : Here) → FitsNodes es → SoundPlan (plan-define p es h)
+  plan-define-sound (top earlier) es h g = plan-definition-sound es h g
+  plan-define-sound element es h g = plan-definition-sound es h g
+  plan-define-sound inner es h g = refuses refl
+
+  plan-concat-sound : (es : Nodes) → FitsNodes es → SoundPlan (plan-concat es)
+  plan-concat-sound es g = expect-two-sound es g λ a b fa fb. search (if-sound, refuses, goes-inside, tt)
+
+  plan-arg-sound : (n : ℕ) (vs : Arguments) → SoundArguments vs → SoundPlan (plan-arg n vs)
+  plan-arg-sound n outside s = refuses refl
+  plan-arg-sound n (given vs) s = search (if-sound, refuses, leaves (first-sound 1 (without n vs) (without-sound n vs s)))
+
+  plan-rest-sound : (n : ℕ) (vs : Arguments) → SoundArguments vs → SoundPlan (plan-rest n vs)
+  plan-rest-sound n outside s = refuses refl
+  plan-rest-sound n (given vs) s = search (if-sound, refuses, leaves (without-sound n vs s))
+
+  plan-head-sound : (f : Found) → SoundFound f → SoundPlan (plan-head f)
+  plan-head-sound (latest (value vs) behind) s = goes-inside tt
+  plan-head-sound (latest (function es) behind) s = goes-inside s
+  plan-head-sound nothing s = goes-inside tt
+
+  plan-other-sound : (es : Nodes) (ds : Scope) → FitsNodes es → SoundScope ds → SoundPlan (plan-other es ds)
+  plan-other-sound empty ds g s = goes-inside tt
+  plan-other-sound (cons (leaf r a) es) ds g s =
+      if-ref-sound a (g .0 .1) (λ m n f. plan-head-sound (look-up m n ds) (look-up-sound m n ds s)) (goes-inside tt)
+  plan-other-sound (cons (branch r fs) es) ds g s =
+      let code : FitsNodes (tail fs) = tail-fits fs (g .0 .1) in
+      search (if-sound, goes-inside, tt)
+
+  plan-form-sound : (w : Word) (es : Nodes) (h : Here) → FitsNodes es → SoundHere h → SoundPlan (plan-form w es h)
+  unfolding plan-form
+  plan-form-sound ns es h g s = plan-ns-sound (h .place) es h g
+  plan-form-sound define es h g s = plan-define-sound (h .place) es h g
+  plan-form-sound concat es h g s = plan-concat-sound es g
+  plan-form-sound subst es h g s = refuses refl
+  plan-form-sound arg es h g s = expect-one-sound es g λ a fa. expect-int-sound a λ n. plan-arg-sound n (h .arguments) (s .1)
+  plan-form-sound rest es h g s = expect-one-sound es g λ a fa. expect-int-sound a λ n. plan-rest-sound n (h .arguments) (s .1)
+  plan-form-sound plain es h g s = plan-other-sound es (h .scope) g (s .0)
+
+  plan-reference-sound : (f : Found) (a : Atom) → SoundFound f → Fits a → SoundPlan (plan-reference f a)
+  plan-reference-sound (latest (value vs) behind) a s g = leaves (s .0)
+  plan-reference-sound (latest (function es) behind) a s g = refuses refl
+  plan-reference-sound nothing a s g = leaves (atom-sound a g)
+
+  plan-atom-sound : (a : Atom) (ds : Scope) → Fits a → SoundScope ds → SoundPlan (plan-atom a ds)
+  unfolding plan-atom
+  plan-atom-sound a ds g s =
+      if-ref-sound a g
+      (λ m n f. search (if-sound, refuses, plan-reference-sound (look-up m n ds) a (look-up-sound m n ds s) g))
+      (leaves (atom-sound a g))
+
+  -- Evaluation: an expression that fits leaves sound values, and what follows is evaluated where all is sound too
+
+  abbrev SoundLeft : Left → Type 0
+  SoundLeft left = Sound (left .values) × SoundHere (left .here)
+
+  abbrev SoundMeaning : Meaning → Type 0
+  SoundMeaning m = (h : Here) → SoundHere h → Goes SoundLeft (m h)
+
+  abbrev SoundMeanings : List Meaning → Type 0
+  SoundMeanings [] = Unit {0}
+  SoundMeanings (m ∷ ms) = SoundMeaning m × SoundMeanings ms
+
+  drop-sound : (k : ℕ) (ms : List Meaning) → SoundMeanings ms → SoundMeanings (drop k ms)
+  drop-sound zero ms s = s
+  drop-sound (suc k) [] s = s
+  drop-sound (suc k) (m ∷ ms) s = drop-sound k ms (s .1)
+
+  complete-sound : (r : ℕ) (vs : Exprs) (h : Here) → r < bound → FitsAll vs → SoundHere h → Goes SoundLeft (complete r vs h)
+  complete-sound r vs h q f s =
+      complete-cases (Goes SoundLeft) r vs h (stop-goes refl q) λ d. record { rows-below = (q, tt); holds = ((f, d), s) }
+
+  join-sound : (r : ℕ) (bs : List ℕ) (vs : Exprs) (h : Here) → r < bound → Bytes bs → FitsAll vs → SoundHere h →
+      Goes SoundLeft (join r bs vs h)
+  unfolding join
+  join-sound r bs none h q g f s = complete-sound r (only (atom (array bs))) h q (g, tt) s
+  join-sound r bs (more (atom nil) vs) h q g f s = stop-goes refl q
+  join-sound r bs (more (atom (array cs)) vs) h q g f s = join-sound r (bs ++ cs) vs h q (bytes-append bs cs g (f .0)) (f .1) s
+  join-sound r bs (more (atom (int v)) vs) h q g f s = stop-goes refl q
+  join-sound r bs (more (atom (ref m n)) vs) h q g f s = stop-goes refl q
+  join-sound r bs (more (form es) vs) h q g f s = stop-goes refl q
+
+  in-order-sound : (ms : List Meaning) (h : Here) → SoundMeanings ms → SoundHere h → Goes SoundLeft (in-order ms h)
+  unfolding in-order
+  in-order-sound [] h m s = give-goes (none-sound, s)
+  in-order-sound (e ∷ es) h m s =
+      bind-goes (m .0 h s) λ left l. bind-goes (in-order-sound es (left .here) (m .1) (l .1))
+      λ later k. give-goes (append-sound (left .values) (later .values) (l .0) (k .0), k .1)
+
+  abbrev SoundCall : Call → Type 0
+  SoundCall call = (r : ℕ) (code : Nodes) (h : Here) → r < bound → FitsNodes code → SoundHere h → Goes SoundLeft (call r code h)
+
+  module _ (call : Call) (calls : SoundCall call) where
+    finish-sound : (r : ℕ) (h : Here) (f : Finish) (vs : Exprs) → r < bound → SoundFinish f → Sound vs → SoundHere h →
+        Goes SoundLeft (finish call r h f vs)
+    finish-sound r h as-form vs q f v s = complete-sound r (only (form vs)) h q (v .0, tt) s
+    finish-sound r h (as-definition m n) vs q f v s = give-goes (none-sound, ((v, s .0), s .1))
+    finish-sound r h as-concat vs q f v s = join-sound r [] vs h q tt (v .0) s
+    finish-sound r h (as-call code scope) vs q f v s =
+        bind-goes (calls r code _ q (f .0) (f .1, v))
+        λ left l. complete-sound r (if one-value code then left .values else only (form (left .values))) h q
+        (call-fits (one-value code) (left .values) (l .0 .0)) s
+
+    perform-sound : (r : ℕ) (ms : List Meaning) (h : Here) {p : Plan} → r < bound → SoundPlan p → SoundMeanings ms → SoundHere h →
+        Goes SoundLeft (perform call r ms h p)
+    perform-sound r ms h q (refuses w) m s = stop-goes w q
+    perform-sound r ms h q (leaves {vs} v) m s = complete-sound r vs h q (v .0) s
+    perform-sound r ms h q (associates {m = k} {n} {i} f) m s = complete-sound r (ns-form k n i) _ q f s
+    perform-sound r ms h q (defines d) m s = give-goes (none-sound, ((d, s .0), s .1))
+    perform-sound r ms h q (goes-inside {k} {p} {f} g) m s =
+        bind-goes (in-order-sound (drop k ms) (standing p h) (drop-sound k ms m) s)
+        λ left l. finish-sound r h f (left .values) q g (l .0) s
+
+    mutual
+      unfolding eval
+
+      eval-sound : (e : Node) → FitsNode e → SoundMeaning (eval call e)
+      eval-sound (leaf r a) f h s = step-goes (f .0) (perform-sound r [] h (f .0) (plan-atom-sound a (h .scope) (f .1) (s .0)) tt s)
+      eval-sound (branch r es) f h s =
+          step-goes (f .0)
+          (perform-sound r (eval-all call es) h (f .0) (plan-form-sound (head-word es) es h (f .1) s) (eval-all-sound es (f .1)) s)
+
+      eval-all-sound : (es : Nodes) → FitsNodes es → SoundMeanings (eval-all call es)
+      eval-all-sound empty f = tt
+      eval-all-sound (cons e es) f = (λ h s. eval-sound e (f .0) h s, eval-all-sound es (f .1))
+
+  run-code-sound : (k : ℕ) → SoundCall (run-code k)
+  unfolding run-code
+  run-code-sound zero r code h q f s = stop-goes refl q
+  run-code-sound (suc k) r code h q f s =
+      in-order-sound (eval-all (run-code k) code) h (eval-all-sound (run-code k) (run-code-sound k) code f) s
+
+  top-level-sound : (earlier : List ℕ) (es : Nodes) (h : Here) → FitsNodes es → SoundHere h →
+      Goes (λ ls. Sound (result ls)) (top-level earlier es h)
+  unfolding top-level result
+  top-level-sound earlier empty h f s = give-goes none-sound
+  top-level-sound earlier (cons e es) h f s =
+      bind-goes (eval-sound (run-code 32) (run-code-sound 32) e (f .0) (standing (top earlier) h) s)
+      λ left l. bind-goes (top-level-sound (markers e ++ earlier) es (left .here) (f .1) (l .1))
+      λ ls k. give-goes (append-sound (left .values) (result ls) (l .0) k)
+
+run-goes : (es : Exprs) → FitsAll es → Goes (rows-all es) (λ ls. Sound (result ls)) (run es)
+unfolding run
+run-goes es f =
+    let all : ℕ = rows-all es in
+    top-level-sound all [] (number-all 0 es) start (number-all-fits all 0 es (omega arith) f) (tt, tt)
 
 pub run-fits : (es : Exprs) (ls : List Exprs) → FitsAll es → run es .end ≡ done ls → FitsAll (result ls) × (deepest (result ls) ≤ 64)
-unfolding run
-run-fits es ls f p = at-end (top-level-sound [] (number-all 0 es) start (number-all-fits 0 es f) (tt, tt)) p
+run-fits es ls f p = rw p at (run-goes es f .holds)
+
+-- a run names only rows below n, and stops only as a rule says
+pub record Proper (n : ℕ) {A : Type 0} (run : Run A) : Type 0 where
+  pub rows-below : RowsBelow n (run .events)
+  pub stops : (w r : ℕ) → run .end ≡ stopped w r → RuleNumber w × (r < n)
+
+pub run-proper : (es : Exprs) → FitsAll es → Proper (rows-all es) (run es)
+run-proper es f = let g = run-goes es f in record { rows-below = g .rows-below; stops = λ w r p. rw p at (g .holds) }

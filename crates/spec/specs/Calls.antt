@@ -4,9 +4,9 @@ use mathlib.Core.List.{List, [], _∷_, _++_}
 use mathlib.Core.Bool.{Bool, true, false, not, _&&_}
 use lib.ListN.{length, take, drop, getD}
 use lib.Dec.{ltb, eqb}
-use Rattle.spec.specs.Expr.{if_then_else_, same, if-ref, atom, form, Exprs, none, more, canonical}
+use Rattle.spec.specs.Expr.{if_then_else_, same, if-ref, atom, form, Exprs, none, more, rows, canonical}
 use Rattle.spec.specs.Reading.{Row, numbers, row-width, Reading, refused, readable, read}
-use Rattle.spec.specs.Nodes.{core, Nodes, empty, cons, number-all, row}
+use Rattle.spec.specs.Nodes.{core}
 use Rattle.spec.specs.Runs.{End, done, stopped, Run, cut, steps-in}
 use Rattle.spec.specs.Evaluation.{run, result}
 
@@ -32,31 +32,32 @@ acceptance given steps table output = record { number = 0; place = 0; given = gi
 abbrev pub over : List ℕ → List ℕ → List ℕ
 over new old = new ++ drop (length new) old
 
--- "The table [..] holds the rows"
+-- "The table is unchanged on 1 to 8 given in reading and holds the rows otherwise, also on evaluation's 6."
 abbrev pub filled : List Row → List ℕ → List ℕ
-filled rows table = over (numbers rows rows) table
+filled rs table = over (numbers rs rs) table
 
--- bytes to be put out; 18: "output shorter than the result", at 0
+-- bytes to be put out; 18: "output shorter than the result", at 0, "last of all"
 unfoldable pub put-out : List ℕ → ℕ → List ℕ → List ℕ → Answer
 put-out bs steps table output =
     if ltb (length output) (length bs) then refusal 18 0 table output else acceptance (length bs) steps table (over bs output)
 
--- Reading comes first. "Rows available: table length divided by 4, rounded down." "The table is unchanged on 1 to 8 given in reading"
+-- an answer that follows reading
 abbrev pub once-read : List ℕ → List ℕ → (List Row → Exprs → Answer) → Reading → Answer
 once-read table output go (refused w p) = refusal w p table output
-once-read table output go (readable rows es) = go rows es
+once-read table output go (readable rs es) = go rs es
 
+-- "Rows available: table length divided by 4, rounded down."
 abbrev pub reading : List ℕ → List ℕ → Reading
 reading stream table = read stream (length table / row-width)
 
 -- "a stream and a lent table of 32-bit numbers. Gives the number of rows."
 unfoldable pub Read : List ℕ → List ℕ → Answer
-Read stream table = once-read table [] (λ rows es. acceptance (length rows) 0 (filled rows table) []) (reading stream table)
+Read stream table = once-read table [] (λ rs es. acceptance (length rs) 0 (filled rs table) []) (reading stream table)
 
 -- "a stream, a table and an output buffer. Reads, then writes the canonical stream; gives its length."
 unfoldable pub Write : List ℕ → List ℕ → List ℕ → Answer
 Write stream table output =
-    once-read table output (λ rows es. put-out (canonical es) 0 (filled rows table) output) (reading stream table)
+    once-read table output (λ rs es. put-out (canonical es) 0 (filled rs table) output) (reading stream table)
 
 -- Evaluate
 
@@ -73,26 +74,27 @@ abbrev pub version-bytes : List ℕ
 version-bytes = 0x01 ∷ 0x20 ∷ 0x00 ∷ 0x81 ∷ 0x80 ∷ 0x02 ∷ []
 
 abbrev pub row-at : List Row → ℕ → Row
-row-at rows r = getD rows r (record { kind = 0; start = 0; end = 0 })
+row-at rs r = getD rs r (record { kind = 0; start = 0; end = 0 })
 
 -- "The count is the steps taken on acceptance, else zero."
 abbrev pub end-answer : List Row → ℕ → List ℕ → List ℕ → End (List Exprs) → Answer
-end-answer rows steps table output (done ls) = put-out (canonical (result ls)) steps table output
-end-answer rows steps table output (stopped w r) = refusal w (row-at rows r .start) table output
+end-answer rs steps table output (done ls) = put-out (canonical (result ls)) steps table output
+end-answer rs steps table output (stopped w r) = refusal w (row-at rs r .start) table output
 
 -- a run held to its bounds; "A workspace above 65,536 bytes counts as 65,536."
 unfoldable pub run-answer : List Row → Run (List Exprs) → List ℕ → ℕ → List ℕ → ℕ → Answer
-run-answer rows run table work output steps =
-    end-answer rows (steps-in (run .events)) table output (cut steps (min work 65536) (run .events) (run .end))
+run-answer rs run table work output steps =
+    end-answer rs (steps-in (run .events)) table output (cut steps (min work 65536) (run .events) (run .end))
 
 -- "a stream, a table, a workspace, an output buffer and a number of steps. Reads, evaluates, writes the result canonically; gives length
--- and steps taken." 9: "first expression absent or not headed by `version`". 10: "headed so, but not the six bytes".
+-- and steps taken." 9: "first expression absent or not headed by `version`". 10: "headed so, but not the six bytes". "Reading ends before
+-- 9; 9 and 10 come before the first step."
 unfoldable pub Evaluate : List ℕ → List ℕ → ℕ → List ℕ → ℕ → Answer
 Evaluate stream table work output steps =
-    once-read table output (λ rows es.
-    if not (is-versioned es) then refusal 9 0 (filled rows table) output else
-    if not (same (take 6 stream) version-bytes) then refusal 10 0 (filled rows table) output else
-    run-answer rows (run es) (filled rows table) work output steps)
+    once-read table output (λ rs es.
+    if not (is-versioned es) then refusal 9 0 (filled rs table) output else
+    if not (same (take 6 stream) version-bytes) then refusal 10 0 (filled rs table) output else
+    run-answer rs (run es) (filled rs table) work output steps)
     (reading stream table)
 
 -- Item
@@ -110,16 +112,19 @@ abbrev pub chosen : Buffer → List ℕ → List ℕ → List ℕ
 chosen of-stream stream result = stream
 chosen of-result stream result = result
 
--- "top-level expression k, counted from 0"
-unfoldable pub item : Buffer → List Row → ℕ → Nodes → Part
-item b rows k empty = no-part
-item b rows zero (cons e es) = part b (row-at rows (row e) .start) (row-at rows (row e) .end)
-item b rows (suc k) (cons e es) = item b rows k es
+-- "top-level expression k, counted from 0", of expressions whose rows these are
+unfoldable pub item : Buffer → List Row → ℕ → Exprs → Part
+item b rs k none = no-part
+item b rs zero (more e es) = part b (row-at rs 0 .start) (row-at rs 0 .end)
+item b rs (suc k) (more e es) = item b (drop (rows e) rs) k es
 
+-- "If that buffer can't be read [..] or has no such item, the part is empty"
 abbrev pub item-read : Buffer → ℕ → Reading → Part
 item-read b k (refused w p) = no-part
-item-read b k (readable rows es) = item b rows k (number-all 0 es)
+item-read b k (readable rs es) = item b rs k es
 
 -- "a stream, a result, which of the two, and a number k. [..] no table is lent, so 8 can't arise": there are no more rows than bytes.
 unfoldable pub Item : List ℕ → List ℕ → Buffer → ℕ → Part
-Item stream result b k = item-read b k (read (chosen b stream result) (length (chosen b stream result)))
+Item stream result b k =
+    let s = chosen b stream result in
+    item-read b k (read s (length s))

@@ -21,12 +21,13 @@ standing p h = record { place = p; scope = h .scope; namespaces = h .namespaces;
 abbrev pub add-namespace : Namespace → Here → Here
 add-namespace n h = record { place = h .place; scope = h .scope; namespaces = n ∷ h .namespaces; arguments = h .arguments }
 
--- "The definition is visible to what follows in the same list, at all depths [..]. It leaves nothing in the result."
-abbrev pub add-definition : Definition → Here → Run Left
-add-definition d h = give (record {
-  values = none;
-  here = record { place = h .place; scope = d ∷ h .scope; namespaces = h .namespaces; arguments = h .arguments };
-})
+-- "The definition is visible to what follows in the same list, at all depths"
+abbrev pub add-definition : Definition → Here → Here
+add-definition d h = record { place = h .place; scope = d ∷ h .scope; namespaces = h .namespaces; arguments = h .arguments }
+
+-- "It leaves nothing in the result."
+abbrev pub defining : Definition → Here → Run Left
+defining d h = give (record { values = none; here = add-definition d h })
 
 -- "when an expression's value is complete, its canonical length is charged (`rest`: its items together; `define`: nothing beyond its
 -- value)". 6: "a value with over 64 forms one inside another"; "then 6, 17".
@@ -52,11 +53,11 @@ one-value (cons e (cons f es)) = false
 abbrev pub Call : Type 0
 Call = ℕ → Nodes → Here → Run Left
 
--- what the values of a form's elements become. A call: "The arguments are [evaluated], in order; then the code, with the function's
--- definitions [..] and these arguments."
+-- what the values of a form's elements become. A data form: "The value is the form of the values." A call: "The arguments are, in order; then
+-- the code, with the function's definitions [..] and these arguments."
 abbrev pub finish : Call → ℕ → Here → Finish → Exprs → Run Left
 finish call r h as-form vs = complete r (only (form vs)) h
-finish call r h (as-definition m n) vs = add-definition (record { marker = m; name = n; content = value vs }) h
+finish call r h (as-definition m n) vs = defining (record { marker = m; name = n; content = value vs }) h
 finish call r h as-concat vs = join r [] vs h
 finish call r h (as-call code scope) vs =
     bind (call r code (record { place = inner; scope = scope; namespaces = h .namespaces; arguments = given vs }))
@@ -82,10 +83,11 @@ abbrev pub perform : Call → ℕ → List Meaning → Here → Plan → Run Lef
 perform call r es h (refuse w) = stop w r
 perform call r es h (leave vs) = complete r vs h
 perform call r es h (associate m n i) = complete r (ns-form m n i) (add-namespace (record { marker = m; id = i }) h)
-perform call r es h (define-function d) = add-definition d h
+perform call r es h (define-function d) = defining d h
 perform call r es h (inside k p f) = bind (in-order (drop k es) (standing p h)) λ left. finish call r h f (left .values)
 
--- "Steps: one for each expression evaluated, at its start."
+-- "Steps: one for each expression evaluated, at its start. Unevaluated heads, the insides of `ns`, a define's ref, n, and a `subst` form as head
+-- or as a define's value cost none."
 unfoldable mutual
   pub eval : Call → Node → Meaning
   eval call (leaf r a) h = before (step r) (perform call r [] h (plan (leaf r a) h))
@@ -95,7 +97,7 @@ unfoldable mutual
   eval-all call empty = []
   eval-all call (cons e es) = (λ h. eval call e h) ∷ eval-all call es
 
--- 19: "32 codes in progress", at the call; here k more may be
+-- 19: "more than [..] 32 codes in progress", at the call, "after its arguments"; here k more may be
 unfoldable pub run-code : ℕ → Call
 run-code zero r code h = stop 19 r
 run-code (suc k) r code h = in-order (eval-all (run-code k) code) h

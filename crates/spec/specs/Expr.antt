@@ -27,6 +27,7 @@ some test (a ∷ l) = test a || some test l
 
 -- Expressions
 
+-- "Array bytes count, not how the length was written. A small integer is never equal to an array."
 pub data Atom : Type 0 where
   nil : Atom
   array : List ℕ → Atom

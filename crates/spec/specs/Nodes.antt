@@ -7,7 +7,7 @@ use lib.Dec.{eqb}
 use Rattle.spec.specs.Expr.{if_then_else_, Atom, if-ref, Expr, atom, form, Exprs, none, more, rows}
 
 -- "Names of the core namespace, marker 0x20": the mixed list of drafts 04 and 05. `version` (00) is looked for at the stream's
--- beginning; `true` (01), `false` (02) and names that are not listed have no rule.
+-- beginning; like `true` (01), `false` (02) and "all other core names" it stands for itself.
 abbrev pub core : ℕ
 core = 0x20
 
@@ -54,10 +54,6 @@ unfoldable mutual
   pub number-all : ℕ → Exprs → Nodes
   number-all r none = empty
   number-all r (more e es) = cons (number r e) (number-all (r + rows e) es)
-
-abbrev pub row : Node → ℕ
-row (leaf r a) = r
-row (branch r es) = r
 
 -- a form's elements, and what follows its head
 abbrev pub elements : Node → Nodes

@@ -1,5 +1,5 @@
--- Document 01, "Evaluation": what an expression's rule says is to be done once its step is taken, or which of the refusals 13, 12, 11, 14,
--- 15, 19, "in one expression" in this order, it is given. Nothing here evaluates.
+-- Document 01, "Evaluation": what an expression's rule says is to be done once its step is taken, or which refusal it is given: "In one
+-- expression: 16, 13, 12, 11, 14, 15, 19 (for define, before its value)". Nothing here evaluates; a call's 19 follows its arguments.
 use Prim.Native.Nat.{ℕ}
 use mathlib.Core.List.{List, [], _∷_}
 use mathlib.Core.Bool.{Bool, true, false, not, _&&_, _||_}
@@ -103,14 +103,16 @@ abbrev pub expect-array : Node → (List ℕ → Plan) → Plan
 expect-array (leaf r a) f = if-array a f (refuse 11)
 expect-array (branch r es) f = refuse 11
 
+-- "n is a written small integer"
 abbrev pub expect-int : Node → (ℕ → Plan) → Plan
 expect-int (leaf r a) f = if-int a f (refuse 11)
 expect-int (branch r es) f = refuse 11
 
 -- The rules
 
--- "( ns ref id ), top level only: associates ref's marker with id, an array of 1 to 64 bytes." 14: "marker 0x20, marker borne by a
--- reference earlier in the stream, or id used before". 19: "64 namespaces".
+-- "( ns ref id ), top level only: associates ref's marker with id, an array of 1 to 64 bytes. [..] nothing inside is evaluated." 13: "ns or
+-- define elsewhere than allowed". 14: "marker 0x20, marker borne by a reference earlier in the stream, or id used before". 19: "more than
+-- [..] 64 namespaces".
 abbrev pub plan-ns : Place → Nodes → Here → Plan
 plan-ns element es h = refuse 13
 plan-ns inner es h = refuse 13
@@ -120,8 +122,9 @@ plan-ns (top earlier) es h =
     if eqb m core || some (eqb m) earlier || some (λ k. same (k .id) id) (h .namespaces) then refuse 14 else
     if leb 64 (length (h .namespaces)) then refuse 19 else associate m n id
 
--- "( define ref value )". 11: "a `rest` form is a wrong kind for define's value". 14: "marker 0x20 or not yet associated". 19: "256
--- definitions visible". "If it is a form headed by `subst`, ref becomes a function: its code".
+-- "( define ref value ) [..]. The value is evaluated where it stands, so it can't see itself. If it is a form headed by `subst`, ref becomes a
+-- function: its code". 11: "a `rest` form is a wrong kind for define's value". 14: "marker 0x20 or not yet associated". 19: "more than 256
+-- definitions visible (shadowed ones count)".
 abbrev pub plan-definition : Nodes → Here → Plan
 plan-definition es h =
     expect-two es λ a v. expect-ref a λ m n.
@@ -131,7 +134,7 @@ plan-definition es h =
     if headed-by subst v then define-function (record { marker = m; name = n; content = function (tail (elements v)) }) else
     inside 2 inner (as-definition m n)
 
--- "as an element of the top level or of a data form"
+-- "as an element of the top level or of a data form"; else 13
 abbrev pub plan-define : Place → Nodes → Here → Plan
 plan-define (top earlier) es h = plan-definition es h
 plan-define element es h = plan-definition es h
@@ -155,19 +158,20 @@ plan-rest n (given vs) = if leb n (size vs) then leave (without n vs) else refus
 abbrev pub data-form : Plan
 data-form = inside 0 element as-form
 
--- "A call is a form whose head is a reference visible as a function, or a form headed by `subst`. The head isn't evaluated." Its code runs
--- "with the function's definitions (those visible at the call for a `subst` head)".
+-- "A call is a form whose head is a reference visible as a function [..]. The head isn't evaluated." The code runs "with the function's
+-- definitions".
 abbrev pub plan-head : Found → Plan
 plan-head (latest (value vs) behind) = data-form
 plan-head (latest (function es) behind) = inside 1 inner (as-call es behind)
 plan-head nothing = data-form
 
+-- "or a form headed by `subst`"; its code runs with "those visible at the call"
 abbrev pub plan-other : Nodes → Scope → Plan
 plan-other empty scope = data-form
 plan-other (cons (leaf r a) es) scope = if-ref a (λ m n. plan-head (look-up m n scope)) data-form
 plan-other (cons (branch r fs) es) scope = if is (head-word fs) subst then inside 1 inner (as-call (tail fs) scope) else data-form
 
--- 12: "`subst` form where a value is wanted". "n is a written small integer."
+-- 12: "`subst` form where a value is wanted"
 unfoldable pub plan-form : Word → Nodes → Here → Plan
 plan-form ns es h = plan-ns (h .place) es h
 plan-form define es h = plan-define (h .place) es h

@@ -37,7 +37,7 @@ plain-length b s =
     if ltb b 0xC0 then taken (b - 0x80) s else and-then (take-bytes (b - 0xC0) s) as-length
 
 -- "A length expression is a small integer or an array [..]. A generic array may itself be the length of another." 6: "over 8 bytes
--- 03 in a row for one array"; here k more may come.
+-- 03 in a row for one array": here k more may come, 7 after the array's own.
 unfoldable pub length-expr : ℕ → List ℕ → Taken ℕ
 length-expr k [] = failed 2 []
 length-expr zero (b ∷ s) = if eqb b 0x03 then failed 6 (b ∷ s) else plain-length b s
@@ -60,7 +60,8 @@ name from m (n ∷ s) = if ltb 65535 m then failed 7 from else taken (ref m n) s
 abbrev pub as-array : List ℕ → List ℕ → Taken Atom
 as-array bs s = taken (array bs) s
 
--- the table of first bytes, but for a form's two: the atom that begins with b; 4: "reserved marker"
+-- the table of first bytes, but for a form's two: the atom that begins with b. A generic array is "a length expression, then that many
+-- bytes"; of a small integer and a small array "low six bits" count. 4: "reserved marker".
 unfoldable pub read-atom : ℕ → List ℕ → Taken Atom
 read-atom b s =
     if eqb b 0x00 then taken nil s else
@@ -112,7 +113,8 @@ pub data Verdict : Type 0 where
   wrong : ℕ → ℕ → Verdict
 
 -- "the first that arises, in reading order", of a stream that ends at `end`, with `room` rows: d forms are open, n rows are taken.
--- 2: "stream ends inside [..] an open form". "a form's opening: 6, 8". 3: "02 at top level". An atom's own refusals, "then 8".
+-- 2: "stream ends inside [..] an open form". 6: "over 64 forms open". 8: "no row left". 3: "02 at top level". "a form's opening: 6,
+-- 8"; an atom's own refusals, "then 8".
 unfoldable pub check : ℕ → ℕ → List Token → ℕ → ℕ → Verdict
 check end room [] d n = if eqb d 0 then right else wrong 2 end
 check end room (opening p ∷ ts) d n =
@@ -149,8 +151,9 @@ lists (bad w p ∷ ts) = lists ts
 abbrev pub meaning : List Token → Exprs
 meaning ts = getD (lists ts) 0 none
 
--- Rows: "in order of first bytes: kind, start, end (one past), and the row number of the first row starting at or after that end"
+-- Rows: "four numbers a row, in order of first bytes"
 
+-- "kind, start, end (one past)"
 pub record Row : Type 0 where
   pub kind : ℕ
   pub start : ℕ
@@ -177,12 +180,11 @@ rows-of (closing p ∷ ts) = rows-of ts
 rows-of (whole a p e ∷ ts) = record { kind = atom-kind a; start = p; end = e } ∷ rows-of ts
 rows-of (bad w p ∷ ts) = rows-of ts
 
--- the first row that starts at or after e, or the number of rows
+-- "the row number of the first row starting at or after that end"; the number of rows, if there is none
 unfoldable pub next-row : ℕ → List Row → ℕ
 next-row e [] = 0
 next-row e (r ∷ rs) = if leb e (r .start) then 0 else 1 + next-row e rs
 
--- "four numbers a row"
 abbrev pub row-width : ℕ
 row-width = 4
 

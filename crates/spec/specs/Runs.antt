@@ -36,7 +36,8 @@ follow es (stopped w r) f = record { events = es; end = stopped w r }
 abbrev pub bind : {A B : Type 0} → Run A → (A → Run B) → Run B
 bind run f = follow (run .events) (run .end) f
 
--- 16: "steps used up", at the "expression next to start". 17: "workspace charge doesn't fit". "Charges are never given back."
+-- "If they accept or refuse within the steps given, that is the answer; if they would take one more, it is 16", at the "expression next to
+-- start". 17: "workspace charge doesn't fit". "Charges are never given back."
 unfoldable pub cut : {A : Type 0} → ℕ → ℕ → List Event → End A → End A
 cut steps work [] end = end
 cut steps work (step r ∷ es) end =
@@ -46,6 +47,7 @@ cut steps work (charge r n ∷ es) end =
     let on = cut steps (work - n) es end in
     if ltb work n then stopped 17 r else on
 
+-- "the steps taken"
 unfoldable pub steps-in : List Event → ℕ
 steps-in [] = 0
 steps-in (step r ∷ es) = 1 + steps-in es
