@@ -1,6 +1,7 @@
 -- Laws of the calls: the ways in which Write and Evaluate answer, and what follows from an acceptance.
 use Prim.Native.Nat.{ℕ, suc, _+_, _-_, _/_, _≤_, _<_, min}
 use mathlib.Core.Path.{_≡_, refl, sym, ap, _∙_, subst}
+use mathlib.Core.Logic.{_⊎_, inl, inr}
 use mathlib.Core.List.{List, [], _∷_, _++_}
 use mathlib.Core.Bool.{Bool, true, false, not}
 use lib.ListN.{length, take, drop}
@@ -14,8 +15,10 @@ use Rattle.spec.specs.Runs.{End, done, stopped, Run, cut, steps-in}
 use Rattle.spec.specs.Evaluation.{run, result}
 use Rattle.spec.specs.Calls.{Answer, refusal, acceptance, over, filled, put-out, once-read, reading, Write, is-versioned, version-bytes, row-at, end-answer, run-answer, Evaluate}
 use Rattle.laws.specs.Demands.{Bytes, result-bytes}
-use Rattle.laws.proofs.Reading.{read-refused}
-use Rattle.laws.proofs.Runs.{charges, Within, cut-done}
+use Rattle.laws.proofs.Fits.{FitsAll}
+use Rattle.laws.proofs.Reading.{read-refused, read-readable, read-meant}
+use Rattle.laws.proofs.Runs.{Within, cut-done, StoppedBy, by-steps, by-work, by-rule, cut-stopped}
+use Rattle.laws.proofs.Values.{RuleNumber, not-rule, run-proper}
 
 -- put-out
 
@@ -38,6 +41,14 @@ put-out-accepted bs k t o h = go (ltb (length o) (length bs)) refl h
 
 pub put-out-bytes : (bs : List ℕ) (k : ℕ) (t o : List ℕ) → result-bytes (acceptance (length bs) k t (over bs o)) ≡ bs
 put-out-bytes bs k t o = take-append-seam bs (drop (length bs) o)
+
+pub put-out-place : (bs : List ℕ) (k : ℕ) (t o : List ℕ) → put-out bs k t o .place ≡ 0
+unfolding put-out
+put-out-place bs k t o = go (ltb (length o) (length bs))
+  where
+    go : (b : Bool) → (if b then refusal 18 0 t o else acceptance (length bs) k t (over bs o)) .place ≡ 0
+    go true = refl
+    go false = refl
 
 -- Write
 
@@ -63,28 +74,82 @@ written s t o b h = go (reading s t) refl h
 
 -- Evaluate
 
--- a test that holds, or not
-pub data Evaluated (s t : List ℕ) (w : ℕ) (o : List ℕ) (n : ℕ) : Answer → Type 0 where
-  unread : (v p : ℕ) → reading s t ≡ refused v p → Evaluated s t w o n (refusal v p t o)
-  unversioned : (rs : List Row) (es : Exprs) → reading s t ≡ readable rs es → not (is-versioned es) ≡ true → Evaluated s t w o n (refusal 9 0 (filled rs t) o)
-  wrong-version : (rs : List Row) (es : Exprs) → reading s t ≡ readable rs es → not (is-versioned es) ≡ false → not (same (take 6 s) version-bytes) ≡ true
-      → Evaluated s t w o n (refusal 10 0 (filled rs t) o)
-  ran : (rs : List Row) (es : Exprs) → reading s t ≡ readable rs es → not (is-versioned es) ≡ false → not (same (take 6 s) version-bytes) ≡ false
-      → Evaluated s t w o n (run-answer rs (run es) (filled rs t) w o n)
+-- how far it comes with a stream and a table: not past reading, the version's name, the version's bytes; or a run is begun
+pub data Way (s t : List ℕ) : Type 0 where
+  unread : (v p : ℕ) → reading s t ≡ refused v p → Way s t
+  unversioned : (rs : List Row) (es : Exprs) → reading s t ≡ readable rs es → not (is-versioned es) ≡ true → Way s t
+  wrong-version : (rs : List Row) (es : Exprs) → reading s t ≡ readable rs es → not (is-versioned es) ≡ false → not (same (take 6 s) version-bytes) ≡ true → Way s t
+  runs : (rs : List Row) (es : Exprs) → reading s t ≡ readable rs es → not (is-versioned es) ≡ false → not (same (take 6 s) version-bytes) ≡ false → Way s t
 
-pub evaluated : (s t : List ℕ) (w : ℕ) (o : List ℕ) (n : ℕ) → Evaluated s t w o n (Evaluate s t w o n)
-unfolding Evaluate
-evaluated s t w o n = go (reading s t) refl
+pub way : (s t : List ℕ) → Way s t
+way s t = go (reading s t) refl
   where
-    by-version : (rs : List Row) (es : Exprs) → reading s t ≡ readable rs es → (a b : Bool) → not (is-versioned es) ≡ a → not (same (take 6 s) version-bytes) ≡ b
-        → Evaluated s t w o n (if a then refusal 9 0 (filled rs t) o else if b then refusal 10 0 (filled rs t) o else run-answer rs (run es) (filled rs t) w o n)
+    by-version : (rs : List Row) (es : Exprs) → reading s t ≡ readable rs es → (a b : Bool) → not (is-versioned es) ≡ a → not (same (take 6 s) version-bytes) ≡ b → Way s t
     by-version rs es e true b h k = unversioned rs es e h
     by-version rs es e false true h k = wrong-version rs es e h k
-    by-version rs es e false false h k = ran rs es e h k
+    by-version rs es e false false h k = runs rs es e h k
 
-    go : (r : Reading) → reading s t ≡ r → Evaluated s t w o n (once-read t o (λ rs es.
-        if not (is-versioned es) then refusal 9 0 (filled rs t) o else
-        if not (same (take 6 s) version-bytes) then refusal 10 0 (filled rs t) o else
-        run-answer rs (run es) (filled rs t) w o n) r)
+    go : (r : Reading) → reading s t ≡ r → Way s t
     go (refused v p) e = unread v p e
     go (readable rs es) e = by-version rs es e (not (is-versioned es)) (not (same (take 6 s) version-bytes)) refl refl
+
+-- what is answered then
+abbrev pub answered : {s t : List ℕ} → Way s t → ℕ → List ℕ → ℕ → Answer
+answered {s} {t} (unread v p e) w o n = refusal v p t o
+answered {s} {t} (unversioned rs es e h) w o n = refusal 9 0 (filled rs t) o
+answered {s} {t} (wrong-version rs es e h k) w o n = refusal 10 0 (filled rs t) o
+answered {s} {t} (runs rs es e h k) w o n =
+    end-answer rs (steps-in (run es .events)) (filled rs t) o (cut n (min w 65536) (run es .events) (run es .end))
+
+pub evaluate-answered : (s t : List ℕ) (y : Way s t) (w : ℕ) (o : List ℕ) (n : ℕ) → Evaluate s t w o n ≡ answered y w o n
+unfolding Evaluate run-answer
+evaluate-answered s t (unread v p e) w o n = rw e
+evaluate-answered s t (unversioned rs es e h) w o n = rw (e, h)
+evaluate-answered s t (wrong-version rs es e h k) w o n = rw (e, h, k)
+evaluate-answered s t (runs rs es e h k) w o n = rw (e, h, k)
+
+-- an acceptance: the run's own end, within steps, workspace and output
+pub record Ran (s t : List ℕ) (w : ℕ) (o : List ℕ) (n : ℕ) : Type 0 where
+  pub rows : List Row
+  pub meaning : Exprs
+  pub left : List Exprs
+  pub reads : reading s t ≡ readable rows meaning
+  pub within : Within n (min w 65536) (run meaning .events) (run meaning .end) left
+  pub room : length (canonical (result left)) ≤ length o
+  pub is : Evaluate s t w o n
+      ≡ acceptance (length (canonical (result left))) (steps-in (run meaning .events)) (filled rows t) (over (canonical (result left)) o)
+
+-- what was read fits
+pub reading-fits : (s t : List ℕ) (rs : List Row) (es : Exprs) → Bytes s → reading s t ≡ readable rs es → FitsAll es
+reading-fits s t rs es b r = read-meant s (length t / 4) rs es b (read-readable s (length t / 4) rs es r) .fits
+
+-- a run that is cut is refused with 16, 17 or a rule's number
+cut-number : (s t : List ℕ) (rs : List Row) (es : Exprs) (w n v r : ℕ) → Bytes s → reading s t ≡ readable rs es
+    → cut n (min w 65536) (run es .events) (run es .end) ≡ stopped v r → (v ≡ 16) ⊎ (v ≡ 17) ⊎ RuleNumber v
+cut-number s t rs es w n v r b e h = go (cut-stopped (run es .events) (run es .end) n (min w 65536) v r h)
+  where
+    go : StoppedBy (run es .end) v r → (v ≡ 16) ⊎ (v ≡ 17) ⊎ RuleNumber v
+    go (by-steps k) = inl k
+    go (by-work k) = inr (inl k)
+    go (by-rule k) = inr (inr (run-proper es (reading-fits s t rs es b e) .stops v r k .0))
+
+not-accepted : (v : ℕ) → (v ≡ 16) ⊎ (v ≡ 17) ⊎ RuleNumber v → v ≡ 0 → ⊥
+not-accepted v (inl k) h = omega arith
+not-accepted v (inr (inl k)) h = omega arith
+not-accepted v (inr (inr k)) h = not-rule {v = 0} refl k h
+
+pub evaluate-ran : (s t : List ℕ) (w : ℕ) (o : List ℕ) (n : ℕ) → Bytes s → Evaluate s t w o n .number ≡ 0 → Ran s t w o n
+evaluate-ran s t w o n b h = go (way s t) (evaluate-answered s t (way s t) w o n) h
+  where
+    cut-ran : (rs : List Row) (es : Exprs) → reading s t ≡ readable rs es → (x : End (List Exprs)) → cut n (min w 65536) (run es .events) (run es .end) ≡ x
+        → Evaluate s t w o n ≡ end-answer rs (steps-in (run es .events)) (filled rs t) o x → Evaluate s t w o n .number ≡ 0 → Ran s t w o n
+    cut-ran rs es e (done ls) c q h =
+        let p = put-out-accepted (canonical (result ls)) (steps-in (run es .events)) (filled rs t) o (rw q at h) in
+        record { rows = rs; meaning = es; left = ls; reads = e; within = cut-done (run es .events) (run es .end) n (min w 65536) ls c; room = p .room; is = q ∙ p .is }
+    cut-ran rs es e (stopped v r) c q h = absurd (not-accepted v (cut-number s t rs es w n v r b e c) (rw q at h))
+
+    go : (y : Way s t) → Evaluate s t w o n ≡ answered y w o n → Evaluate s t w o n .number ≡ 0 → Ran s t w o n
+    go (unread v p e) q h = absurd (let z : v ≡ 0 = rw q at h in omega (arith, read-refused s (length t / 4) v p b e .0))
+    go (unversioned rs es e x) q h = absurd (let z : 9 ≡ 0 = rw q at h in omega arith)
+    go (wrong-version rs es e x y) q h = absurd (let z : 10 ≡ 0 = rw q at h in omega arith)
+    go (runs rs es e x y) q h = cut-ran rs es e (cut n (min w 65536) (run es .events) (run es .end)) refl q h

@@ -9,4 +9,5 @@ pub mod Values
 pub mod Prefix
 pub mod Calls
 pub mod Retry
+pub mod Count
 pub mod Theorems

@@ -67,7 +67,7 @@ module _ (end room : ℕ) where
       (b .0, omega (arith, a .1, b .1, l .0, l .2))
   lists-sound (bad w q ∷ ts) p d n h l c = absurd (right-bad end room ts w q d n c)
 
-stream-laid : (s : List ℕ) → Bytes s → Laid 0 (tokens 0 0 s) (length s)
+pub stream-laid : (s : List ℕ) → Bytes s → Laid 0 (tokens 0 0 s) (length s)
 stream-laid s b = subst (λ (x : ℕ). Laid 0 (tokens 0 0 s) x) (omega arith) (tokens-laid s 0 0 b (omega arith))
 
 -- how a stream is readable

@@ -1,20 +1,20 @@
 -- Two evaluations of one stream with tables of equal length, and with steps, workspace and output no smaller the second time.
 use Prim.Native.Nat.{ℕ, _/_, _≤_, min}
 use mathlib.Core.Path.{_≡_, refl, sym, ap, _∙_}
-use mathlib.Core.List.{List, [], _∷_, _++_}
-use mathlib.Core.Bool.{Bool, true, false, not}
-use lib.ListN.{length, take, drop}
+use mathlib.Core.List.{List}
+use mathlib.Core.Bool.{Bool, true, false}
+use lib.ListN.{length}
 use lib.Dec.{ltb}
-use borrow.Author.Tests.{ltb-true, ltb-false, le-ltb}
+use borrow.Author.Tests.{ltb-false, le-ltb}
 use native.Mathlib.Omega.{arith}
-use Rattle.spec.specs.Expr.{if_then_else_, same, Exprs, canonical}
-use Rattle.spec.specs.Reading.{Row, Reading, refused, readable, read}
-use Rattle.spec.specs.Runs.{End, done, stopped, Run, cut, steps-in}
+use Rattle.spec.specs.Expr.{if_then_else_, Exprs, canonical}
+use Rattle.spec.specs.Reading.{Row, read}
+use Rattle.spec.specs.Runs.{End, done, stopped, steps-in}
 use Rattle.spec.specs.Evaluation.{run, result}
-use Rattle.spec.specs.Calls.{Answer, refusal, acceptance, over, filled, put-out, once-read, reading, is-versioned, version-bytes, row-at, end-answer, run-answer, Evaluate}
+use Rattle.spec.specs.Calls.{Answer, refusal, acceptance, over, filled, put-out, reading, row-at, end-answer, Evaluate}
 use Rattle.laws.specs.Demands.{result-bytes}
 use Rattle.laws.proofs.Runs.{Kept, kept, no-steps, no-work, cut-more}
-use Rattle.laws.proofs.Calls.{PutOut, put-out-room, put-out-bytes}
+use Rattle.laws.proofs.Calls.{put-out-bytes, Way, unread, unversioned, wrong-version, runs, way, answered, evaluate-answered}
 
 -- "the same number, place, length and step count, and on acceptance the same result bytes"
 pub record Alike (a b : Answer) : Type 0 where
@@ -55,27 +55,20 @@ module _ (t t′ o o′ : List ℕ) (room : length o ≤ length o′) where
   kept-alike rs k e e′ (no-work r h) f = absurd (f .work-fits (rw h))
 
 -- both evaluations read the same
-module _ (s t t′ : List ℕ) (w w′ : ℕ) (o o′ : List ℕ) (n n′ : ℕ) (steps : n ≤ n′) (work : w ≤ w′) (room : length o ≤ length o′) where
-  answer : List ℕ → ℕ → List ℕ → ℕ → Reading → Answer
-  answer t w o n = once-read t o λ rs es.
-      if not (is-versioned es) then refusal 9 0 (filled rs t) o else
-      if not (same (take 6 s) version-bytes) then refusal 10 0 (filled rs t) o else
-      run-answer rs (run es) (filled rs t) w o n
+pub evaluate-alike : (s t t′ : List ℕ) (w w′ : ℕ) (o o′ : List ℕ) (n n′ : ℕ) → length t ≡ length t′ → n ≤ n′ → w ≤ w′ → length o ≤ length o′
+    → Final (Evaluate s t w o n) → Alike (Evaluate s t w o n) (Evaluate s t′ w′ o′ n′)
+evaluate-alike s t t′ w w′ o o′ n n′ tables steps work room f =
+    let y = way s t in
+    rw (evaluate-answered s t y w o n) (go y (rw (evaluate-answered s t y w o n) at f))
+  where
+    as-before : reading s t′ ≡ reading s t
+    as-before = ap (λ (l : ℕ). read s (l / 4)) (sym tables)
 
-  answers-alike : (r : Reading) → Final (answer t w o n r) → Alike (answer t w o n r) (answer t′ w′ o′ n′ r)
-  unfolding answer run-answer
-  answers-alike (refused v p) f = refusals-alike v p t t′ o o′
-  answers-alike (readable rs es) f = go (not (is-versioned es)) (not (same (take 6 s) version-bytes)) f
-    where
-      go : (a b : Bool) → Final (if a then refusal 9 0 (filled rs t) o else if b then refusal 10 0 (filled rs t) o else run-answer rs (run es) (filled rs t) w o n)
-          → Alike (if a then refusal 9 0 (filled rs t) o else if b then refusal 10 0 (filled rs t) o else run-answer rs (run es) (filled rs t) w o n)
-          (if a then refusal 9 0 (filled rs t′) o′ else if b then refusal 10 0 (filled rs t′) o′ else run-answer rs (run es) (filled rs t′) w′ o′ n′)
-      go true b f = refusals-alike 9 0 (filled rs t) (filled rs t′) o o′
-      go false true f = refusals-alike 10 0 (filled rs t) (filled rs t′) o o′
-      go false false f =
-          kept-alike (filled rs t) (filled rs t′) o o′ room rs (steps-in (run es .events)) _ _
-          (cut-more (run es .events) (run es .end) n n′ (min w 65536) (min w′ 65536) steps (omega arith)) f
-
-  pub evaluate-alike : length t ≡ length t′ → Final (Evaluate s t w o n) → Alike (Evaluate s t w o n) (Evaluate s t′ w′ o′ n′)
-  unfolding Evaluate answer
-  evaluate-alike h f = rw (← h) (answers-alike (read s (length t / 4)) f)
+    go : (y : Way s t) → Final (answered y w o n) → Alike (answered y w o n) (Evaluate s t′ w′ o′ n′)
+    go (unread v p e) f = rw (evaluate-answered s t′ (unread v p (as-before ∙ e)) w′ o′ n′) (refusals-alike v p t t′ o o′)
+    go (unversioned rs es e h) f = rw (evaluate-answered s t′ (unversioned rs es (as-before ∙ e) h) w′ o′ n′) (refusals-alike 9 0 (filled rs t) (filled rs t′) o o′)
+    go (wrong-version rs es e h k) f = rw (evaluate-answered s t′ (wrong-version rs es (as-before ∙ e) h k) w′ o′ n′) (refusals-alike 10 0 (filled rs t) (filled rs t′) o o′)
+    go (runs rs es e h k) f =
+        rw (evaluate-answered s t′ (runs rs es (as-before ∙ e) h k) w′ o′ n′)
+        (kept-alike (filled rs t) (filled rs t′) o o′ room rs (steps-in (run es .events)) _ _
+        (cut-more (run es .events) (run es .end) n n′ (min w 65536) (min w′ 65536) steps (omega arith)) f)

@@ -159,6 +159,11 @@ module _ (other : Row) where
   ordered-starts lo (r ∷ rs) o zero (suc j) h k = let z = starts-from (r .start + 1) rs (o .1) j (omega arith) in omega arith
   ordered-starts lo (r ∷ rs) o (suc i) (suc j) h k = ordered-starts (r .start + 1) rs (o .1) i j (omega arith) (omega arith)
 
+  pub inside-start : (end : ℕ) (rs : List Row) → Inside end rs → other .start ≤ end → (i : ℕ) → getD rs i other .start ≤ end
+  inside-start end [] o h i = h
+  inside-start end (r ∷ rs) o h zero = omega arith
+  inside-start end (r ∷ rs) o h (suc i) = inside-start end rs (o .2) h i
+
   -- the first row is row 0, or row k + 1 if it is row k of the rows behind
   first-zero : (e : ℕ) (rs : List Row) → (0 < length rs → e ≤ getD rs 0 other .start) → FirstFrom e rs other 0
   first-zero e rs h = record { before = λ i l. absurd (omega arith); among = omega arith; from = h }

@@ -48,6 +48,10 @@ abbrev pub left-by : End (List Exprs) → List Exprs
 left-by (done ls) = ls
 left-by (stopped w r) = []
 
+-- the values that a stream leaves, if it is accepted
+abbrev pub values-of : List ℕ → Exprs
+values-of s = result (left-by (run (meaning-of s) .end))
+
 -- "The bytes that they give are the canonical bytes of the values that they leave in the result, in order"
 abbrev pub bytes-of-first : ℕ → List ℕ → List ℕ
 bytes-of-first q s = canonical (result (take q (left-by (run (meaning-of s) .end))))
