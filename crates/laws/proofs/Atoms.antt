@@ -1,18 +1,19 @@
 -- Laws of `read-atom`: an atom that is read fits and has no more canonical bytes than it was written with, a refusal's place is in the
 -- stream, and the canonical bytes of an atom that fits are read as that atom.
 use Prim.Native.Nat.{ℕ, zero, suc, _+_, _-_, _*_, _/_, _%_, _≤_, _<_}
-use mathlib.Core.Path.{_≡_, refl, sym, ap, _∙_, subst}
+use mathlib.Core.Path.{_≡_, refl, ap, _∙_}
 use mathlib.Core.List.{List, [], _∷_, _++_, append-assoc}
 use mathlib.Core.Bool.{Bool, true, false}
 use lib.ListN.{length, take, drop, length-append, length-take, length-drop, replicate, length-replicate}
 use lib.Seq.{take-at, drop-at}
 use lib.Dec.{ltb, leb, eqb}
-use borrow.Author.Tests.{ltb-true, ltb-false, leb-true, leb-false, eqb-true, eqb-false, lt-ltb, le-ltb, le-leb, ne-eqb, eq-eqb}
+use borrow.Author.Tests.{ltb-true, ltb-false, leb-true, eqb-true, eqb-false, lt-ltb, le-ltb, le-leb, ne-eqb}
 use native.Mathlib.Omega.{arith}
 use Rattle.spec.specs.Expr.{if_then_else_, Atom, nil, array, int, ref, array-head, marker-bytes, atom-bytes}
 use Rattle.spec.specs.Reading.{Taken, taken, failed, and-then, take-bytes, natural, as-length, plain-length, length-expr, marker, name, as-array, read-atom}
 use Rattle.laws.specs.Demands.{Bytes}
 use Rattle.laws.proofs.Fits.{bytes-take, bytes-drop, Fits}
+use Rattle.laws.proofs.Canonical.{Head, one-byte, three-bytes, four-bytes, array-head-is, Mark, short, long, marker-bytes-are}
 
 -- What was read off at most n bytes: a thing of which P holds with the number of bytes left, or one of reading's refusals
 abbrev pub Off : {A : Type 0} → (A → ℕ → Type 0) → ℕ → Taken A → Type 0
@@ -46,32 +47,28 @@ abbrev head-size : ℕ → ℕ
 head-size n = length (array-head n)
 
 head-small : (n : ℕ) → n < 64 → head-size n ≡ 1
-unfolding array-head
-head-small n h = rw (lt-ltb n 64 h)
-
-head-middle : (n : ℕ) → n < 256 → head-size n ≤ 3
-unfolding array-head
-head-middle n h = go (ltb n 64)
+head-small n h = go (array-head-is n)
   where
-    go : (b : Bool) → length (if b then (0xC0 + n) ∷ [] else if ltb n 256 then 0x03 ∷ 0xC1 ∷ n ∷ [] else 0x03 ∷ 0xC2 ∷ (n / 256) ∷ (n % 256) ∷ []) ≤ 3
-    go true = omega arith
-    go false = rw (lt-ltb n 256 h) (omega arith)
+    go : {hs : List ℕ} → Head n hs → length hs ≡ 1
+    go (one-byte l) = refl
+    go (three-bytes k l) = absurd (omega arith)
+    go (four-bytes k) = absurd (omega arith)
 
-head-any : (n : ℕ) → head-size n ≤ 4
-unfolding array-head
-head-any n = go (ltb n 64) (ltb n 256)
+-- it has one at least, four at most, and three at most for a length of one byte
+head-bounds : (n : ℕ) → (1 ≤ head-size n) × (head-size n ≤ 4) × (n < 256 → head-size n ≤ 3)
+head-bounds n = go (array-head-is n)
   where
-    go : (b c : Bool) → length (if b then (0xC0 + n) ∷ [] else if c then 0x03 ∷ 0xC1 ∷ n ∷ [] else 0x03 ∷ 0xC2 ∷ (n / 256) ∷ (n % 256) ∷ []) ≤ 4
-    go true c = omega arith
-    go false true = omega arith
-    go false false = omega arith
+    go : {hs : List ℕ} → Head n hs → (1 ≤ length hs) × (length hs ≤ 4) × (n < 256 → length hs ≤ 3)
+    go (one-byte l) = (omega arith, omega arith, λ h. omega arith)
+    go (three-bytes k l) = (omega arith, omega arith, λ h. omega arith)
+    go (four-bytes k) = (omega arith, omega arith, λ h. absurd (omega arith))
 
 -- a length written in so many bytes
 head-natural : (bs : List ℕ) → Bytes bs → head-size (natural 0 bs) ≤ length bs + 2
 unfolding natural
 head-natural [] b = omega (arith, head-small 0 (omega arith))
-head-natural (x ∷ []) b = omega (arith, head-middle (0 * 256 + x) (omega (arith, b .0)))
-head-natural (x ∷ y ∷ s) b = omega (arith, head-any (natural ((0 * 256 + x) * 256 + y) s))
+head-natural (x ∷ []) b = head-bounds (0 * 256 + x) .2 (omega (arith, b .0))
+head-natural (x ∷ y ∷ s) b = omega (arith, head-bounds (natural ((0 * 256 + x) * 256 + y) s) .1)
 
 -- a length that begins with the first of `total` bytes
 abbrev Length : ℕ → ℕ → ℕ → Type 0
@@ -88,15 +85,6 @@ off-plain b s h bs =
     off-choice (Length (suc (length s))) (suc (length s)) (ltb b 0xC0) _ _
     (λ e′. (omega (arith, head-small (b - 0x80) (omega (arith, ltb-true b 0xC0 e′))), bs, omega arith))
     (λ e′. off-as-length (b - 0xC0) (suc (length s)) (suc (length s)) s (omega arith) (omega arith) (take-bytes (b - 0xC0) s) (off-take (b - 0xC0) (suc (length s)) s bs (omega arith)))
-
-head-some : (n : ℕ) → 1 ≤ head-size n
-unfolding array-head
-head-some n = go (ltb n 64) (ltb n 256)
-  where
-    go : (b c : Bool) → 1 ≤ length (if b then (0xC0 + n) ∷ [] else if c then 0x03 ∷ 0xC1 ∷ n ∷ [] else 0x03 ∷ 0xC2 ∷ (n / 256) ∷ (n % 256) ∷ [])
-    go true c = omega arith
-    go false true = omega arith
-    go false false = omega arith
 
 -- the bytes of a generic array whose length begins with the first of `total` bytes
 abbrev Generic : ℕ → List ℕ → ℕ → Type 0
@@ -121,7 +109,7 @@ off-length (suc k) (b ∷ s) bs =
     (λ e. off-plain b s (bs .0) (bs .1))
   where
     as-number : (x : Taken (List ℕ)) → Off (Generic (length s)) (length s) x → Off (Length (suc (length s))) (suc (length s)) (and-then x as-length)
-    as-number (taken ds t) o = (omega (arith, head-natural ds (o .0 .0), head-some (length ds), o .0 .1), o .1, omega (arith, o .2))
+    as-number (taken ds t) o = (omega (arith, head-natural ds (o .0 .0), head-bounds (length ds) .0, o .0 .1), o .1, omega (arith, o .2))
     as-number (failed w t) o = omega arith
 
 -- markers
@@ -148,13 +136,14 @@ off-marker m (b ∷ s) bs =
 abbrev pub Read : ℕ → Atom → ℕ → Type 0
 Read total a left = Fits a × (length (atom-bytes a) + left ≤ total)
 
-marker-size-small : (m n : ℕ) → m < 0x7F → length (atom-bytes (ref m n)) ≡ 2
-unfolding atom-bytes marker-bytes
-marker-size-small m n h = rw (lt-ltb m 0x7F h)
-
-marker-size-large : (m n : ℕ) → 0x7F ≤ m → length (atom-bytes (ref m n)) ≡ (m - 0x7F) / 0xFF + 3
-unfolding atom-bytes marker-bytes
-marker-size-large m n h = rw (le-ltb m 0x7F h) (simp (length-append, length-replicate) (omega arith))
+-- a reference has its marker's bytes and one more
+reference-size : (m n : ℕ) → (m < 0x7F → length (atom-bytes (ref m n)) ≡ 2) × (0x7F ≤ m → length (atom-bytes (ref m n)) ≡ (m - 0x7F) / 0xFF + 3)
+unfolding atom-bytes
+reference-size m n = go (marker-bytes-are m)
+  where
+    go : {ms : List ℕ} → Mark m ms → (m < 0x7F → length (ms ++ (n ∷ [])) ≡ 2) × (0x7F ≤ m → length (ms ++ (n ∷ [])) ≡ (m - 0x7F) / 0xFF + 3)
+    go (short l) = (λ h. refl, λ h. absurd (omega arith))
+    go (long l) = (λ h. absurd (omega arith), λ h. simp (length-append, length-replicate) (omega arith))
 
 -- a name byte after a marker, in a reference of so many bytes
 off-name : (total m : ℕ) (from s : List ℕ) → 16 ≤ m → Bytes s → length s ≤ total → length from ≤ total
@@ -187,7 +176,7 @@ off-large b s bs = go (marker 0x7F s) (off-marker 0x7F s bs)
     go : (x : Taken ℕ) → Off (Sum 0x7F (length s)) (length s) x → Off (Read (suc (length s))) (suc (length s)) (and-then x (name (b ∷ s)))
     go (taken m t) o =
         off-name (suc (length s)) m (b ∷ s) t (omega (arith, o .0 .0)) (o .1) (omega (arith, o .2)) (omega arith)
-        (λ n. omega (arith, marker-size-large m n (o .0 .0), o .0 .1))
+        (λ n. omega (arith, reference-size m n .1 (o .0 .0), o .0 .1))
     go (failed w t) o = omega arith
 
 pub off-atom : (b : ℕ) (s : List ℕ) → b < 256 → Bytes s → Off (Read (suc (length s))) (suc (length s)) (read-atom b s)
@@ -198,7 +187,7 @@ off-atom b s h bs =
     off-choice (Read n) n (eqb b 0x03) _ _ (λ e. off-array (length s) (and-then (length-expr 7 s) take-bytes) (off-generic (length s) (length-expr 7 s) (off-length 7 s bs))) λ e3.
     off-choice (Read n) n (ltb b 0x10) _ _ (λ e. omega arith) λ e10.
     off-choice (Read n) n (ltb b 0x7F) _ _
-    (λ e. off-name n b (b ∷ s) s (ltb-false b 0x10 e10) bs (omega arith) (omega arith) (λ k. omega (arith, marker-size-small b k (ltb-true b 0x7F e)))) λ e7F.
+    (λ e. off-name n b (b ∷ s) s (ltb-false b 0x10 e10) bs (omega arith) (omega arith) (λ k. omega (arith, reference-size b k .0 (ltb-true b 0x7F e)))) λ e7F.
     off-choice (Read n) n (ltb b 0x80) _ _ (λ e. off-large b s bs) λ e80.
     off-choice (Read n) n (ltb b 0xC0) _ _ (λ e. ((omega (arith, ltb-true b 0xC0 e), omega arith), bs, omega arith)) λ eC0.
     off-array (length s) (take-bytes (b - 0xC0) s) (off-small-array (b - 0xC0) s (omega arith) bs)
@@ -263,6 +252,10 @@ unfolding marker
 marker-sum zero m b s h = rw (ne-eqb b 0xFF (λ e. omega arith)) (ap (λ (x : ℕ). taken x s) (omega arith))
 marker-sum (suc k) m b s h = marker-sum k (m + 0xFF) b s h ∙ ap (λ (x : ℕ). taken x s) (omega arith)
 
+read-long : (n m : ℕ) (x s : List ℕ) → m ≤ 65535 → marker 0x7F x ≡ taken m (n ∷ s) → read-atom 0x7F x ≡ taken (ref m n) s
+unfolding read-atom name
+read-long n m x s k q = rw (q, le-ltb 65535 m k)
+
 -- the first byte of an atom's canonical bytes, and that the atom is read from them
 pub record Front (a : Atom) : Type 0 where
   pub byte : ℕ
@@ -273,14 +266,14 @@ pub record Front (a : Atom) : Type 0 where
   pub reads : (s : List ℕ) → read-atom byte (others ++ s) ≡ taken a s
 
 front-array : (bs : List ℕ) → Front (array bs)
-unfolding atom-bytes array-head
-front-array bs = go (ltb (length bs) 64) refl (ltb (length bs) 256) refl
+unfolding atom-bytes natural
+front-array bs = go (array-head-is (length bs)) refl
   where
     n : ℕ
     n = length bs
 
-    go : (b : Bool) → ltb n 64 ≡ b → (c : Bool) → ltb n 256 ≡ c → Front (array bs)
-    go true e c e′ = record {
+    go : {hs : List ℕ} → Head n hs → array-head n ≡ hs → Front (array bs)
+    go (one-byte l) e = record {
       byte = 0xC0 + n;
       others = bs;
       is = rw e;
@@ -288,53 +281,49 @@ front-array bs = go (ltb (length bs) 64) refl (ltb (length bs) 256) refl
       no-closing = λ h. omega arith;
       reads = λ s. read-small-array (0xC0 + n) (bs ++ s) (omega arith) ∙ ap (λ x. and-then x as-array) (take-front (0xC0 + n - 0xC0) bs s (omega arith));
     }
-    go false e true e′ = record {
+    go (three-bytes k l) e = record {
       byte = 0x03;
       others = 0xC1 ∷ n ∷ bs;
-      is = rw (e, e′);
+      is = rw e;
       no-opening = λ h. omega arith;
       no-closing = λ h. omega arith;
-      reads = λ s. unfold natural in read-generic 0xC1 (n ∷ []) bs s (omega arith) refl (omega arith);
+      reads = λ s. read-generic 0xC1 (n ∷ []) bs s (omega arith) refl (omega arith);
     }
-    go false e false e′ = record {
+    go (four-bytes k) e = record {
       byte = 0x03;
       others = 0xC2 ∷ (n / 256) ∷ (n % 256) ∷ bs;
-      is = rw (e, e′);
+      is = rw e;
       no-opening = λ h. omega arith;
       no-closing = λ h. omega arith;
-      reads = λ s. unfold natural in read-generic 0xC2 ((n / 256) ∷ (n % 256) ∷ []) bs s (omega arith) refl (omega arith);
+      reads = λ s. read-generic 0xC2 ((n / 256) ∷ (n % 256) ∷ []) bs s (omega arith) refl (omega arith);
     }
 
 front-ref : (m n : ℕ) → 16 ≤ m → m ≤ 65535 → Front (ref m n)
-unfolding atom-bytes marker-bytes name
-front-ref m n h k = go (ltb m 0x7F) refl
+unfolding atom-bytes name
+front-ref m n h k = go (marker-bytes-are m) refl
   where
     -- not above 65,535, so that a reference is made
     kept : ltb 65535 m ≡ false
     kept = le-ltb 65535 m k
 
-    long : (x s : List ℕ) → marker 0x7F x ≡ taken m (n ∷ s) → read-atom 0x7F x ≡ taken (ref m n) s
-    long x s q = unfold read-atom in rw (q, kept)
-
-    go : (b : Bool) → ltb m 0x7F ≡ b → Front (ref m n)
-    go true e = record {
+    go : {ms : List ℕ} → Mark m ms → marker-bytes m ≡ ms → Front (ref m n)
+    go (short l) e = record {
       byte = m;
       others = n ∷ [];
       is = rw e;
       no-opening = λ z. omega arith;
       no-closing = λ z. omega arith;
-      reads = λ s. read-reference m (n ∷ s) h (ltb-true m 0x7F e) ∙ rw kept;
+      reads = λ s. read-reference m (n ∷ s) h l ∙ rw kept;
     }
-    go false e = record {
+    go (long l) e = record {
       byte = 0x7F;
       others = (replicate ((m - 0x7F) / 0xFF) 0xFF ++ (((m - 0x7F) % 0xFF) ∷ [])) ++ (n ∷ []);
       is = rw e;
       no-opening = λ z. omega arith;
       no-closing = λ z. omega arith;
       reads = λ s.
-          long _ s
-          (simp append-assoc
-          (marker-sum ((m - 0x7F) / 0xFF) 0x7F ((m - 0x7F) % 0xFF) (n ∷ s) (omega arith) ∙ ap (λ (x : ℕ). taken x (n ∷ s)) (omega (arith, ltb-false m 0x7F e))));
+          read-long n m _ s k
+          (simp append-assoc (marker-sum ((m - 0x7F) / 0xFF) 0x7F ((m - 0x7F) % 0xFF) (n ∷ s) (omega arith) ∙ ap (λ (x : ℕ). taken x (n ∷ s)) (omega arith)));
     }
 
 pub front : (a : Atom) → Fits a → Front a

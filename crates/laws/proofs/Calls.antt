@@ -1,19 +1,19 @@
 -- Laws of the calls: the ways in which Write and Evaluate answer, and what follows from an acceptance.
-use Prim.Native.Nat.{ℕ, suc, _+_, _-_, _/_, _≤_, _<_, min}
-use mathlib.Core.Path.{_≡_, refl, sym, ap, _∙_, subst}
+use Prim.Native.Nat.{ℕ, _/_, _≤_, _<_, min}
+use mathlib.Core.Path.{_≡_, refl, ap, _∙_}
 use mathlib.Core.Logic.{_⊎_, inl, inr}
-use mathlib.Core.List.{List, [], _∷_, _++_}
+use mathlib.Core.List.{List}
 use mathlib.Core.Bool.{Bool, true, false, not}
 use lib.ListN.{length, take, drop}
 use lib.Seq.{take-append-seam}
 use lib.Dec.{ltb}
-use borrow.Author.Tests.{ltb-false, le-ltb}
+use borrow.Author.Tests.{ltb-true, ltb-false, le-ltb}
 use native.Mathlib.Omega.{arith}
 use Rattle.spec.specs.Expr.{if_then_else_, same, Exprs, canonical}
-use Rattle.spec.specs.Reading.{Row, Reading, refused, readable, read}
-use Rattle.spec.specs.Runs.{End, done, stopped, Run, cut, steps-in}
+use Rattle.spec.specs.Reading.{Row, Reading, refused, readable}
+use Rattle.spec.specs.Runs.{End, done, stopped, cut, steps-in}
 use Rattle.spec.specs.Evaluation.{run, result}
-use Rattle.spec.specs.Calls.{Answer, refusal, acceptance, over, filled, put-out, once-read, reading, Write, is-versioned, version-bytes, row-at, end-answer, run-answer, Evaluate}
+use Rattle.spec.specs.Calls.{Answer, refusal, acceptance, over, filled, put-out, once-read, reading, Write, is-versioned, version-bytes, end-answer, run-answer, Evaluate}
 use Rattle.laws.specs.Demands.{Bytes, result-bytes}
 use Rattle.laws.proofs.Fits.{FitsAll}
 use Rattle.laws.proofs.Reading.{read-refused, read-readable, read-meant}
@@ -22,33 +22,33 @@ use Rattle.laws.proofs.Values.{RuleNumber, not-rule, run-proper}
 
 -- put-out
 
--- bytes that are put out: they fit, and the answer is an acceptance
-pub record PutOut (bs : List ℕ) (k : ℕ) (t o : List ℕ) : Type 0 where
-  pub room : length bs ≤ length o
-  pub is : put-out bs k t o ≡ acceptance (length bs) k t (over bs o)
+pub data Put (bs : List ℕ) (k : ℕ) (t o : List ℕ) : Answer → Type 0 where
+  too-short : length o < length bs → Put bs k t o (refusal 18 0 t o)
+  fits : length bs ≤ length o → Put bs k t o (acceptance (length bs) k t (over bs o))
 
-pub put-out-room : (bs : List ℕ) (k : ℕ) (t o : List ℕ) → length bs ≤ length o → PutOut bs k t o
+pub put-out-is : (bs : List ℕ) (k : ℕ) (t o : List ℕ) → Put bs k t o (put-out bs k t o)
 unfolding put-out
-put-out-room bs k t o h = record { room = h; is = rw (le-ltb (length o) (length bs) h) }
-
-pub put-out-accepted : (bs : List ℕ) (k : ℕ) (t o : List ℕ) → put-out bs k t o .number ≡ 0 → PutOut bs k t o
-unfolding put-out
-put-out-accepted bs k t o h = go (ltb (length o) (length bs)) refl h
+put-out-is bs k t o = go (ltb (length o) (length bs)) refl
   where
-    go : (b : Bool) → ltb (length o) (length bs) ≡ b → (if b then refusal 18 0 t o else acceptance (length bs) k t (over bs o)) .number ≡ 0 → PutOut bs k t o
-    go true e h = absurd (omega arith)
-    go false e h = put-out-room bs k t o (ltb-false (length o) (length bs) e)
+    go : (b : Bool) → ltb (length o) (length bs) ≡ b → Put bs k t o (if b then refusal 18 0 t o else acceptance (length bs) k t (over bs o))
+    go true e = too-short (ltb-true (length o) (length bs) e)
+    go false e = fits (ltb-false (length o) (length bs) e)
+
+pub put-out-room : (bs : List ℕ) (k : ℕ) (t o : List ℕ) → length bs ≤ length o → put-out bs k t o ≡ acceptance (length bs) k t (over bs o)
+unfolding put-out
+put-out-room bs k t o h = rw (le-ltb (length o) (length bs) h)
+
+-- an acceptance had room
+put-room : {bs : List ℕ} {k : ℕ} {t o : List ℕ} {a : Answer} → Put bs k t o a → a .number ≡ 0 → length bs ≤ length o
+put-room (too-short l) h = absurd (omega arith)
+put-room (fits l) h = l
+
+pub put-place : {bs : List ℕ} {k : ℕ} {t o : List ℕ} {a : Answer} → Put bs k t o a → a .place ≡ 0
+put-place (too-short l) = refl
+put-place (fits l) = refl
 
 pub put-out-bytes : (bs : List ℕ) (k : ℕ) (t o : List ℕ) → result-bytes (acceptance (length bs) k t (over bs o)) ≡ bs
 put-out-bytes bs k t o = take-append-seam bs (drop (length bs) o)
-
-pub put-out-place : (bs : List ℕ) (k : ℕ) (t o : List ℕ) → put-out bs k t o .place ≡ 0
-unfolding put-out
-put-out-place bs k t o = go (ltb (length o) (length bs))
-  where
-    go : (b : Bool) → (if b then refusal 18 0 t o else acceptance (length bs) k t (over bs o)) .place ≡ 0
-    go true = refl
-    go false = refl
 
 -- Write
 
@@ -56,7 +56,6 @@ pub record Written (s t o : List ℕ) : Type 0 where
   pub rows : List Row
   pub meaning : Exprs
   pub reads : reading s t ≡ readable rows meaning
-  pub out : PutOut (canonical meaning) 0 (filled rows t) o
   pub is : Write s t o ≡ acceptance (length (canonical meaning)) 0 (filled rows t) (over (canonical meaning) o)
 
 pub written : (s t o : List ℕ) → Bytes s → Write s t o .number ≡ 0 → Written s t o
@@ -69,8 +68,8 @@ written s t o b h = go (reading s t) refl h
     go : (r : Reading) → reading s t ≡ r → answer r .number ≡ 0 → Written s t o
     go (refused w p) e h = absurd (omega (arith, read-refused s (length t / 4) w p b e .0))
     go (readable rs es) e h =
-        let p = put-out-accepted (canonical es) 0 (filled rs t) o h in
-        record { rows = rs; meaning = es; reads = e; out = p; is = ap answer e ∙ p .is }
+        let room = put-room (put-out-is (canonical es) 0 (filled rs t) o) h in
+        record { rows = rs; meaning = es; reads = e; is = ap answer e ∙ put-out-room (canonical es) 0 (filled rs t) o room }
 
 -- Evaluate
 
@@ -115,7 +114,6 @@ pub record Ran (s t : List ℕ) (w : ℕ) (o : List ℕ) (n : ℕ) : Type 0 wher
   pub left : List Exprs
   pub reads : reading s t ≡ readable rows meaning
   pub within : Within n (min w 65536) (run meaning .events) (run meaning .end) left
-  pub room : length (canonical (result left)) ≤ length o
   pub is : Evaluate s t w o n
       ≡ acceptance (length (canonical (result left))) (steps-in (run meaning .events)) (filled rows t) (over (canonical (result left)) o)
 
@@ -144,8 +142,8 @@ evaluate-ran s t w o n b h = go (way s t) (evaluate-answered s t (way s t) w o n
     cut-ran : (rs : List Row) (es : Exprs) → reading s t ≡ readable rs es → (x : End (List Exprs)) → cut n (min w 65536) (run es .events) (run es .end) ≡ x
         → Evaluate s t w o n ≡ end-answer rs (steps-in (run es .events)) (filled rs t) o x → Evaluate s t w o n .number ≡ 0 → Ran s t w o n
     cut-ran rs es e (done ls) c q h =
-        let p = put-out-accepted (canonical (result ls)) (steps-in (run es .events)) (filled rs t) o (rw q at h) in
-        record { rows = rs; meaning = es; left = ls; reads = e; within = cut-done (run es .events) (run es .end) n (min w 65536) ls c; room = p .room; is = q ∙ p .is }
+        let room = put-room (put-out-is (canonical (result ls)) (steps-in (run es .events)) (filled rs t) o) (rw q at h) in
+        record { rows = rs; meaning = es; left = ls; reads = e; within = cut-done (run es .events) (run es .end) n (min w 65536) ls c; is = q ∙ put-out-room (canonical (result ls)) (steps-in (run es .events)) (filled rs t) o room }
     cut-ran rs es e (stopped v r) c q h = absurd (not-accepted v (cut-number s t rs es w n v r b e c) (rw q at h))
 
     go : (y : Way s t) → Evaluate s t w o n ≡ answered y w o n → Evaluate s t w o n .number ≡ 0 → Ran s t w o n

@@ -2,36 +2,32 @@
 use Prim.Native.Nat.{ℕ, zero, suc, _/_, _≤_, _<_, min}
 use mathlib.Core.Path.{_≡_, refl, sym, ap, _∙_}
 use mathlib.Core.List.{List, [], _∷_, map}
-use mathlib.Core.Bool.{Bool, true, false, not}
-use lib.ListN.{length, take, getD, length-map, List·getD-map}
+use mathlib.Core.Bool.{Bool, true, false}
+use lib.ListN.{length, getD, length-map, List·getD-map}
 use lib.Dec.{ltb}
 use borrow.Author.Tests.{ltb-true, ltb-false}
 use native.Mathlib.Omega.{arith}
-use Rattle.spec.specs.Expr.{if_then_else_, same, Exprs, canonical}
-use Rattle.spec.specs.Reading.{Row, refused, readable}
+use Rattle.spec.specs.Expr.{Exprs, canonical}
+use Rattle.spec.specs.Reading.{Row}
 use Rattle.spec.specs.Runs.{End, done, stopped, cut, steps-in}
 use Rattle.spec.specs.Evaluation.{run, result}
-use Rattle.spec.specs.Calls.{Answer, refusal, acceptance, over, filled, put-out, reading, is-versioned, version-bytes, row-at, end-answer, run-answer, Evaluate}
+use Rattle.spec.specs.Calls.{Answer, filled, row-at, end-answer, Evaluate}
 use Rattle.laws.specs.Demands.{Bytes, steps-within, Steps}
 use Rattle.laws.proofs.Reading.{read-refused}
 use Rattle.laws.proofs.Runs.{steps-enough, steps-short, steps-own}
 use Rattle.laws.proofs.Values.{not-rule, run-proper}
-use Rattle.laws.proofs.Calls.{Way, unread, unversioned, wrong-version, runs, way, answered, evaluate-answered, reading-fits}
+use Rattle.laws.proofs.Calls.{Put, too-short, fits, put-out-is, Way, unread, unversioned, wrong-version, runs, way, answered, evaluate-answered, reading-fits}
 
 -- a refusal counts nothing
 abbrev pub Counted : Answer → Type 0
 Counted a = (a .number ≡ 0 → ⊥) → a .steps ≡ 0
 
-put-out-counted : (bs : List ℕ) (k : ℕ) (t o : List ℕ) → Counted (put-out bs k t o)
-unfolding put-out
-put-out-counted bs k t o = go (ltb (length o) (length bs))
-  where
-    go : (b : Bool) → Counted (if b then refusal 18 0 t o else acceptance (length bs) k t (over bs o))
-    go true h = refl
-    go false h = absurd (h refl)
+put-counted : {bs : List ℕ} {k : ℕ} {t o : List ℕ} {a : Answer} → Put bs k t o a → Counted a
+put-counted (too-short l) h = refl
+put-counted (fits l) h = absurd (h refl)
 
 end-counted : (rs : List Row) (k : ℕ) (t o : List ℕ) (x : End (List Exprs)) → Counted (end-answer rs k t o x)
-end-counted rs k t o (done ls) h = put-out-counted (canonical (result ls)) k t o h
+end-counted rs k t o (done ls) h = put-counted (put-out-is (canonical (result ls)) k t o) h
 end-counted rs k t o (stopped v r) h = refl
 
 way-counted : (s t : List ℕ) (y : Way s t) (w : ℕ) (o : List ℕ) (n : ℕ) → Counted (answered y w o n)
@@ -98,13 +94,9 @@ steps-short-refused s t w o n h =
     let l = steps-stepped s t y w in
     rw (evaluate-answered s t y w o n, l) (way-short s t y w o n (rw l at h))
 
-put-out-number : (bs : List ℕ) (k : ℕ) (t o : List ℕ) → put-out bs k t o .number ≡ 16 → ⊥
-unfolding put-out
-put-out-number bs k t o = go (ltb (length o) (length bs))
-  where
-    go : (b : Bool) → (if b then refusal 18 0 t o else acceptance (length bs) k t (over bs o)) .number ≡ 16 → ⊥
-    go true h = omega arith
-    go false h = omega arith
+put-number : {bs : List ℕ} {k : ℕ} {t o : List ℕ} {a : Answer} → Put bs k t o a → a .number ≡ 16 → ⊥
+put-number (too-short l) h = omega arith
+put-number (fits l) h = omega arith
 
 way-sixteen : (s t : List ℕ) (y : Way s t) (w : ℕ) (o : List ℕ) (n : ℕ) → Bytes s → answered y w o n .number ≡ 16 → n < length (stepped y w)
 way-sixteen s t (unread v p e) w o n b h = absurd (omega (arith, read-refused s (length t / 4) v p b e .1))
@@ -117,7 +109,7 @@ way-sixteen s t (runs rs es e x y) w o n b h = rw (length-map l (λ r. row-at rs
 
     -- it would be the run's own end
     own : (z : End (List Exprs)) → cut (length l) (min w 65536) (run es .events) (run es .end) ≡ z → end-answer rs (steps-in (run es .events)) (filled rs t) o z .number ≡ 16 → ⊥
-    own (done ls) c k = put-out-number (canonical (result ls)) (steps-in (run es .events)) (filled rs t) o k
+    own (done ls) c k = put-number (put-out-is (canonical (result ls)) (steps-in (run es .events)) (filled rs t) o) k
     own (stopped v r) c k =
         not-rule {v = 16} {w = 16} refl
         (run-proper es (reading-fits s t rs es b e) .stops 16 r (steps-own (run es .events) (run es .end) (min w 65536) r (c ∙ ap (λ (q : ℕ). stopped q r) k)) .0) refl

@@ -1,9 +1,9 @@
 pub mod Fits
+pub mod Canonical
 pub mod Atoms
 pub mod Tokens
 pub mod Rows
 pub mod Reading
-pub mod Exprs
 pub mod Runs
 pub mod Values
 pub mod Prefix

@@ -1,13 +1,14 @@
--- The first q expressions of the top level leave the same whatever follows them: the run of these alone ends as the whole run does.
+-- The first q expressions of the top level leave the same whatever follows them: the run of these alone ends as the whole run does. And
+-- laws of `result`.
 use Prim.Native.Nat.{ℕ, zero, suc, _+_}
-use mathlib.Core.Path.{_≡_, refl, sym, ap, _∙_}
+use mathlib.Core.Path.{_≡_, refl, ap, _∙_}
 use mathlib.Core.List.{List, [], _∷_, _++_}
-use lib.ListN.{take}
-use Rattle.spec.specs.Expr.{Exprs, none, more, first, rows}
+use lib.ListN.{take, drop}
+use Rattle.spec.specs.Expr.{Exprs, none, more, append, first, rows}
 use Rattle.spec.specs.Nodes.{number, number-all, markers}
 use Rattle.spec.specs.Runs.{done}
 use Rattle.spec.specs.Plan.{top, Here}
-use Rattle.spec.specs.Evaluation.{standing, eval, run-code, top-level, run}
+use Rattle.spec.specs.Evaluation.{standing, eval, run-code, top-level, run, result}
 use Rattle.laws.proofs.Runs.{bind-end, bind-done}
 
 top-level-first : (q : ℕ) (es : Exprs) (r : ℕ) (earlier : List ℕ) (h : Here) (ls : List Exprs)
@@ -28,3 +29,15 @@ top-level-first (suc q) (more x es) r earlier h ls e =
 pub run-first : (q : ℕ) (es : Exprs) (ls : List Exprs) → run es .end ≡ done ls → run (first q es) .end ≡ done (take q ls)
 unfolding run
 run-first q es ls e = top-level-first q es 0 [] _ ls e
+
+append-append : (es fs gs : Exprs) → append (append es fs) gs ≡ append es (append fs gs)
+unfolding append
+append-append none fs gs = refl
+append-append (more e es) fs gs = ap (more e) (append-append es fs gs)
+
+-- the result in two parts
+pub result-split : (q : ℕ) (ls : List Exprs) → result ls ≡ append (result (take q ls)) (result (drop q ls))
+unfolding result append
+result-split zero ls = refl
+result-split (suc q) [] = refl
+result-split (suc q) (vs ∷ ls) = rw (append-append vs (result (take q ls)) (result (drop q ls))) (ap (append vs) (result-split q ls))

@@ -1,15 +1,15 @@
 -- Laws of `read`: what holds of a meaning that was read, and that the canonical bytes of such a meaning are read as that meaning.
-use Prim.Native.Nat.{ℕ, zero, suc, _+_, _-_, _≤_, _<_}
+use Prim.Native.Nat.{ℕ, zero, suc, _+_, _-_, _≤_}
 use mathlib.Core.Path.{_≡_, refl, sym, ap, _∙_, subst}
 use mathlib.Core.List.{List, [], _∷_, _++_, append-assoc, append-nil}
 use mathlib.Core.Bool.{Bool, true, false}
 use lib.ListN.{length, getD, length-append}
-use lib.Dec.{ltb, leb, eqb}
+use lib.Dec.{ltb}
 use borrow.Author.Tests.{ltb-false, le-ltb, lt-leb, ne-eqb}
 use native.Mathlib.Omega.{arith}
 use native.Mathlib.Numerals.{add-one}
 use Rattle.spec.specs.Expr.{if_then_else_, Atom, atom-bytes, Expr, atom, form, Exprs, none, more, rows, rows-all, depth, deepest, bytes, canonical}
-use Rattle.spec.specs.Reading.{taken, read-atom, Token, opening, closing, whole, bad, atom-token, token, further, tokens, Verdict, right, wrong, check, put, wrap, lists, meaning, Row, rows-of, Reading, refused, readable, by-verdict, read}
+use Rattle.spec.specs.Reading.{Token, opening, closing, whole, bad, token, tokens, Verdict, right, wrong, check, put, wrap, lists, Row, rows-of, refused, readable, by-verdict, read}
 use Rattle.laws.specs.Demands.{Bytes, meaning-of}
 use Rattle.laws.proofs.Fits.{Fits, FitsExpr, FitsAll}
 use Rattle.laws.proofs.Atoms.{Front, front}

@@ -2,19 +2,16 @@
 use Prim.Native.Nat.{ℕ, _/_, _≤_, min}
 use mathlib.Core.Path.{_≡_, refl, sym, ap, _∙_}
 use mathlib.Core.List.{List}
-use mathlib.Core.Bool.{Bool, true, false}
 use lib.ListN.{length}
-use lib.Dec.{ltb}
-use borrow.Author.Tests.{ltb-false, le-ltb}
 use native.Mathlib.Omega.{arith}
-use Rattle.spec.specs.Expr.{if_then_else_, Exprs, canonical}
+use Rattle.spec.specs.Expr.{Exprs, canonical}
 use Rattle.spec.specs.Reading.{Row, read}
 use Rattle.spec.specs.Runs.{End, done, stopped, steps-in}
 use Rattle.spec.specs.Evaluation.{run, result}
-use Rattle.spec.specs.Calls.{Answer, refusal, acceptance, over, filled, put-out, reading, row-at, end-answer, Evaluate}
+use Rattle.spec.specs.Calls.{Answer, refusal, filled, put-out, reading, row-at, end-answer, Evaluate}
 use Rattle.laws.specs.Demands.{result-bytes}
 use Rattle.laws.proofs.Runs.{Kept, kept, no-steps, no-work, cut-more}
-use Rattle.laws.proofs.Calls.{put-out-bytes, Way, unread, unversioned, wrong-version, runs, way, answered, evaluate-answered}
+use Rattle.laws.proofs.Calls.{Put, too-short, fits, put-out-is, put-out-room, put-out-bytes, Way, unread, unversioned, wrong-version, runs, way, answered, evaluate-answered}
 
 -- "the same number, place, length and step count, and on acceptance the same result bytes"
 pub record Alike (a b : Answer) : Type 0 where
@@ -34,19 +31,14 @@ pub record Final (a : Answer) : Type 0 where
   pub output-fits : a .number ≡ 18 → ⊥
 
 module _ (t t′ o o′ : List ℕ) (room : length o ≤ length o′) where
-  put-out-alike : (bs : List ℕ) (k : ℕ) → Final (put-out bs k t o) → Alike (put-out bs k t o) (put-out bs k t′ o′)
-  unfolding put-out
-  put-out-alike bs k f = go (ltb (length o) (length bs)) refl f
-    where
-      go : (b : Bool) → ltb (length o) (length bs) ≡ b → Final (if b then refusal 18 0 t o else acceptance (length bs) k t (over bs o))
-          → Alike (if b then refusal 18 0 t o else acceptance (length bs) k t (over bs o)) (put-out bs k t′ o′)
-      go true e f = absurd (f .output-fits refl)
-      go false e f =
-          let fits : ltb (length o′) (length bs) ≡ false = le-ltb (length o′) (length bs) (omega (arith, ltb-false (length o) (length bs) e)) in
-          rw fits (record { number = refl; place = refl; length = refl; count = refl; bytes = λ z. put-out-bytes bs k t o ∙ sym (put-out-bytes bs k t′ o′) })
+  put-alike : (bs : List ℕ) (k : ℕ) {a : Answer} → Put bs k t o a → Final a → Alike a (put-out bs k t′ o′)
+  put-alike bs k (too-short l) f = absurd (f .output-fits refl)
+  put-alike bs k (fits l) f =
+      rw (put-out-room bs k t′ o′ (omega arith))
+      (record { number = refl; place = refl; length = refl; count = refl; bytes = λ z. put-out-bytes bs k t o ∙ sym (put-out-bytes bs k t′ o′) })
 
   end-alike : (rs : List Row) (k : ℕ) (e : End (List Exprs)) → Final (end-answer rs k t o e) → Alike (end-answer rs k t o e) (end-answer rs k t′ o′ e)
-  end-alike rs k (done ls) f = put-out-alike (canonical (result ls)) k f
+  end-alike rs k (done ls) f = put-alike (canonical (result ls)) k (put-out-is (canonical (result ls)) k t o) f
   end-alike rs k (stopped w r) f = refusals-alike w (row-at rs r .start) t t′ o o′
 
   kept-alike : (rs : List Row) (k : ℕ) (e e′ : End (List Exprs)) → Kept e e′ → Final (end-answer rs k t o e) → Alike (end-answer rs k t o e) (end-answer rs k t′ o′ e′)

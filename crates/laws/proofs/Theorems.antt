@@ -1,9 +1,9 @@
 -- The demands, as theorems over the definitions of the crate `spec`. Above each stands what was demanded. A stream is a list of bytes
 -- (`Bytes`); of table and output everything is said for all lengths and contents, of the workspace for all lengths.
 use Prim.Native.Nat.{ℕ, _+_, _*_, _/_, _≤_, _<_, min}
-use mathlib.Core.Path.{_≡_, refl, sym, ap, _∙_, subst}
+use mathlib.Core.Path.{_≡_, refl, sym, ap, _∙_}
 use mathlib.Core.Logic.{_↔_}
-use mathlib.Core.List.{List, [], _∷_, _++_}
+use mathlib.Core.List.{List, []}
 use lib.ListN.{length, take, drop, getD}
 use native.Mathlib.Omega.{arith}
 use native.Mathlib.Decide.{ℕ-discrete}
@@ -16,10 +16,10 @@ use Rattle.laws.specs.Demands.{Bytes, Begins, result-bytes, Accepted, me
 use Rattle.laws.proofs.Rows.{rows-ordered, Inside, rows-inside, FirstFrom, ordered-starts, inside-start, next-row-first, numbers-fourth}
 use Rattle.laws.proofs.Reading.{stream-laid, Readable, read-readable, read-refused, read-room, Meant, read-meant, read-canonical}
 use Rattle.laws.proofs.Fits.{FitsAll}
-use Rattle.laws.proofs.Exprs.{canonical-bytes, canonical-append, result-split}
+use Rattle.laws.proofs.Canonical.{canonical-append, canonical-bytes}
 use Rattle.laws.proofs.Values.{run-paid, run-fits}
-use Rattle.laws.proofs.Prefix.{run-first}
-use Rattle.laws.proofs.Calls.{put-out-room, put-out-bytes, put-out-place, Written, written, Way, unread, unversioned, wrong-version, runs, way, answered, evaluate-answered, Ran, evaluate-ran, reading-fits}
+use Rattle.laws.proofs.Prefix.{run-first, result-split}
+use Rattle.laws.proofs.Calls.{put-out-is, put-out-room, put-place, put-out-bytes, Written, written, Way, unread, unversioned, wrong-version, runs, way, answered, evaluate-answered, Ran, evaluate-ran, reading-fits}
 use Rattle.laws.proofs.Retry.{Alike, Final, evaluate-alike}
 use Rattle.laws.proofs.Count.{refused-counted, steps-enough-same, steps-short-refused, sixteen-short}
 
@@ -57,7 +57,7 @@ pub write-accepts : (s t o : List ℕ) (rs : List Row) (es : Exprs) → Bytes s 
 unfolding Write
 write-accepts s t o rs es b r h =
     let fits = canonical-shorter s (length t / 4) rs es b r in
-    rw r (ap (λ (a : Answer). a .number) (put-out-room (canonical es) 0 (filled rs t) o (omega arith) .is))
+    rw r (ap (λ (a : Answer). a .number) (put-out-room (canonical es) 0 (filled rs t) o (omega arith)))
 
 module _ (s t o : List ℕ) (stream : Bytes s) (accepted : Write s t o .number ≡ 0) where
   it : Written s t o
@@ -254,7 +254,7 @@ pub evaluate-place : (s t : List ℕ) (w : ℕ) (o : List ℕ) (n : ℕ) → Byt
 evaluate-place s t w o n b = rw (evaluate-answered s t (way s t) w o n) (go (way s t))
   where
     by-end : (rs : List Row) (k : ℕ) → Inside (length s) rs → (x : End (List Exprs)) → end-answer rs k (filled rs t) o x .place ≤ length s
-    by-end rs k i (done ls) = omega (arith, put-out-place (canonical (result ls)) k (filled rs t) o)
+    by-end rs k i (done ls) = omega (arith, put-place (put-out-is (canonical (result ls)) k (filled rs t) o))
     by-end rs k i (stopped v r) = inside-start (row-at [] 0) (length s) rs i (omega arith) r
 
     go : (y : Way s t) → answered y w o n .place ≤ length s

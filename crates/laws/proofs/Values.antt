@@ -16,7 +16,7 @@ use Rattle.spec.specs.Plan.{Defined, value, function, Definition, Scope, Found,
 use Rattle.spec.specs.Evaluation.{Left, complete, join, Call, one-value, finish, Meaning, in-order, ns-form, perform, eval, eval-all, run-code, top-level, standing, start, run, result}
 use Rattle.laws.specs.Demands.{Bytes}
 use Rattle.laws.proofs.Fits.{bytes-append, Fits, FitsExpr, FitsAll}
-use Rattle.laws.proofs.Exprs.{canonical-append}
+use Rattle.laws.proofs.Canonical.{canonical-append}
 use Rattle.laws.proofs.Runs.{charges}
 
 -- Runs

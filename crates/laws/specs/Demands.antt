@@ -3,10 +3,10 @@ use Prim.Native.Nat.{ℕ, _-_, _≤_, _<_, min}
 use mathlib.Core.Path.{_≡_}
 use mathlib.Core.List.{List, [], _∷_, _++_, map}
 use mathlib.Core.Bool.{not}
-use lib.ListN.{length, take}
+use lib.ListN.{take}
 use lib.Dec.{ltb}
 use Rattle.spec.specs.Expr.{if_then_else_, same, Exprs, size, first, canonical}
-use Rattle.spec.specs.Reading.{Row, tokens, meaning, Reading, refused, readable}
+use Rattle.spec.specs.Reading.{tokens, meaning, Reading, refused, readable}
 use Rattle.spec.specs.Runs.{Event, step, charge, End, done, stopped}
 use Rattle.spec.specs.Evaluation.{run, result}
 use Rattle.spec.specs.Calls.{Answer, Evaluate, reading, is-versioned, version-bytes, row-at}

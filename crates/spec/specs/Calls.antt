@@ -1,7 +1,7 @@
 -- Document 01, "The calls": what Read, Write, Evaluate and Item answer, for every input.
 use Prim.Native.Nat.{ℕ, zero, suc, _/_, min}
 use mathlib.Core.List.{List, [], _∷_, _++_}
-use mathlib.Core.Bool.{Bool, true, false, not, _&&_}
+use mathlib.Core.Bool.{Bool, false, not, _&&_}
 use lib.ListN.{length, take, drop, getD}
 use lib.Dec.{ltb, eqb}
 use Rattle.spec.specs.Expr.{if_then_else_, same, if-ref, atom, form, Exprs, none, more, rows, canonical}

@@ -1,10 +1,10 @@
 -- Document 01, "Evaluation": "depth first, left to right, over a list of definitions that are visible at each place", as a run.
 use Prim.Native.Nat.{ℕ, zero, suc}
 use mathlib.Core.List.{List, [], _∷_, _++_}
-use mathlib.Core.Bool.{Bool, true, false, not}
+use mathlib.Core.Bool.{Bool, false, not}
 use lib.ListN.{length, drop}
 use lib.Dec.{ltb}
-use Rattle.spec.specs.Expr.{if_then_else_, Atom, array, ref, if-array, Expr, atom, form, Exprs, none, more, only, append, canonical, deepest}
+use Rattle.spec.specs.Expr.{if_then_else_, array, ref, if-array, atom, form, Exprs, none, more, only, append, canonical, deepest}
 use Rattle.spec.specs.Nodes.{core, ns, rest, name-byte, Node, leaf, branch, Nodes, empty, cons, number-all, headed-by, markers}
 use Rattle.spec.specs.Runs.{step, charge, Run, give, stop, before, bind}
 use Rattle.spec.specs.Plan.{Definition, value, Namespace, Place, top, inner, outside, given, Here, Finish, as-form, as-definition, as-concat, as-call, Plan, refuse, leave, associate, define-function, inside, plan}

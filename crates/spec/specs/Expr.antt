@@ -45,7 +45,7 @@ mutual
     none : Exprs
     more : Expr → Exprs → Exprs
 
--- one thing for a reference, array or small integer, and another for the other atoms
+-- one thing for a reference or an array, and another for the other atoms
 abbrev pub if-ref : {A : Type 0} → Atom → (ℕ → ℕ → A) → A → A
 if-ref nil f other = other
 if-ref (array bs) f other = other
@@ -57,12 +57,6 @@ if-array nil f other = other
 if-array (array bs) f other = f bs
 if-array (int v) f other = other
 if-array (ref m n) f other = other
-
-abbrev pub if-int : {A : Type 0} → Atom → (ℕ → A) → A → A
-if-int nil f other = other
-if-int (array bs) f other = other
-if-int (int v) f other = f v
-if-int (ref m n) f other = other
 
 abbrev pub only : Expr → Exprs
 only e = more e none

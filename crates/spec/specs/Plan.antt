@@ -2,10 +2,10 @@
 -- expression: 16, 13, 12, 11, 14, 15, 19 (for define, before its value)". Nothing here evaluates; a call's 19 follows its arguments.
 use Prim.Native.Nat.{ℕ}
 use mathlib.Core.List.{List, [], _∷_}
-use mathlib.Core.Bool.{Bool, true, false, not, _&&_, _||_}
+use mathlib.Core.Bool.{not, _&&_, _||_}
 use lib.ListN.{length}
 use lib.Dec.{ltb, leb, eqb}
-use Rattle.spec.specs.Expr.{if_then_else_, same, some, Atom, if-ref, if-array, if-int, atom, Exprs, only, size, first, without}
+use Rattle.spec.specs.Expr.{if_then_else_, same, some, Atom, nil, array, int, ref, if-ref, if-array, atom, Exprs, only, size, first, without}
 use Rattle.spec.specs.Nodes.{core, Word, ns, define, concat, subst, arg, rest, plain, is, word, Node, leaf, branch, Nodes, empty, cons, elements, tail, head-word, headed-by}
 
 -- Where an expression is evaluated
@@ -105,7 +105,10 @@ expect-array (branch r es) f = refuse 11
 
 -- "n is a written small integer"
 abbrev pub expect-int : Node → (ℕ → Plan) → Plan
-expect-int (leaf r a) f = if-int a f (refuse 11)
+expect-int (leaf r nil) f = refuse 11
+expect-int (leaf r (array bs)) f = refuse 11
+expect-int (leaf r (int n)) f = f n
+expect-int (leaf r (ref m n)) f = refuse 11
 expect-int (branch r es) f = refuse 11
 
 -- The rules
@@ -144,15 +147,18 @@ plan-define inner es h = refuse 13
 abbrev pub plan-concat : Nodes → Plan
 plan-concat es = expect-two es λ a b. if headed-by rest a || headed-by rest b then refuse 11 else inside 1 inner as-concat
 
--- "( arg n ): argument n." 15: "outside code; n not below [..] the number of arguments"
-abbrev pub plan-arg : ℕ → Arguments → Plan
-plan-arg n outside = refuse 15
-plan-arg n (given vs) = if ltb n (size vs) then leave (first 1 (without n vs)) else refuse 15
+-- 15: "arg or rest outside code"
+abbrev pub in-code : Arguments → (Exprs → Plan) → Plan
+in-code outside f = refuse 15
+in-code (given vs) f = f vs
 
--- "( rest n ): the arguments without the first n, put in place one by one." 15: "outside code; n [..] above [..] the number of arguments"
+-- "( arg n ): argument n." 15: "n not below [..] the number of arguments"
+abbrev pub plan-arg : ℕ → Arguments → Plan
+plan-arg n args = in-code args λ vs. if ltb n (size vs) then leave (first 1 (without n vs)) else refuse 15
+
+-- "( rest n ): the arguments without the first n, put in place one by one." 15: "n [..] above [..] the number of arguments"
 abbrev pub plan-rest : ℕ → Arguments → Plan
-plan-rest n outside = refuse 15
-plan-rest n (given vs) = if leb n (size vs) then leave (without n vs) else refuse 15
+plan-rest n args = in-code args λ vs. if leb n (size vs) then leave (without n vs) else refuse 15
 
 -- "Other forms are data forms: every element is evaluated, the head too."
 abbrev pub data-form : Plan
