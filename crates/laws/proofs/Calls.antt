@@ -15,10 +15,11 @@ use Rattle.spec.specs.Runs.{End, done, stopped, cut, steps-in}
 use Rattle.spec.specs.Evaluation.{run, result}
 use Rattle.spec.specs.Calls.{Answer, refusal, acceptance, over, filled, put-out, once-read, reading, Write, is-versioned, version-bytes, end-answer, run-answer, Evaluate}
 use Rattle.laws.specs.Demands.{Bytes, result-bytes}
+use Rattle.laws.specs.Sanity.{RuleNumber}
 use Rattle.laws.proofs.Fits.{FitsAll}
 use Rattle.laws.proofs.Reading.{read-refused, read-readable, read-meant}
 use Rattle.laws.proofs.Runs.{Within, cut-done, StoppedBy, by-steps, by-work, by-rule, cut-stopped}
-use Rattle.laws.proofs.Values.{RuleNumber, not-rule, run-proper}
+use Rattle.laws.proofs.Values.{not-rule, run-proper}
 
 -- put-out
 

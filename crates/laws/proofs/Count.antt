@@ -12,7 +12,7 @@ use Rattle.spec.specs.Reading.{Row}
 use Rattle.spec.specs.Runs.{End, done, stopped, cut, steps-in}
 use Rattle.spec.specs.Evaluation.{run, result}
 use Rattle.spec.specs.Calls.{Answer, filled, row-at, end-answer, Evaluate}
-use Rattle.laws.specs.Demands.{Bytes, steps-within, Steps}
+use Rattle.laws.specs.Demands.{Bytes, steps-within, steps-of}
 use Rattle.laws.proofs.Reading.{read-refused}
 use Rattle.laws.proofs.Runs.{steps-enough, steps-short, steps-own}
 use Rattle.laws.proofs.Values.{not-rule, run-proper}
@@ -48,8 +48,8 @@ stepped (unversioned rs es e h) w = []
 stepped (wrong-version rs es e h k) w = []
 stepped (runs rs es e h k) w = map (λ r. row-at rs r .start) (steps-within (min w 65536) (run es .events))
 
-steps-stepped : (s t : List ℕ) (y : Way s t) (w : ℕ) → Steps s t w ≡ stepped y w
-unfolding Steps
+steps-stepped : (s t : List ℕ) (y : Way s t) (w : ℕ) → steps-of s t w ≡ stepped y w
+unfolding steps-of
 steps-stepped s t (unread v p e) w = rw e
 steps-stepped s t (unversioned rs es e h) w = rw (e, h)
 steps-stepped s t (wrong-version rs es e h k) w = rw (e, h, k)
@@ -64,11 +64,11 @@ way-enough s t (runs rs es e x y) w o n h =
     rw same-length (ap (end-answer rs (steps-in (run es .events)) (filled rs t) o) (steps-enough (run es .events) (run es .end) n (min w 65536) (rw same-length at h)))
 
 -- with all the steps that the rules take, or more, the answer does not depend on how many
-pub steps-enough-same : (s t : List ℕ) (w : ℕ) (o : List ℕ) (n : ℕ) → length (Steps s t w) ≤ n → Evaluate s t w o n ≡ Evaluate s t w o (length (Steps s t w))
+pub steps-enough-same : (s t : List ℕ) (w : ℕ) (o : List ℕ) (n : ℕ) → length (steps-of s t w) ≤ n → Evaluate s t w o n ≡ Evaluate s t w o (length (steps-of s t w))
 steps-enough-same s t w o n h =
     let y = way s t in
     let l = ap length (steps-stepped s t y w) in
-    evaluate-answered s t y w o n ∙ way-enough s t y w o n (omega (arith, l)) ∙ ap (λ (k : ℕ). answered y w o k) (sym l) ∙ sym (evaluate-answered s t y w o (length (Steps s t w)))
+    evaluate-answered s t y w o n ∙ way-enough s t y w o n (omega (arith, l)) ∙ ap (λ (k : ℕ). answered y w o k) (sym l) ∙ sym (evaluate-answered s t y w o (length (steps-of s t w)))
 
 getD-inside : (l : List ℕ) (i a b : ℕ) → i < length l → getD l i a ≡ getD l i b
 getD-inside [] i a b h = absurd (omega arith)
@@ -87,8 +87,8 @@ way-short s t (runs rs es e x y) w o n h =
     (rw short, rw short (sym (getD-inside (map place l) n 0 (place 0) h ∙ List·getD-map place l n 0)))
 
 -- "the refusal for steps comes exactly when document 01's rules would next take a step beyond them", at the expression that would take it
-pub steps-short-refused : (s t : List ℕ) (w : ℕ) (o : List ℕ) (n : ℕ) → n < length (Steps s t w)
-    → (Evaluate s t w o n .number ≡ 16) × (Evaluate s t w o n .place ≡ getD (Steps s t w) n 0)
+pub steps-short-refused : (s t : List ℕ) (w : ℕ) (o : List ℕ) (n : ℕ) → n < length (steps-of s t w)
+    → (Evaluate s t w o n .number ≡ 16) × (Evaluate s t w o n .place ≡ getD (steps-of s t w) n 0)
 steps-short-refused s t w o n h =
     let y = way s t in
     let l = steps-stepped s t y w in
@@ -118,7 +118,7 @@ way-sixteen s t (runs rs es e x y) w o n b h = rw (length-map l (λ r. row-at rs
     go true c = ltb-true n (length l) c
     go false c = absurd (own _ (sym (steps-enough (run es .events) (run es .end) n (min w 65536) (ltb-false n (length l) c))) h)
 
-pub sixteen-short : (s t : List ℕ) (w : ℕ) (o : List ℕ) (n : ℕ) → Bytes s → Evaluate s t w o n .number ≡ 16 → n < length (Steps s t w)
+pub sixteen-short : (s t : List ℕ) (w : ℕ) (o : List ℕ) (n : ℕ) → Bytes s → Evaluate s t w o n .number ≡ 16 → n < length (steps-of s t w)
 sixteen-short s t w o n b h =
     let y = way s t in
     rw (steps-stepped s t y w) (way-sixteen s t y w o n b (rw (evaluate-answered s t y w o n) at h))

@@ -5,9 +5,11 @@ pub mod Tokens
 pub mod Rows
 pub mod Reading
 pub mod Runs
+pub mod Charges
 pub mod Values
 pub mod Prefix
 pub mod Calls
+pub mod Results
 pub mod Retry
 pub mod Count
 pub mod Theorems

@@ -9,33 +9,19 @@ use Rattle.spec.specs.Reading.{Row, read}
 use Rattle.spec.specs.Runs.{End, done, stopped, steps-in}
 use Rattle.spec.specs.Evaluation.{run, result}
 use Rattle.spec.specs.Calls.{Answer, refusal, filled, put-out, reading, row-at, end-answer, Evaluate}
-use Rattle.laws.specs.Demands.{result-bytes}
+use Rattle.laws.specs.Demands.{Final, Alike}
 use Rattle.laws.proofs.Runs.{Kept, kept, no-steps, no-work, cut-more}
 use Rattle.laws.proofs.Calls.{Put, too-short, fits, put-out-is, put-out-room, put-out-bytes, Way, unread, unversioned, wrong-version, runs, way, answered, evaluate-answered}
 
--- "the same number, place, length and step count, and on acceptance the same result bytes"
-pub record Alike (a b : Answer) : Type 0 where
-  pub number : a .number ≡ b .number
-  pub place : a .place ≡ b .place
-  pub length : a .given ≡ b .given
-  pub count : a .steps ≡ b .steps
-  pub bytes : a .number ≡ 0 → result-bytes a ≡ result-bytes b
-
 refusals-alike : (w p : ℕ) (t t′ o o′ : List ℕ) → Alike (refusal w p t o) (refusal w p t′ o′)
-refusals-alike w p t t′ o o′ = record { number = refl; place = refl; length = refl; count = refl; bytes = λ z. refl }
-
--- "refuses for a reason other than steps, workspace or output room", or accepts
-pub record Final (a : Answer) : Type 0 where
-  pub steps-last : a .number ≡ 16 → ⊥
-  pub work-fits : a .number ≡ 17 → ⊥
-  pub output-fits : a .number ≡ 18 → ⊥
+refusals-alike w p t t′ o o′ = record { number = refl; place = refl; given = refl; steps = refl; bytes = λ z. refl }
 
 module _ (t t′ o o′ : List ℕ) (room : length o ≤ length o′) where
   put-alike : (bs : List ℕ) (k : ℕ) {a : Answer} → Put bs k t o a → Final a → Alike a (put-out bs k t′ o′)
   put-alike bs k (too-short l) f = absurd (f .output-fits refl)
   put-alike bs k (fits l) f =
       rw (put-out-room bs k t′ o′ (omega arith))
-      (record { number = refl; place = refl; length = refl; count = refl; bytes = λ z. put-out-bytes bs k t o ∙ sym (put-out-bytes bs k t′ o′) })
+      (record { number = refl; place = refl; given = refl; steps = refl; bytes = λ z. put-out-bytes bs k t o ∙ sym (put-out-bytes bs k t′ o′) })
 
   end-alike : (rs : List Row) (k : ℕ) (e : End (List Exprs)) → Final (end-answer rs k t o e) → Alike (end-answer rs k t o e) (end-answer rs k t′ o′ e)
   end-alike rs k (done ls) f = put-alike (canonical (result ls)) k (put-out-is (canonical (result ls)) k t o) f

@@ -10,6 +10,7 @@ use borrow.Author.Tests.{leb-true, leb-false}
 use native.Mathlib.Omega.{arith}
 use Rattle.spec.specs.Expr.{if_then_else_, Expr, atom, form, Exprs, rows, rows-all}
 use Rattle.spec.specs.Reading.{Token, opening, closing, whole, bad, right, check, put, wrap, lists, Row, ends, rows-of, next-row, numbers}
+use Rattle.laws.specs.Sanity.{Inside, FirstFrom}
 use Rattle.laws.proofs.Tokens.{right-end, right-opening, right-closing, right-whole, right-bad, Laid}
 
 -- How many
@@ -41,11 +42,6 @@ ordered-from-lower lo hi [] l o = tt
 ordered-from-lower lo hi (r ∷ rs) l o = (omega arith, o .1)
 
 -- Places
-
--- rows that start before they end, and end at `end` or before it
-abbrev pub Inside : ℕ → List Row → Type 0
-Inside end [] = Unit {0}
-Inside end (r ∷ rs) = (r .start < r .end) × (r .end ≤ end) × Inside end rs
 
 -- numbers above `lo`, each above the one before, and none above `hi`
 abbrev Rising : ℕ → List ℕ → ℕ → Type 0
@@ -136,12 +132,6 @@ module _ (end room : ℕ) where
   rows-inside (bad w q ∷ ts) p d n l c = absurd (right-bad end room ts w q d n c)
 
 -- Rows by their numbers; `other` is the row that `getD` gives past the last
-
--- row k is the first that starts at or after e, or there is none and k is how many rows there are
-pub record FirstFrom (e : ℕ) (rs : List Row) (other : Row) (k : ℕ) : Type 0 where
-  pub before : (i : ℕ) → i < k → getD rs i other .start < e
-  pub among : k ≤ length rs
-  pub from : k < length rs → e ≤ getD rs k other .start
 
 -- the four numbers of a row
 abbrev pub four : List Row → Row → List ℕ

@@ -1,135 +1,21 @@
--- What a run leaves in the result. Its canonical bytes are no more than what the run has charged. If the stream's expressions fit, so do
--- those of the result, and none has over 64 forms one inside another; every row that the run names is a row of the stream, and it stops
--- only with the numbers of the rules.
+-- An invariant of evaluation. If the stream's expressions fit, so do those of the result, and none has over 64 forms one inside another;
+-- every row that the run names is a row of the stream, and it stops only with the numbers of the rules.
 use Prim.Native.Nat.{ℕ, zero, suc, _+_, _≤_, _<_}
 use mathlib.Core.Path.{_≡_, refl}
 use mathlib.Core.List.{List, [], _∷_, _++_}
-use mathlib.Core.Bool.{Bool, true, false, _&&_, _||_}
+use mathlib.Core.Bool.{Bool, true, false, _&&_}
 use native.Mathlib.Omega.{arith}
-use lib.ListN.{length, drop, length-append}
-use lib.Dec.{ltb, eqb}
-use borrow.Author.Tests.{ltb-false}
-use Rattle.spec.specs.Expr.{if_then_else_, if-ref, Atom, nil, array, int, ref, Expr, atom, form, Exprs, none, more, only, append, first, without, rows, rows-all, depth, deepest, canonical}
+use lib.ListN.{drop}
+use lib.Dec.{eqb}
+use Rattle.spec.specs.Expr.{if_then_else_, if-ref, Atom, nil, array, int, ref, Expr, atom, form, Exprs, none, more, only, append, first, without, rows, rows-all, depth, deepest}
 use Rattle.spec.specs.Nodes.{Word, ns, define, concat, subst, arg, rest, plain, Node, leaf, branch, Nodes, empty, cons, number, number-all, elements, tail, head-word, markers}
 use Rattle.spec.specs.Runs.{Event, step, charge, End, done, stopped, Run, stop, give, before, follow, bind}
-use Rattle.spec.specs.Plan.{Defined, value, function, Definition, Scope, Found, latest, nothing, look-up, Place, top, element, inner, Arguments, outside, given, Here, Finish, as-form, as-definition, as-concat, as-call, Plan, refuse, leave, associate, define-function, inside, expect-one, expect-two, expect-ref, expect-array, expect-int, plan-ns, plan-define, plan-definition, plan-concat, plan-arg, plan-rest, plan-head, plan-other, plan-form, plan-reference, plan-atom, plan}
+use Rattle.spec.specs.Plan.{Defined, value, function, Definition, Scope, Found, latest, nothing, look-up, Place, top, element, inner, Arguments, outside, given, Here, Finish, as-form, as-definition, as-concat, as-call, Plan, refuse, leave, associate, define-function, inside, expect-one, expect-two, expect-ref, expect-array, expect-int, plan-ns, plan-define, plan-definition, plan-concat, plan-arg, plan-rest, plan-head, plan-other, plan-form, plan-reference, plan-atom}
 use Rattle.spec.specs.Evaluation.{Left, complete, join, Call, one-value, finish, Meaning, in-order, ns-form, perform, eval, eval-all, run-code, top-level, standing, start, run, result}
 use Rattle.laws.specs.Demands.{Bytes}
+use Rattle.laws.specs.Sanity.{RowsBelow, rule-number, RuleNumber, Proper}
 use Rattle.laws.proofs.Fits.{bytes-append, Fits, FitsExpr, FitsAll}
-use Rattle.laws.proofs.Canonical.{canonical-append}
-use Rattle.laws.proofs.Runs.{charges}
-
--- Runs
-
--- what holds of a result, or of a refusal
-abbrev Ends : {A : Type 0} → (ℕ → ℕ → Type 0) → (A → Type 0) → End A → Type 0
-Ends S P (done a) = P a
-Ends S P (stopped w r) = S w r
-
--- what holds of a result, if there is one
-abbrev IfDone : {A : Type 0} → (A → Type 0) → End A → Type 0
-IfDone = Ends (λ w r. Unit {0})
-
--- what holds of a run's events and result
-record Gives {A : Type 0} (P : List Event → A → Type 0) (run : Run A) : Type 0 where
-  holds : IfDone (P (run .events)) (run .end)
-
--- a run, then what follows from its result
-bind-gives : {A B : Type 0} {P : List Event → A → Type 0} {Q : List Event → B → Type 0} {run : Run A} {f : A → Run B} → Gives P run →
-    ((a : A) → P (run .events) a → Gives (λ es. Q (run .events ++ es)) (f a)) → Gives Q (bind run f)
-bind-gives {A} {P = P} {Q = Q} {run = run} {f = f} p q = record { holds = go (run .end) (p .holds) }
-  where
-    go : (e : End A) → IfDone (P (run .events)) e → IfDone (Q (follow (run .events) e f .events)) (follow (run .events) e f .end)
-    go (done a) h = q a h .holds
-    go (stopped w r) h = tt
-
-stop-gives : {A : Type 0} {P : List Event → A → Type 0} {w r : ℕ} → Gives P (stop w r)
-stop-gives = record { holds = tt }
-
--- a value that is complete has at most 64 forms one inside another, and is charged
-complete-cases : (P : Run Left → Type 0) (r : ℕ) (vs : Exprs) (h : Here) → P (stop 6 r) →
-    (deepest vs ≤ 64 → P (before (charge r (length (canonical vs))) (give (record { values = vs; here = h })))) → P (complete r vs h)
-complete-cases P r vs h p q = go (ltb 64 (deepest vs)) refl
-  where
-    go : (b : Bool) → ltb 64 (deepest vs) ≡ b →
-        P (if b then stop 6 r else before (charge r (length (canonical vs))) (give (record { values = vs; here = h })))
-    go true e = p
-    go false e = q (ltb-false 64 (deepest vs) e)
-
--- Charges
-
-charges-append : (es fs : List Event) → charges (es ++ fs) ≡ charges es + charges fs
-unfolding charges
-charges-append [] fs = omega arith
-charges-append (step r ∷ es) fs = charges-append es fs
-charges-append (charge r n ∷ es) fs = omega (arith, charges-append es fs)
-
--- the values that are left have been charged
-abbrev Paid : List Event → Left → Type 0
-Paid es left = length (canonical (left .values)) ≤ charges es
-
--- what comes before doesn't matter
-after-paid : {A : Type 0} (run : Run A) {f : A → Run Left} → ((a : A) → Gives Paid (f a)) → Gives Paid (bind run f)
-after-paid {A} run {f} p = record { holds = go (run .end) }
-  where
-    later : (e : End Left) (es : List Event) → IfDone (Paid es) e → IfDone (Paid (run .events ++ es)) e
-    later (done left) es h = omega (arith, charges-append (run .events) es)
-    later (stopped w r) es h = tt
-
-    go : (e : End A) → IfDone (Paid (follow (run .events) e f .events)) (follow (run .events) e f .end)
-    go (done a) = later (f a .end) (f a .events) (p a .holds)
-    go (stopped w r) = tt
-
-complete-paid : (r : ℕ) (vs : Exprs) (h : Here) → Gives Paid (complete r vs h)
-unfolding charges
-complete-paid r vs h = complete-cases (Gives Paid) r vs h stop-gives λ d. record { holds = omega arith }
-
-join-paid : (r : ℕ) (bs : List ℕ) (vs : Exprs) (h : Here) → Gives Paid (join r bs vs h)
-unfolding join
-join-paid r bs none h = complete-paid r _ h
-join-paid r bs (more (atom nil) vs) h = stop-gives
-join-paid r bs (more (atom (array cs)) vs) h = join-paid r (bs ++ cs) vs h
-join-paid r bs (more (atom (int v)) vs) h = stop-gives
-join-paid r bs (more (atom (ref m n)) vs) h = stop-gives
-join-paid r bs (more (form es) vs) h = stop-gives
-
-finish-paid : (call : Call) (r : ℕ) (h : Here) (f : Finish) (vs : Exprs) → Gives Paid (finish call r h f vs)
-unfolding canonical
-finish-paid call r h as-form vs = complete-paid r _ h
-finish-paid call r h (as-definition m n) vs = record { holds = omega arith }
-finish-paid call r h as-concat vs = join-paid r [] vs h
-finish-paid call r h (as-call code scope) vs =
-    after-paid (call r code _)
-    λ left. complete-paid r (if one-value code then left .values else only (form (left .values))) h
-
-perform-paid : (call : Call) (r : ℕ) (es : List Meaning) (h : Here) (p : Plan) → Gives Paid (perform call r es h p)
-unfolding canonical
-perform-paid call r es h (refuse w) = stop-gives
-perform-paid call r es h (leave vs) = complete-paid r vs h
-perform-paid call r es h (associate m n i) = complete-paid r (ns-form m n i) _
-perform-paid call r es h (define-function d) = record { holds = omega arith }
-perform-paid call r es h (inside k p f) = after-paid (in-order (drop k es) (standing p h)) λ left. finish-paid call r h f (left .values)
-
-eval-paid : (call : Call) (e : Node) (h : Here) → Gives Paid (eval call e h)
-unfolding eval charges
-eval-paid call (leaf r a) h = record { holds = perform-paid call r [] h (plan (leaf r a) h) .holds }
-eval-paid call (branch r es) h = record { holds = perform-paid call r (eval-all call es) h (plan (branch r es) h) .holds }
-
--- the charges of the expressions add up
-top-level-paid : (earlier : List ℕ) (es : Nodes) (h : Here) →
-    Gives (λ es ls. length (canonical (result ls)) ≤ charges es) (top-level earlier es h)
-unfolding top-level result canonical
-top-level-paid earlier empty h = record { holds = omega arith }
-top-level-paid earlier (cons e es) h =
-    bind-gives (eval-paid (run-code 32) e (standing (top earlier) h))
-    λ left p. bind-gives (top-level-paid (markers e ++ earlier) es (left .here))
-    λ ls q. record { holds = simp (canonical-append, length-append, charges-append) (omega arith) }
-
-pub run-paid : (es : Exprs) (ls : List Exprs) → run es .end ≡ done ls → length (canonical (result ls)) ≤ charges (run es .events)
-unfolding run
-run-paid es ls p = rw p at (top-level-paid [] (number-all 0 es) start .holds)
-
--- Fitting
+use Rattle.laws.proofs.Charges.{Ends, complete-cases}
 
 -- values that fit and have at most 64 forms one inside another
 abbrev Sound : Exprs → Type 0
@@ -170,19 +56,6 @@ call-fits true vs f = f
 call-fits false vs f = (f, tt)
 
 -- Rows and refusals
-
--- every row that is named is below a number
-abbrev pub RowsBelow : ℕ → List Event → Type 0
-RowsBelow n [] = Unit {0}
-RowsBelow n (step r ∷ es) = (r < n) × RowsBelow n es
-RowsBelow n (charge r m ∷ es) = (r < n) × RowsBelow n es
-
--- "every refusal 6 and 11 to 15 and 19"
-abbrev pub rule-number : ℕ → Bool
-rule-number w = eqb w 6 || eqb w 11 || eqb w 12 || eqb w 13 || eqb w 14 || eqb w 15 || eqb w 19
-
-abbrev pub RuleNumber : ℕ → Type 0
-RuleNumber w = rule-number w ≡ true
 
 -- 16, 17 and 18 are none of them: `not-rule refl`
 pub not-rule : {v w : ℕ} → rule-number v ≡ false → RuleNumber w → w ≡ v → ⊥
@@ -508,11 +381,6 @@ run-goes es f =
 
 pub run-fits : (es : Exprs) (ls : List Exprs) → FitsAll es → run es .end ≡ done ls → FitsAll (result ls) × (deepest (result ls) ≤ 64)
 run-fits es ls f p = rw p at (run-goes es f .holds)
-
--- a run names only rows below n, and stops only as a rule says
-pub record Proper (n : ℕ) {A : Type 0} (run : Run A) : Type 0 where
-  pub rows-below : RowsBelow n (run .events)
-  pub stops : (w r : ℕ) → run .end ≡ stopped w r → RuleNumber w × (r < n)
 
 pub run-proper : (es : Exprs) → FitsAll es → Proper (rows-all es) (run es)
 run-proper es f = let g = run-goes es f in record { rows-below = g .rows-below; stops = λ w r p. rw p at (g .holds) }

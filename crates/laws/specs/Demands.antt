@@ -3,7 +3,7 @@ use Prim.Native.Nat.{ℕ, _-_, _≤_, _<_, min}
 use mathlib.Core.Path.{_≡_}
 use mathlib.Core.List.{List, [], _∷_, _++_, map}
 use mathlib.Core.Bool.{not}
-use lib.ListN.{take}
+use lib.ListN.{length, take}
 use lib.Dec.{ltb}
 use Rattle.spec.specs.Expr.{if_then_else_, same, Exprs, size, first, canonical}
 use Rattle.spec.specs.Reading.{tokens, meaning, Reading, refused, readable}
@@ -21,17 +21,49 @@ pub record Begins (s front : List ℕ) : Type 0 where
   pub back : List ℕ
   pub is : s ≡ front ++ back
 
--- "result bytes are the output's first bytes, as many as the length given"
-abbrev pub result-bytes : Answer → List ℕ
-result-bytes a = take (a .given) (a .output)
-
--- "A stream is accepted if Evaluate gives number 0 for it with some table, workspace, output and steps."
-pub record Accepted (s : List ℕ) : Type 0 where
+-- what a stream is evaluated with; of the workspace its length
+pub record Lent : Type 0 where
   pub table : List ℕ
   pub work : ℕ
   pub output : List ℕ
   pub steps : ℕ
-  pub accepts : Evaluate s table work output steps .number ≡ 0
+
+abbrev pub evaluation : List ℕ → Lent → Answer
+evaluation s l = Evaluate s (l .table) (l .work) (l .output) (l .steps)
+
+-- the same with another number of steps
+abbrev pub with-steps : ℕ → Lent → Lent
+with-steps n l = record { table = l .table; work = l .work; output = l .output; steps = n }
+
+-- "result bytes are the output's first bytes, as many as the length given"
+abbrev pub result-bytes : Answer → List ℕ
+result-bytes a = take (a .given) (a .output)
+
+-- "with tables of equal length, and with steps, workspace and output each no smaller the second time"
+pub record NoSmaller (l m : Lent) : Type 0 where
+  pub tables : length (l .table) ≡ length (m .table)
+  pub work : l .work ≤ m .work
+  pub outputs : length (l .output) ≤ length (m .output)
+  pub steps : l .steps ≤ m .steps
+
+-- "accepts, or refuses for a reason other than steps, workspace or output room"
+pub record Final (a : Answer) : Type 0 where
+  pub steps-last : a .number ≡ 16 → ⊥
+  pub work-fits : a .number ≡ 17 → ⊥
+  pub output-fits : a .number ≡ 18 → ⊥
+
+-- "the same number, place, length and step count, and on acceptance the same result bytes"
+pub record Alike (a b : Answer) : Type 0 where
+  pub number : a .number ≡ b .number
+  pub place : a .place ≡ b .place
+  pub given : a .given ≡ b .given
+  pub steps : a .steps ≡ b .steps
+  pub bytes : a .number ≡ 0 → result-bytes a ≡ result-bytes b
+
+-- "A stream is accepted if Evaluate gives number 0 for it with some table, workspace, output and steps."
+pub record Accepted (s : List ℕ) : Type 0 where
+  pub lent : Lent
+  pub accepts : evaluation s lent .number ≡ 0
 
 -- the meaning of a stream that can be read
 abbrev pub meaning-of : List ℕ → Exprs
@@ -71,5 +103,8 @@ steps-once-read s work (readable rows es) =
     if not (same (take 6 s) version-bytes) then [] else
     map (λ r. row-at rows r .start) (steps-within (min work 65536) (run es .events))
 
-unfoldable pub Steps : List ℕ → List ℕ → ℕ → List ℕ
-Steps s table work = steps-once-read s work (reading s table)
+unfoldable pub steps-of : List ℕ → List ℕ → ℕ → List ℕ
+steps-of s table work = steps-once-read s work (reading s table)
+
+abbrev pub Steps : List ℕ → Lent → List ℕ
+Steps s l = steps-of s (l .table) (l .work)

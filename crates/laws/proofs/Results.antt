@@ -1,0 +1,107 @@
+-- What Write has written and what Evaluate has left: the canonical bytes of a meaning that can be read.
+use Prim.Native.Nat.{ℕ, _+_, _/_, _≤_}
+use mathlib.Core.Path.{_≡_, ap, _∙_}
+use mathlib.Core.List.{List}
+use lib.ListN.{length, take, drop}
+use native.Mathlib.Omega.{arith}
+use Rattle.spec.specs.Expr.{Exprs, rows-all, deepest, canonical}
+use Rattle.spec.specs.Reading.{tokens, Row, rows-of, readable, read}
+use Rattle.spec.specs.Runs.{done, steps-in}
+use Rattle.spec.specs.Evaluation.{run, result}
+use Rattle.spec.specs.Calls.{filled, reading, Write, Evaluate}
+use Rattle.laws.specs.Demands.{Bytes, Begins, result-bytes, meaning-of, left-by, values-of, bytes-of-first}
+use Rattle.laws.proofs.Fits.{FitsAll}
+use Rattle.laws.proofs.Canonical.{canonical-append, canonical-bytes}
+use Rattle.laws.proofs.Reading.{read-readable, Meant, read-meant, read-canonical}
+use Rattle.laws.proofs.Charges.{run-paid}
+use Rattle.laws.proofs.Values.{run-fits}
+use Rattle.laws.proofs.Prefix.{result-split}
+use Rattle.laws.proofs.Calls.{put-out-bytes, Written, written, Ran, evaluate-ran, reading-fits}
+
+-- A meaning that was read
+
+module _ (s : List ℕ) (room : ℕ) (rs : List Row) (es : Exprs) (stream : Bytes s) (reads : read s room ≡ readable rs es) where
+  pub meant : Meant s room rs es
+  meant = read-meant s room rs es stream (read-readable s room rs es reads)
+
+  short : length (canonical es) ≤ 65536
+  short = omega (arith, meant .shorter, read-readable s room rs es reads .short)
+
+  pub canonical-reads : (room′ : ℕ) → length rs ≤ room′ → read (canonical es) room′ ≡ readable (rows-of (tokens 0 0 (canonical es))) es
+  canonical-reads room′ h = read-canonical es room′ (meant .fits) (meant .shallow) short (omega (arith, meant .counted))
+
+  canonical-stream : Bytes (canonical es)
+  canonical-stream = canonical-bytes es (meant .fits) short
+
+pub same-canonical : (s s′ : List ℕ) (room room′ : ℕ) (rs rs′ : List Row) (es es′ : Exprs) → Bytes s → Bytes s′
+    → read s room ≡ readable rs es → read s′ room′ ≡ readable rs′ es′ → canonical es ≡ canonical es′ → es ≡ es′
+same-canonical s s′ room room′ rs rs′ es es′ b b′ r r′ h =
+    let k : ℕ = length rs + length rs′ in
+    let one = canonical-reads s room rs es b r k (omega arith) in
+    let other = canonical-reads s′ room′ rs′ es′ b′ r′ k (omega arith) in
+    let both : read (canonical es) k ≡ read (canonical es′) k = ap (λ (x : List ℕ). read x k) h in
+    cc
+
+-- What was written
+
+module _ (s t o : List ℕ) (stream : Bytes s) (accepted : Write s t o .number ≡ 0) where
+  pub it : Written s t o
+  it = written s t o stream accepted
+
+  pub written-means : it .meaning ≡ meaning-of s
+  written-means = read-readable s (length t / 4) (it .rows) (it .meaning) (it .reads) .means
+
+  pub written-canonical : result-bytes (Write s t o) ≡ canonical (meaning-of s)
+  written-canonical = ap result-bytes (it .is) ∙ put-out-bytes (canonical (it .meaning)) 0 (filled (it .rows) t) o ∙ ap canonical written-means
+
+  pub written-reads : reading (result-bytes (Write s t o)) t ≡ readable (rows-of (tokens 0 0 (result-bytes (Write s t o)))) (meaning-of s)
+  written-reads =
+      let m = meant s (length t / 4) (it .rows) (it .meaning) stream (it .reads) in
+      rw (written-canonical, ← written-means)
+      (canonical-reads s (length t / 4) (it .rows) (it .meaning) stream (it .reads) (length t / 4) (omega (arith, m .counted, m .roomy)))
+
+  pub written-stream : Bytes (result-bytes (Write s t o))
+  written-stream = rw (written-canonical, ← written-means) (canonical-stream s (length t / 4) (it .rows) (it .meaning) stream (it .reads))
+
+-- What was left
+
+module _ (s t : List ℕ) (w : ℕ) (o : List ℕ) (n : ℕ) (stream : Bytes s) (accepted : Evaluate s t w o n .number ≡ 0) where
+  pub ran : Ran s t w o n
+  ran = evaluate-ran s t w o n stream accepted
+
+  pub ran-means : ran .meaning ≡ meaning-of s
+  ran-means = read-readable s (length t / 4) (ran .rows) (ran .meaning) (ran .reads) .means
+
+  pub ran-ends : run (meaning-of s) .end ≡ done (ran .left)
+  ran-ends = rw (← ran-means) (ran .within .ends)
+
+  left-values : result (ran .left) ≡ values-of s
+  left-values = rw ran-ends
+
+  left-fits : FitsAll (values-of s) × (deepest (values-of s) ≤ 64)
+  left-fits =
+      rw (← left-values)
+      (run-fits (ran .meaning) (ran .left) (reading-fits s t (ran .rows) (ran .meaning) stream (ran .reads)) (ran .within .ends))
+
+  left-short : length (canonical (values-of s)) ≤ 65536
+  left-short = rw (← left-values) (omega (arith, run-paid (ran .meaning) (ran .left) (ran .within .ends), ran .within .work))
+
+  pub left-canonical : result-bytes (Evaluate s t w o n) ≡ canonical (values-of s)
+  left-canonical =
+      ap result-bytes (ran .is)
+      ∙ put-out-bytes (canonical (result (ran .left))) (steps-in (run (ran .meaning) .events)) (filled (ran .rows) t) o
+      ∙ ap canonical left-values
+
+  pub left-stream : Bytes (result-bytes (Evaluate s t w o n))
+  left-stream = rw left-canonical (canonical-bytes (values-of s) (left-fits .0) left-short)
+
+  pub left-reads : (room : ℕ) → rows-all (values-of s) ≤ room
+      → read (result-bytes (Evaluate s t w o n)) room ≡ readable (rows-of (tokens 0 0 (result-bytes (Evaluate s t w o n)))) (values-of s)
+  left-reads room h = rw left-canonical (read-canonical (values-of s) room (left-fits .0) (left-fits .1) left-short h)
+
+  pub left-begins : (q : ℕ) → Begins (result-bytes (Evaluate s t w o n)) (bytes-of-first q s)
+  left-begins q =
+      let ls = left-by (run (meaning-of s) .end) in record {
+        back = canonical (result (drop q ls));
+        is = left-canonical ∙ ap canonical (result-split q ls) ∙ canonical-append (result (take q ls)) (result (drop q ls));
+      }
