@@ -20,7 +20,8 @@ abbrev pub Off : {A : Type 0} → (A → ℕ → Type 0) → ℕ → Taken A →
 Off P n (taken a s) = P a (length s) × Bytes s × (length s ≤ n)
 Off P n (failed w s) = (length s ≤ n) × (1 ≤ w) × (w ≤ 8)
 
-off-choice : {A : Type 0} (P : A → ℕ → Type 0) (n : ℕ) (b : Bool) (x y : Taken A) → (b ≡ true → Off P n x) → (b ≡ false → Off P n y) → Off P n (if b then x else y)
+off-choice : {A : Type 0} (P : A → ℕ → Type 0) (n : ℕ) (b : Bool) (x y : Taken A) → (b ≡ true → Off P n x) → (b ≡ false → Off P n y)
+    → Off P n (if b then x else y)
 off-choice P n true x y f g = f refl
 off-choice P n false x y f g = g refl
 
@@ -74,7 +75,8 @@ head-natural (x ∷ y ∷ s) b = omega (arith, head-bounds (natural ((0 * 256 + 
 abbrev Length : ℕ → ℕ → ℕ → Type 0
 Length total n left = head-size n + left ≤ 1 + total
 
-off-as-length : (n m total : ℕ) (s : List ℕ) → 1 + length s ≤ total → length s ≤ m → (x : Taken (List ℕ)) → Off (Part n (length s)) m x → Off (Length total) m (and-then x as-length)
+off-as-length : (n m total : ℕ) (s : List ℕ) → 1 + length s ≤ total → length s ≤ m → (x : Taken (List ℕ)) → Off (Part n (length s)) m x
+    → Off (Length total) m (and-then x as-length)
 off-as-length n m total s h k x o = off-then (Part n (length s)) (Length total) m x as-length o
     (λ bs t p b l. (omega (arith, head-natural bs (p .2), p .1), b, l))
 
@@ -234,7 +236,8 @@ take-front n bs s h =
     rw (fits, take-at bs s n h, drop-at bs s n h)
 
 -- a generic array whose length is a small array
-read-generic : (b : ℕ) (hs bs s : List ℕ) → 0xC0 ≤ b → length hs ≡ b - 0xC0 → natural 0 hs ≡ length bs → read-atom 0x03 (b ∷ (hs ++ (bs ++ s))) ≡ taken (array bs) s
+read-generic : (b : ℕ) (hs bs s : List ℕ) → 0xC0 ≤ b → length hs ≡ b - 0xC0 → natural 0 hs ≡ length bs
+    → read-atom 0x03 (b ∷ (hs ++ (bs ++ s))) ≡ taken (array bs) s
 unfolding read-atom length-expr plain-length
 read-generic b hs bs s h k e =
     rw (

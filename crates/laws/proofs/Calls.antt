@@ -78,13 +78,16 @@ written s t o b h = go (reading s t) refl h
 pub data Way (s t : List ℕ) : Type 0 where
   unread : (v p : ℕ) → reading s t ≡ refused v p → Way s t
   unversioned : (rs : List Row) (es : Exprs) → reading s t ≡ readable rs es → not (is-versioned es) ≡ true → Way s t
-  wrong-version : (rs : List Row) (es : Exprs) → reading s t ≡ readable rs es → not (is-versioned es) ≡ false → not (same (take 6 s) version-bytes) ≡ true → Way s t
-  runs : (rs : List Row) (es : Exprs) → reading s t ≡ readable rs es → not (is-versioned es) ≡ false → not (same (take 6 s) version-bytes) ≡ false → Way s t
+  wrong-version : (rs : List Row) (es : Exprs) → reading s t ≡ readable rs es → not (is-versioned es) ≡ false
+      → not (same (take 6 s) version-bytes) ≡ true → Way s t
+  runs : (rs : List Row) (es : Exprs) → reading s t ≡ readable rs es → not (is-versioned es) ≡ false
+      → not (same (take 6 s) version-bytes) ≡ false → Way s t
 
 pub way : (s t : List ℕ) → Way s t
 way s t = go (reading s t) refl
   where
-    by-version : (rs : List Row) (es : Exprs) → reading s t ≡ readable rs es → (a b : Bool) → not (is-versioned es) ≡ a → not (same (take 6 s) version-bytes) ≡ b → Way s t
+    by-version : (rs : List Row) (es : Exprs) → reading s t ≡ readable rs es → (a b : Bool) → not (is-versioned es) ≡ a
+        → not (same (take 6 s) version-bytes) ≡ b → Way s t
     by-version rs es e true b h k = unversioned rs es e h
     by-version rs es e false true h k = wrong-version rs es e h k
     by-version rs es e false false h k = runs rs es e h k
@@ -140,7 +143,8 @@ not-accepted v (inr (inr k)) h = not-rule {v = 0} refl k h
 pub evaluate-ran : (s t : List ℕ) (w : ℕ) (o : List ℕ) (n : ℕ) → Bytes s → Evaluate s t w o n .number ≡ 0 → Ran s t w o n
 evaluate-ran s t w o n b h = go (way s t) (evaluate-answered s t (way s t) w o n) h
   where
-    cut-ran : (rs : List Row) (es : Exprs) → reading s t ≡ readable rs es → (x : End (List Exprs)) → cut n (min w 65536) (run es .events) (run es .end) ≡ x
+    cut-ran : (rs : List Row) (es : Exprs) → reading s t ≡ readable rs es → (x : End (List Exprs))
+        → cut n (min w 65536) (run es .events) (run es .end) ≡ x
         → Evaluate s t w o n ≡ end-answer rs (steps-in (run es .events)) (filled rs t) o x → Evaluate s t w o n .number ≡ 0 → Ran s t w o n
     cut-ran rs es e (done ls) c q h =
         let room = put-room (put-out-is (canonical (result ls)) (steps-in (run es .events)) (filled rs t) o) (rw q at h) in

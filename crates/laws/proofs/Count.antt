@@ -55,7 +55,8 @@ steps-stepped s t (unversioned rs es e h) w = rw (e, h)
 steps-stepped s t (wrong-version rs es e h k) w = rw (e, h, k)
 steps-stepped s t (runs rs es e h k) w = rw (e, h, k)
 
-way-enough : (s t : List ℕ) (y : Way s t) (w : ℕ) (o : List ℕ) (n : ℕ) → length (stepped y w) ≤ n → answered y w o n ≡ answered y w o (length (stepped y w))
+way-enough : (s t : List ℕ) (y : Way s t) (w : ℕ) (o : List ℕ) (n : ℕ) → length (stepped y w) ≤ n
+    → answered y w o n ≡ answered y w o (length (stepped y w))
 way-enough s t (unread v p e) w o n h = refl
 way-enough s t (unversioned rs es e x) w o n h = refl
 way-enough s t (wrong-version rs es e x y) w o n h = refl
@@ -64,7 +65,8 @@ way-enough s t (runs rs es e x y) w o n h =
     rw same-length (ap (end-answer rs (steps-in (run es .events)) (filled rs t) o) (steps-enough (run es .events) (run es .end) n (min w 65536) (rw same-length at h)))
 
 -- with all the steps that the rules take, or more, the answer does not depend on how many
-pub steps-enough-same : (s t : List ℕ) (w : ℕ) (o : List ℕ) (n : ℕ) → length (steps-of s t w) ≤ n → Evaluate s t w o n ≡ Evaluate s t w o (length (steps-of s t w))
+pub steps-enough-same : (s t : List ℕ) (w : ℕ) (o : List ℕ) (n : ℕ) → length (steps-of s t w) ≤ n
+    → Evaluate s t w o n ≡ Evaluate s t w o (length (steps-of s t w))
 steps-enough-same s t w o n h =
     let y = way s t in
     let l = ap length (steps-stepped s t y w) in
@@ -108,7 +110,8 @@ way-sixteen s t (runs rs es e x y) w o n b h = rw (length-map l (λ r. row-at rs
     l = steps-within (min w 65536) (run es .events)
 
     -- it would be the run's own end
-    own : (z : End (List Exprs)) → cut (length l) (min w 65536) (run es .events) (run es .end) ≡ z → end-answer rs (steps-in (run es .events)) (filled rs t) o z .number ≡ 16 → ⊥
+    own : (z : End (List Exprs)) → cut (length l) (min w 65536) (run es .events) (run es .end) ≡ z
+        → end-answer rs (steps-in (run es .events)) (filled rs t) o z .number ≡ 16 → ⊥
     own (done ls) c k = put-number (put-out-is (canonical (result ls)) (steps-in (run es .events)) (filled rs t) o) k
     own (stopped v r) c k =
         not-rule {v = 16} {w = 16} refl

@@ -30,7 +30,8 @@ abbrev weight : List Exprs → ℕ
 weight [] = 0
 weight (es ∷ ls) = length (canonical es) + 1 + weight ls
 
-put-sound : (d : ℕ) (e : Expr) (ls : List Exprs) → FitsExpr e → depth e + d ≤ 64 → Sound d ls → Sound d (put e ls) × (weight (put e ls) ≡ length (bytes e) + weight ls)
+put-sound : (d : ℕ) (e : Expr) (ls : List Exprs) → FitsExpr e → depth e + d ≤ 64 → Sound d ls
+    → Sound d (put e ls) × (weight (put e ls) ≡ length (bytes e) + weight ls)
 unfolding depth bytes
 put-sound zero e [] f h s = absurd s
 put-sound zero e (es ∷ []) f h s = (((f, s .0), omega (arith, s .1)), simp length-append (omega arith))
@@ -46,7 +47,8 @@ wrap-sound d (es ∷ ls) s =
     (p .0, simp length-append at (p .1) ∙ omega arith)
 
 module _ (end room : ℕ) where
-  lists-sound : (ts : List Token) (p d n : ℕ) → d ≤ 64 → Laid p ts end → check end room ts d n ≡ right → Sound d (lists ts) × (p + weight (lists ts) ≤ end + 1)
+  lists-sound : (ts : List Token) (p d n : ℕ) → d ≤ 64 → Laid p ts end → check end room ts d n ≡ right
+      → Sound d (lists ts) × (p + weight (lists ts) ≤ end + 1)
   unfolding lists depth bytes
   lists-sound [] p d n h l c =
       let z = right-end end room d n c in
@@ -87,7 +89,8 @@ read-readable s room rs es h = go (ltb 65536 (length s)) refl (check (length s) 
     go false e right k h = record { short = ltb-false 65536 (length s) e; passes = k; rows-are = cc; means = cc }
     go false e (wrong w p) k h = absurd (let z : _≡_ {A = ℕ} 0 1 = cc in omega arith)
 
-pub readable-read : (s : List ℕ) (room : ℕ) → length s ≤ 65536 → check (length s) room (tokens 0 0 s) 0 0 ≡ right → read s room ≡ readable (rows-of (tokens 0 0 s)) (meaning-of s)
+pub readable-read : (s : List ℕ) (room : ℕ) → length s ≤ 65536 → check (length s) room (tokens 0 0 s) 0 0 ≡ right
+    → read s room ≡ readable (rows-of (tokens 0 0 s)) (meaning-of s)
 unfolding read
 readable-read s room h k = rw (le-ltb 65536 (length s) h, k)
 
@@ -96,7 +99,8 @@ pub read-refused : (s : List ℕ) (room w p : ℕ) → Bytes s → read s room �
 unfolding read
 read-refused s room w p b h = go (ltb 65536 (length s)) (check (length s) room (tokens 0 0 s) 0 0) (check-refusal (length s) room (tokens 0 0 s) 0 0 0 (stream-laid s b)) h
   where
-    go : (c : Bool) (v : Verdict) → Refusal (length s) v → (if c then refused 1 0 else by-verdict v (tokens 0 0 s)) ≡ refused w p → (1 ≤ w) × (w ≤ 8) × (p ≤ length s)
+    go : (c : Bool) (v : Verdict) → Refusal (length s) v → (if c then refused 1 0 else by-verdict v (tokens 0 0 s)) ≡ refused w p
+        → (1 ≤ w) × (w ≤ 8) × (p ≤ length s)
     go true v r h = let number : 1 ≡ w = cc in let place : 0 ≡ p = cc in omega arith
     go false right r h = absurd (let z : _≡_ {A = ℕ} 0 1 = cc in omega arith)
     go false (wrong v q) r h = let number : v ≡ w = cc in let place : q ≡ p = cc in omega (arith, r .0, r .1, r .2)
@@ -117,7 +121,8 @@ read-meant s room rs es b r =
     subst (λ (x : Exprs). Meant s room rs x) (sym (r .means))
     (only-list (lists ts) (sound .0) (sound .1) (size ∙ rows-count (length s) room ts 0 0 (r .passes) .0) (omega (arith, size, rows-room (length s) room ts 0 0 (r .passes) (omega arith))))
   where
-    only-list : (ls : List Exprs) → Sound 0 ls → 0 + weight ls ≤ length s + 1 → length rs ≡ rows-in ls → length rs ≤ room → Meant s room rs (getD ls 0 none)
+    only-list : (ls : List Exprs) → Sound 0 ls → 0 + weight ls ≤ length s + 1 → length rs ≡ rows-in ls → length rs ≤ room
+        → Meant s room rs (getD ls 0 none)
     only-list [] o w c k = absurd o
     only-list (fs ∷ []) o w c k = record { fits = o .0; shallow = o .1; shorter = omega arith; counted = omega arith; roomy = omega arith }
     only-list (fs ∷ gs ∷ ls) o w c k = absurd o
@@ -151,7 +156,8 @@ token-atom a f p s =
     let end : p + 1 + length (f .others ++ s) - length s ≡ p + suc (length (f .others)) = simp length-append (omega arith) in
     rw (ne-eqb (f .byte) 0x01 (f .no-opening), ne-eqb (f .byte) 0x02 (f .no-closing), f .reads s, end)
 
-tokens-atom : (a : Atom) → Fits a → (p : ℕ) (s : List ℕ) → tokens p 0 (atom-bytes a ++ s) ≡ whole a p (p + length (atom-bytes a)) ∷ tokens (p + length (atom-bytes a)) 0 s
+tokens-atom : (a : Atom) → Fits a → (p : ℕ) (s : List ℕ)
+    → tokens p 0 (atom-bytes a ++ s) ≡ whole a p (p + length (atom-bytes a)) ∷ tokens (p + length (atom-bytes a)) 0 s
 unfolding tokens
 tokens-atom a fits p s =
     let f = front a fits in
@@ -187,7 +193,8 @@ mutual
       ∙ ap wrap (lists-all es f (p + 1) (0x02 ∷ s) ∙ ap (λ x. put-all es (lists x)) (tokens-closing (p + 1 + length (canonical es)) s) ∙ put-all-none es _)
       ∙ ap (λ (q : ℕ). put (form es) (lists (tokens q 0 s))) (form-end es p)
 
-  lists-all : (es : Exprs) → FitsAll es → (p : ℕ) (s : List ℕ) → lists (tokens p 0 (canonical es ++ s)) ≡ put-all es (lists (tokens (p + length (canonical es)) 0 s))
+  lists-all : (es : Exprs) → FitsAll es → (p : ℕ) (s : List ℕ)
+      → lists (tokens p 0 (canonical es ++ s)) ≡ put-all es (lists (tokens (p + length (canonical es)) 0 s))
   lists-all none f p s = ap (λ (q : ℕ). lists (tokens q 0 s)) (omega arith)
   lists-all (more e es) f p s =
       rw (append-assoc (bytes e) (canonical es) s)

@@ -27,7 +27,8 @@ module _ (t t′ o o′ : List ℕ) (room : length o ≤ length o′) where
   end-alike rs k (done ls) f = put-alike (canonical (result ls)) k (put-out-is (canonical (result ls)) k t o) f
   end-alike rs k (stopped w r) f = refusals-alike w (row-at rs r .start) t t′ o o′
 
-  kept-alike : (rs : List Row) (k : ℕ) (e e′ : End (List Exprs)) → Kept e e′ → Final (end-answer rs k t o e) → Alike (end-answer rs k t o e) (end-answer rs k t′ o′ e′)
+  kept-alike : (rs : List Row) (k : ℕ) (e e′ : End (List Exprs)) → Kept e e′ → Final (end-answer rs k t o e)
+      → Alike (end-answer rs k t o e) (end-answer rs k t′ o′ e′)
   kept-alike rs k e e′ (kept h) f = rw (← h) (end-alike rs k e f)
   kept-alike rs k e e′ (no-steps r h) f = absurd (f .steps-last (rw h))
   kept-alike rs k e e′ (no-work r h) f = absurd (f .work-fits (rw h))

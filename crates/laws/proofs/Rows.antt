@@ -65,7 +65,8 @@ rising-but-first lo [] hi o = o
 rising-but-first lo (e ∷ es) hi o = rising-from-lower lo e es hi (omega arith) (o .1)
 
 module _ (end room : ℕ) where
-  pub rows-count : (ts : List Token) (d n : ℕ) → check end room ts d n ≡ right → (length (rows-of ts) ≡ rows-in (lists ts)) × (length (lists ts) ≡ d + 1)
+  pub rows-count : (ts : List Token) (d n : ℕ) → check end room ts d n ≡ right
+      → (length (rows-of ts) ≡ rows-in (lists ts)) × (length (lists ts) ≡ d + 1)
   unfolding rows-of lists rows rows-all
   rows-count [] d n c = let z = right-end end room d n c in omega arith
   rows-count (opening p ∷ ts) d n c =

@@ -90,7 +90,8 @@ module _ {A : Type 0} where
       go true h on = refl
       go false h on = on h
 
-  pub steps-short : (es : List Event) (e : End A) (n w : ℕ) → n < length (steps-within w es) → cut n w es e ≡ stopped 16 (getD (steps-within w es) n 0)
+  pub steps-short : (es : List Event) (e : End A) (n w : ℕ) → n < length (steps-within w es)
+      → cut n w es e ≡ stopped 16 (getD (steps-within w es) n 0)
   unfolding cut steps-within
   steps-short [] e n w h = absurd (omega arith)
   steps-short (step r ∷ es) e zero w h = refl
@@ -126,7 +127,8 @@ module _ {A : Type 0} where
     by-work : v ≡ 17 → StoppedBy e v r
     by-rule : e ≡ stopped v r → StoppedBy e v r
 
-  stopped-choice : (e : End A) (b : Bool) (w q : ℕ) (x : End A) (v r : ℕ) → (w ≡ v → StoppedBy e v r) → (x ≡ stopped v r → StoppedBy e v r) → (if b then stopped w q else x) ≡ stopped v r → StoppedBy e v r
+  stopped-choice : (e : End A) (b : Bool) (w q : ℕ) (x : End A) (v r : ℕ) → (w ≡ v → StoppedBy e v r) → (x ≡ stopped v r → StoppedBy e v r)
+      → (if b then stopped w q else x) ≡ stopped v r → StoppedBy e v r
   stopped-choice e true w q x v r f g h = f (cc)
   stopped-choice e false w q x v r f g h = g h
 

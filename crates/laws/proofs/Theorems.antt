@@ -41,7 +41,8 @@ pub canonical-equal : (s s′ : List ℕ) (room room′ : ℕ) (rs rs′ : List 
 canonical-equal s s′ room room′ rs rs′ es es′ b b′ r r′ = (same-canonical s s′ room room′ rs rs′ es es′ b b′ r r′, λ h. ap canonical h)
 
 -- "Given table and room enough": a readable stream is written if the output is as long as the stream
-pub write-accepts : (s t o : List ℕ) (rs : List Row) (es : Exprs) → Bytes s → reading s t ≡ readable rs es → length s ≤ length o → Write s t o .number ≡ 0
+pub write-accepts : (s t o : List ℕ) (rs : List Row) (es : Exprs) → Bytes s → reading s t ≡ readable rs es → length s ≤ length o
+    → Write s t o .number ≡ 0
 unfolding Write
 write-accepts s t o rs es b r h =
     let fits = canonical-shorter s (length t / 4) rs es b r in

@@ -27,7 +27,8 @@ module _ (end room : ℕ) where
       go true e h = eqb-true d 0 e
       go false e h = absurd (let z : _≡_ {A = ℕ} 0 1 = cc in omega arith)
 
-  pub right-opening : (ts : List Token) (p d n : ℕ) → check end room (opening p ∷ ts) d n ≡ right → (d < 64) × (n < room) × (check end room ts (d + 1) (n + 1) ≡ right)
+  pub right-opening : (ts : List Token) (p d n : ℕ) → check end room (opening p ∷ ts) d n ≡ right
+      → (d < 64) × (n < room) × (check end room ts (d + 1) (n + 1) ≡ right)
   unfolding check
   right-opening ts p d n h =
       let a = not-refused (leb 64 d) 6 p _ h in
@@ -41,7 +42,8 @@ module _ (end room : ℕ) where
       let z = eqb-false d 0 (a .0) in
       (omega (arith, z), a .1)
 
-  pub right-whole : (ts : List Token) (a : Atom) (p e d n : ℕ) → check end room (whole a p e ∷ ts) d n ≡ right → (n < room) × (check end room ts d (n + 1) ≡ right)
+  pub right-whole : (ts : List Token) (a : Atom) (p e d n : ℕ) → check end room (whole a p e ∷ ts) d n ≡ right
+      → (n < room) × (check end room ts d (n + 1) ≡ right)
   unfolding check
   right-whole ts a p e d n h =
       let b = not-refused (leb room n) 8 p _ h in
@@ -77,7 +79,8 @@ laid-first p b s h bs rest = go (eqb b 0x01) (eqb b 0x02) (read-atom b s) (off-a
     next : Laid (p + 1) (tokens (p + 1) 0 s) end
     next = laid-at (p + 1 + 0) (p + 1) (tokens (p + 1) 0 s) end end (omega arith) refl (rest 0 (omega arith))
 
-    atomic : (x : Taken Atom) → Off (Read (suc (length s))) (suc (length s)) x → Laid p (atom-token p end x ∷ tokens (p + 1) (further (atom-token p end x)) s) end
+    atomic : (x : Taken Atom) → Off (Read (suc (length s))) (suc (length s)) x
+        → Laid p (atom-token p end x ∷ tokens (p + 1) (further (atom-token p end x)) s) end
     atomic (taken a t) o =
         let size = ap length (front a (o .0 .0) .is) in
         let l : length t ≤ length s = omega (arith, size, o .0 .1) in (
@@ -148,7 +151,8 @@ tokens-few (b ∷ s) p zero = omega (arith, tokens-few s (p + 1) (further (token
 tokens-few (b ∷ s) p (suc k) = omega (arith, tokens-few s (p + 1) k)
 
 -- with a row for each token, more make no difference
-pub check-room : (end room room′ : ℕ) (ts : List Token) (d n : ℕ) → n + length ts ≤ room → n + length ts ≤ room′ → check end room ts d n ≡ check end room′ ts d n
+pub check-room : (end room room′ : ℕ) (ts : List Token) (d n : ℕ) → n + length ts ≤ room → n + length ts ≤ room′
+    → check end room ts d n ≡ check end room′ ts d n
 unfolding check
 check-room end room room′ [] d n h k = refl
 check-room end room room′ (opening q ∷ ts) d n h k =
