@@ -38,7 +38,11 @@ Part n total bs left = (length bs ≡ n) × (length bs + left ≡ total) × Byte
 off-take : (n m : ℕ) (s : List ℕ) → Bytes s → length s ≤ m → Off (Part n (length s)) m (take-bytes n s)
 unfolding take-bytes
 off-take n m s b h = off-choice (Part n (length s)) m (leb n (length s)) (taken (take n s) (drop n s)) (failed 2 [])
-    (λ e. let k = leb-true n (length s) e in ((simp length-take (omega arith), simp (length-take, length-drop) (omega arith), bytes-take n s b), bytes-drop n s b, simp length-drop (omega arith)))
+    (λ e. let k = leb-true n (length s) e in (
+      (simp length-take (omega arith), simp (length-take, length-drop) (omega arith), bytes-take n s b),
+      bytes-drop n s b,
+      simp length-drop (omega arith),
+    ))
     (λ e. omega arith)
 
 -- lengths
@@ -86,7 +90,8 @@ off-plain b s h bs =
     off-choice (Length (suc (length s))) (suc (length s)) (ltb b 0x80) _ _ (λ e. omega arith) λ e.
     off-choice (Length (suc (length s))) (suc (length s)) (ltb b 0xC0) _ _
     (λ e′. (omega (arith, head-small (b - 0x80) (omega (arith, ltb-true b 0xC0 e′))), bs, omega arith))
-    (λ e′. off-as-length (b - 0xC0) (suc (length s)) (suc (length s)) s (omega arith) (omega arith) (take-bytes (b - 0xC0) s) (off-take (b - 0xC0) (suc (length s)) s bs (omega arith)))
+    (λ e′. off-as-length (b - 0xC0) (suc (length s)) (suc (length s)) s (omega arith) (omega arith) (take-bytes (b - 0xC0) s)
+    (off-take (b - 0xC0) (suc (length s)) s bs (omega arith)))
 
 -- the bytes of a generic array whose length begins with the first of `total` bytes
 abbrev Generic : ℕ → List ℕ → ℕ → Type 0
@@ -186,7 +191,8 @@ unfolding read-atom atom-bytes
 off-atom b s h bs =
     let n : ℕ = suc (length s) in
     off-choice (Read n) n (eqb b 0x00) _ _ (λ e. ((tt, omega arith), bs, omega arith)) λ e0.
-    off-choice (Read n) n (eqb b 0x03) _ _ (λ e. off-array (length s) (and-then (length-expr 7 s) take-bytes) (off-generic (length s) (length-expr 7 s) (off-length 7 s bs))) λ e3.
+    off-choice (Read n) n (eqb b 0x03) _ _
+    (λ e. off-array (length s) (and-then (length-expr 7 s) take-bytes) (off-generic (length s) (length-expr 7 s) (off-length 7 s bs))) λ e3.
     off-choice (Read n) n (ltb b 0x10) _ _ (λ e. omega arith) λ e10.
     off-choice (Read n) n (ltb b 0x7F) _ _
     (λ e. off-name n b (b ∷ s) s (ltb-false b 0x10 e10) bs (omega arith) (omega arith) (λ k. omega (arith, reference-size b k .0 (ltb-true b 0x7F e)))) λ e7F.

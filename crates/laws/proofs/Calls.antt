@@ -1,7 +1,6 @@
 -- Laws of the calls: the ways in which Write and Evaluate answer, and what follows from an acceptance.
 use Prim.Native.Nat.{ℕ, _/_, _≤_, _<_, min}
 use mathlib.Core.Path.{_≡_, refl, ap, _∙_}
-use mathlib.Core.Logic.{_⊎_, inl, inr}
 use mathlib.Core.List.{List}
 use mathlib.Core.Bool.{Bool, true, false, not}
 use lib.ListN.{length, take, drop}
@@ -14,7 +13,7 @@ use Rattle.spec.specs.Reading.{Row, Reading, refused, readable}
 use Rattle.spec.specs.Runs.{End, done, stopped, cut, steps-in}
 use Rattle.spec.specs.Evaluation.{run, result}
 use Rattle.spec.specs.Calls.{Answer, refusal, acceptance, over, filled, put-out, once-read, reading, Write, is-versioned, version-bytes, end-answer, run-answer, Evaluate}
-use Rattle.laws.specs.Demands.{Bytes, result-bytes}
+use Rattle.laws.specs.Demands.{Bytes, Lent, evaluation, result-bytes}
 use Rattle.laws.specs.Sanity.{RuleNumber}
 use Rattle.laws.proofs.Fits.{FitsAll}
 use Rattle.laws.proofs.Reading.{read-refused, read-readable, read-meant}
@@ -97,62 +96,79 @@ way s t = go (reading s t) refl
     go (readable rs es) e = by-version rs es e (not (is-versioned es)) (not (same (take 6 s) version-bytes)) refl refl
 
 -- what is answered then
-abbrev pub answered : {s t : List ℕ} → Way s t → ℕ → List ℕ → ℕ → Answer
-answered {s} {t} (unread v p e) w o n = refusal v p t o
-answered {s} {t} (unversioned rs es e h) w o n = refusal 9 0 (filled rs t) o
-answered {s} {t} (wrong-version rs es e h k) w o n = refusal 10 0 (filled rs t) o
-answered {s} {t} (runs rs es e h k) w o n =
-    end-answer rs (steps-in (run es .events)) (filled rs t) o (cut n (min w 65536) (run es .events) (run es .end))
+abbrev pub answered : {s t : List ℕ} → Way s t → Lent → Answer
+answered {s} {t} (unread v p e) l = refusal v p t (l .output)
+answered {s} {t} (unversioned rs es e h) l = refusal 9 0 (filled rs t) (l .output)
+answered {s} {t} (wrong-version rs es e h k) l = refusal 10 0 (filled rs t) (l .output)
+answered {s} {t} (runs rs es e h k) l =
+    end-answer rs (steps-in (run es .events)) (filled rs t) (l .output) (cut (l .steps) (min (l .work) 65536) (run es .events) (run es .end))
 
-pub evaluate-answered : (s t : List ℕ) (y : Way s t) (w : ℕ) (o : List ℕ) (n : ℕ) → Evaluate s t w o n ≡ answered y w o n
+pub evaluation-answered : (s : List ℕ) (l : Lent) (y : Way s (l .table)) → evaluation s l ≡ answered y l
 unfolding Evaluate run-answer
-evaluate-answered s t (unread v p e) w o n = rw e
-evaluate-answered s t (unversioned rs es e h) w o n = rw (e, h)
-evaluate-answered s t (wrong-version rs es e h k) w o n = rw (e, h, k)
-evaluate-answered s t (runs rs es e h k) w o n = rw (e, h, k)
-
--- an acceptance: the run's own end, within steps, workspace and output
-pub record Ran (s t : List ℕ) (w : ℕ) (o : List ℕ) (n : ℕ) : Type 0 where
-  pub rows : List Row
-  pub meaning : Exprs
-  pub left : List Exprs
-  pub reads : reading s t ≡ readable rows meaning
-  pub within : Within n (min w 65536) (run meaning .events) (run meaning .end) left
-  pub is : Evaluate s t w o n
-      ≡ acceptance (length (canonical (result left))) (steps-in (run meaning .events)) (filled rows t) (over (canonical (result left)) o)
+evaluation-answered s l (unread v p e) = rw e
+evaluation-answered s l (unversioned rs es e h) = rw (e, h)
+evaluation-answered s l (wrong-version rs es e h k) = rw (e, h, k)
+evaluation-answered s l (runs rs es e h k) = rw (e, h, k)
 
 -- what was read fits
 pub reading-fits : (s t : List ℕ) (rs : List Row) (es : Exprs) → Bytes s → reading s t ≡ readable rs es → FitsAll es
 reading-fits s t rs es b r = read-meant s (length t / 4) rs es b (read-readable s (length t / 4) rs es r) .fits
 
 -- a run that is cut is refused with 16, 17 or a rule's number
-cut-number : (s t : List ℕ) (rs : List Row) (es : Exprs) (w n v r : ℕ) → Bytes s → reading s t ≡ readable rs es
-    → cut n (min w 65536) (run es .events) (run es .end) ≡ stopped v r → (v ≡ 16) ⊎ (v ≡ 17) ⊎ RuleNumber v
-cut-number s t rs es w n v r b e h = go (cut-stopped (run es .events) (run es .end) n (min w 65536) v r h)
-  where
-    go : StoppedBy (run es .end) v r → (v ≡ 16) ⊎ (v ≡ 17) ⊎ RuleNumber v
-    go (by-steps k) = inl k
-    go (by-work k) = inr (inl k)
-    go (by-rule k) = inr (inr (run-proper es (reading-fits s t rs es b e) .stops v r k .0))
+data Refused (v : ℕ) : Type 0 where
+  for-steps : v ≡ 16 → Refused v
+  for-work : v ≡ 17 → Refused v
+  for-rule : RuleNumber v → Refused v
 
-not-accepted : (v : ℕ) → (v ≡ 16) ⊎ (v ≡ 17) ⊎ RuleNumber v → v ≡ 0 → ⊥
-not-accepted v (inl k) h = omega arith
-not-accepted v (inr (inl k)) h = omega arith
-not-accepted v (inr (inr k)) h = not-rule {v = 0} refl k h
-
-pub evaluate-ran : (s t : List ℕ) (w : ℕ) (o : List ℕ) (n : ℕ) → Bytes s → Evaluate s t w o n .number ≡ 0 → Ran s t w o n
-evaluate-ran s t w o n b h = go (way s t) (evaluate-answered s t (way s t) w o n) h
+cut-refused : (es : Exprs) → FitsAll es → (n w v r : ℕ) → cut n w (run es .events) (run es .end) ≡ stopped v r → Refused v
+cut-refused es f n w v r h = go (cut-stopped (run es .events) (run es .end) n w v r h)
   where
-    cut-ran : (rs : List Row) (es : Exprs) → reading s t ≡ readable rs es → (x : End (List Exprs))
-        → cut n (min w 65536) (run es .events) (run es .end) ≡ x
-        → Evaluate s t w o n ≡ end-answer rs (steps-in (run es .events)) (filled rs t) o x → Evaluate s t w o n .number ≡ 0 → Ran s t w o n
+    go : StoppedBy (run es .end) v r → Refused v
+    go (by-steps k) = for-steps k
+    go (by-work k) = for-work k
+    go (by-rule k) = for-rule (run-proper es f .stops v r k .0)
+
+not-accepted : (v : ℕ) → Refused v → v ≡ 0 → ⊥
+not-accepted v (for-steps k) h = omega arith
+not-accepted v (for-work k) h = omega arith
+not-accepted v (for-rule k) h = not-rule {v = 0} refl k h
+
+-- an acceptance: the run's own end, within steps, workspace and output
+pub record Ran (s : List ℕ) (l : Lent) : Type 0 where
+  pub rows : List Row
+  pub meaning : Exprs
+  pub left : List Exprs
+  pub reads : reading s (l .table) ≡ readable rows meaning
+  pub within : Within (l .steps) (min (l .work) 65536) (run meaning .events) (run meaning .end) left
+  pub is : evaluation s l
+      ≡ acceptance (length (canonical (result left))) (steps-in (run meaning .events)) (filled rows (l .table)) (over (canonical (result left)) (l .output))
+
+pub evaluate-ran : (s : List ℕ) (l : Lent) → Bytes s → evaluation s l .number ≡ 0 → Ran s l
+evaluate-ran s l b h = go (way s t) (evaluation-answered s l (way s t)) h
+  where
+    t : List ℕ
+    t = l .table
+
+    o : List ℕ
+    o = l .output
+
+    cut-ran : (rs : List Row) (es : Exprs) → reading s t ≡ readable rs es
+        → (x : End (List Exprs)) → cut (l .steps) (min (l .work) 65536) (run es .events) (run es .end) ≡ x
+        → evaluation s l ≡ end-answer rs (steps-in (run es .events)) (filled rs t) o x → evaluation s l .number ≡ 0 → Ran s l
     cut-ran rs es e (done ls) c q h =
-        let room = put-room (put-out-is (canonical (result ls)) (steps-in (run es .events)) (filled rs t) o) (rw q at h) in
-        record { rows = rs; meaning = es; left = ls; reads = e; within = cut-done (run es .events) (run es .end) n (min w 65536) ls c; is = q ∙ put-out-room (canonical (result ls)) (steps-in (run es .events)) (filled rs t) o room }
-    cut-ran rs es e (stopped v r) c q h = absurd (not-accepted v (cut-number s t rs es w n v r b e c) (rw q at h))
+        let room = put-room (put-out-is (canonical (result ls)) (steps-in (run es .events)) (filled rs t) o) (rw q at h) in record {
+          rows = rs;
+          meaning = es;
+          left = ls;
+          reads = e;
+          within = cut-done (run es .events) (run es .end) (l .steps) (min (l .work) 65536) ls c;
+          is = q ∙ put-out-room (canonical (result ls)) (steps-in (run es .events)) (filled rs t) o room;
+        }
+    cut-ran rs es e (stopped v r) c q h =
+        absurd (not-accepted v (cut-refused es (reading-fits s t rs es b e) (l .steps) (min (l .work) 65536) v r c) (rw q at h))
 
-    go : (y : Way s t) → Evaluate s t w o n ≡ answered y w o n → Evaluate s t w o n .number ≡ 0 → Ran s t w o n
+    go : (y : Way s t) → evaluation s l ≡ answered y l → evaluation s l .number ≡ 0 → Ran s l
     go (unread v p e) q h = absurd (let z : v ≡ 0 = rw q at h in omega (arith, read-refused s (length t / 4) v p b e .0))
     go (unversioned rs es e x) q h = absurd (let z : 9 ≡ 0 = rw q at h in omega arith)
     go (wrong-version rs es e x y) q h = absurd (let z : 10 ≡ 0 = rw q at h in omega arith)
-    go (runs rs es e x y) q h = cut-ran rs es e (cut n (min w 65536) (run es .events) (run es .end)) refl q h
+    go (runs rs es e x y) q h = cut-ran rs es e (cut (l .steps) (min (l .work) 65536) (run es .events) (run es .end)) refl q h

@@ -62,7 +62,8 @@ bytes-head (four-bytes k) h = (omega arith, (omega arith, (omega arith, (omega a
 bytes-mark : {m : ℕ} {ms : List ℕ} → Mark m ms → Bytes ms
 bytes-mark (short l) = (omega arith, tt)
 bytes-mark {m} (long l) =
-    (omega arith, bytes-append (replicate ((m - 0x7F) / 0xFF) 0xFF) (((m - 0x7F) % 0xFF) ∷ []) (bytes-replicate ((m - 0x7F) / 0xFF) 0xFF (omega arith)) (omega arith, tt))
+    let full = bytes-replicate ((m - 0x7F) / 0xFF) 0xFF (omega arith) in
+    (omega arith, bytes-append (replicate ((m - 0x7F) / 0xFF) 0xFF) (((m - 0x7F) % 0xFF) ∷ []) full (omega arith, tt))
 
 mutual
   unfolding bytes atom-bytes

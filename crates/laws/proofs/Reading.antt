@@ -97,7 +97,8 @@ readable-read s room h k = rw (le-ltb 65536 (length s) h, k)
 -- a refusal has one of reading's numbers, and its place is in the stream
 pub read-refused : (s : List ℕ) (room w p : ℕ) → Bytes s → read s room ≡ refused w p → (1 ≤ w) × (w ≤ 8) × (p ≤ length s)
 unfolding read
-read-refused s room w p b h = go (ltb 65536 (length s)) (check (length s) room (tokens 0 0 s) 0 0) (check-refusal (length s) room (tokens 0 0 s) 0 0 0 (stream-laid s b)) h
+read-refused s room w p b h =
+    go (ltb 65536 (length s)) (check (length s) room (tokens 0 0 s) 0 0) (check-refusal (length s) room (tokens 0 0 s) 0 0 0 (stream-laid s b)) h
   where
     go : (c : Bool) (v : Verdict) → Refusal (length s) v → (if c then refused 1 0 else by-verdict v (tokens 0 0 s)) ≡ refused w p
         → (1 ≤ w) × (w ≤ 8) × (p ≤ length s)
@@ -119,7 +120,8 @@ read-meant s room rs es b r =
     let sound = lists-sound (length s) room ts 0 0 0 (omega arith) (stream-laid s b) (r .passes) in
     let size : length rs ≡ length (rows-of ts) = ap length (r .rows-are) in
     subst (λ (x : Exprs). Meant s room rs x) (sym (r .means))
-    (only-list (lists ts) (sound .0) (sound .1) (size ∙ rows-count (length s) room ts 0 0 (r .passes) .0) (omega (arith, size, rows-room (length s) room ts 0 0 (r .passes) (omega arith))))
+    (only-list (lists ts) (sound .0) (sound .1) (size ∙ rows-count (length s) room ts 0 0 (r .passes) .0)
+    (omega (arith, size, rows-room (length s) room ts 0 0 (r .passes) (omega arith))))
   where
     only-list : (ls : List Exprs) → Sound 0 ls → 0 + weight ls ≤ length s + 1 → length rs ≡ rows-in ls → length rs ≤ room
         → Meant s room rs (getD ls 0 none)
@@ -211,7 +213,17 @@ module _ (end room : ℕ) where
     check-expr (form es) f p d n s h k =
         let back : d + 1 - 1 ≡ d = omega arith in
         let count : n + 1 + rows-all es ≡ n + (1 + rows-all es) = omega arith in
-        rw (tokens-form es p s, lt-leb 64 d (omega arith), lt-leb room n (omega arith), check-all es f (p + 1) (d + 1) (n + 1) (0x02 ∷ s) (omega arith) (omega arith), tokens-closing (p + 1 + length (canonical es)) s, ne-eqb (d + 1) 0 (λ z. omega arith), back, count, form-end es p)
+        rw (
+          tokens-form es p s,
+          lt-leb 64 d (omega arith),
+          lt-leb room n (omega arith),
+          check-all es f (p + 1) (d + 1) (n + 1) (0x02 ∷ s) (omega arith) (omega arith),
+          tokens-closing (p + 1 + length (canonical es)) s,
+          ne-eqb (d + 1) 0 (λ z. omega arith),
+          back,
+          count,
+          form-end es p,
+        )
 
     check-all : (es : Exprs) → FitsAll es → (p d n : ℕ) (s : List ℕ) → deepest es + d ≤ 64 → n + rows-all es ≤ room
         → check end room (tokens p 0 (canonical es ++ s)) d n ≡ check end room (tokens (p + length (canonical es)) 0 s) d (n + rows-all es)

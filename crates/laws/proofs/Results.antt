@@ -8,8 +8,8 @@ use Rattle.spec.specs.Expr.{Exprs, rows-all, deepest, canonical}
 use Rattle.spec.specs.Reading.{tokens, Row, rows-of, readable, read}
 use Rattle.spec.specs.Runs.{done, steps-in}
 use Rattle.spec.specs.Evaluation.{run, result}
-use Rattle.spec.specs.Calls.{filled, reading, Write, Evaluate}
-use Rattle.laws.specs.Demands.{Bytes, Begins, result-bytes, meaning-of, left-by, values-of, bytes-of-first}
+use Rattle.spec.specs.Calls.{filled, reading, Write}
+use Rattle.laws.specs.Demands.{Bytes, Begins, Lent, evaluation, result-bytes, meaning-of, left-by, values-of, bytes-of-first}
 use Rattle.laws.proofs.Fits.{FitsAll}
 use Rattle.laws.proofs.Canonical.{canonical-append, canonical-bytes}
 use Rattle.laws.proofs.Reading.{read-readable, Meant, read-meant, read-canonical}
@@ -65,12 +65,12 @@ module _ (s t o : List ℕ) (stream : Bytes s) (accepted : Write s t o .number �
 
 -- What was left
 
-module _ (s t : List ℕ) (w : ℕ) (o : List ℕ) (n : ℕ) (stream : Bytes s) (accepted : Evaluate s t w o n .number ≡ 0) where
-  pub ran : Ran s t w o n
-  ran = evaluate-ran s t w o n stream accepted
+module _ (s : List ℕ) (l : Lent) (stream : Bytes s) (accepted : evaluation s l .number ≡ 0) where
+  pub ran : Ran s l
+  ran = evaluate-ran s l stream accepted
 
   pub ran-means : ran .meaning ≡ meaning-of s
-  ran-means = read-readable s (length t / 4) (ran .rows) (ran .meaning) (ran .reads) .means
+  ran-means = read-readable s (length (l .table) / 4) (ran .rows) (ran .meaning) (ran .reads) .means
 
   pub ran-ends : run (meaning-of s) .end ≡ done (ran .left)
   ran-ends = rw (← ran-means) (ran .within .ends)
@@ -81,25 +81,25 @@ module _ (s t : List ℕ) (w : ℕ) (o : List ℕ) (n : ℕ) (stream : Bytes s) 
   left-fits : FitsAll (values-of s) × (deepest (values-of s) ≤ 64)
   left-fits =
       rw (← left-values)
-      (run-fits (ran .meaning) (ran .left) (reading-fits s t (ran .rows) (ran .meaning) stream (ran .reads)) (ran .within .ends))
+      (run-fits (ran .meaning) (ran .left) (reading-fits s (l .table) (ran .rows) (ran .meaning) stream (ran .reads)) (ran .within .ends))
 
   left-short : length (canonical (values-of s)) ≤ 65536
   left-short = rw (← left-values) (omega (arith, run-paid (ran .meaning) (ran .left) (ran .within .ends), ran .within .work))
 
-  pub left-canonical : result-bytes (Evaluate s t w o n) ≡ canonical (values-of s)
+  pub left-canonical : result-bytes (evaluation s l) ≡ canonical (values-of s)
   left-canonical =
       ap result-bytes (ran .is)
-      ∙ put-out-bytes (canonical (result (ran .left))) (steps-in (run (ran .meaning) .events)) (filled (ran .rows) t) o
+      ∙ put-out-bytes (canonical (result (ran .left))) (steps-in (run (ran .meaning) .events)) (filled (ran .rows) (l .table)) (l .output)
       ∙ ap canonical left-values
 
-  pub left-stream : Bytes (result-bytes (Evaluate s t w o n))
+  pub left-stream : Bytes (result-bytes (evaluation s l))
   left-stream = rw left-canonical (canonical-bytes (values-of s) (left-fits .0) left-short)
 
   pub left-reads : (room : ℕ) → rows-all (values-of s) ≤ room
-      → read (result-bytes (Evaluate s t w o n)) room ≡ readable (rows-of (tokens 0 0 (result-bytes (Evaluate s t w o n)))) (values-of s)
+      → read (result-bytes (evaluation s l)) room ≡ readable (rows-of (tokens 0 0 (result-bytes (evaluation s l)))) (values-of s)
   left-reads room h = rw left-canonical (read-canonical (values-of s) room (left-fits .0) (left-fits .1) left-short h)
 
-  pub left-begins : (q : ℕ) → Begins (result-bytes (Evaluate s t w o n)) (bytes-of-first q s)
+  pub left-begins : (q : ℕ) → Begins (result-bytes (evaluation s l)) (bytes-of-first q s)
   left-begins q =
       let ls = left-by (run (meaning-of s) .end) in record {
         back = canonical (result (drop q ls));

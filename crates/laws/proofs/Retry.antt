@@ -8,10 +8,10 @@ use Rattle.spec.specs.Expr.{Exprs, canonical}
 use Rattle.spec.specs.Reading.{Row, read}
 use Rattle.spec.specs.Runs.{End, done, stopped, steps-in}
 use Rattle.spec.specs.Evaluation.{run, result}
-use Rattle.spec.specs.Calls.{Answer, refusal, filled, put-out, reading, row-at, end-answer, Evaluate}
-use Rattle.laws.specs.Demands.{Final, Alike}
+use Rattle.spec.specs.Calls.{Answer, refusal, filled, put-out, reading, row-at, end-answer}
+use Rattle.laws.specs.Demands.{Lent, evaluation, NoSmaller, Final, Alike}
 use Rattle.laws.proofs.Runs.{Kept, kept, no-steps, no-work, cut-more}
-use Rattle.laws.proofs.Calls.{Put, too-short, fits, put-out-is, put-out-room, put-out-bytes, Way, unread, unversioned, wrong-version, runs, way, answered, evaluate-answered}
+use Rattle.laws.proofs.Calls.{Put, too-short, fits, put-out-is, put-out-room, put-out-bytes, Way, unread, unversioned, wrong-version, runs, way, answered, evaluation-answered}
 
 refusals-alike : (w p : ℕ) (t t′ o o′ : List ℕ) → Alike (refusal w p t o) (refusal w p t′ o′)
 refusals-alike w p t t′ o o′ = record { number = refl; place = refl; given = refl; steps = refl; bytes = λ z. refl }
@@ -34,20 +34,31 @@ module _ (t t′ o o′ : List ℕ) (room : length o ≤ length o′) where
   kept-alike rs k e e′ (no-work r h) f = absurd (f .work-fits (rw h))
 
 -- both evaluations read the same
-pub evaluate-alike : (s t t′ : List ℕ) (w w′ : ℕ) (o o′ : List ℕ) (n n′ : ℕ) → length t ≡ length t′ → n ≤ n′ → w ≤ w′ → length o ≤ length o′
-    → Final (Evaluate s t w o n) → Alike (Evaluate s t w o n) (Evaluate s t′ w′ o′ n′)
-evaluate-alike s t t′ w w′ o o′ n n′ tables steps work room f =
+pub evaluate-alike : (s : List ℕ) (l m : Lent) → NoSmaller l m → Final (evaluation s l) → Alike (evaluation s l) (evaluation s m)
+evaluate-alike s l m h f =
     let y = way s t in
-    rw (evaluate-answered s t y w o n) (go y (rw (evaluate-answered s t y w o n) at f))
+    rw (evaluation-answered s l y) (go y (rw (evaluation-answered s l y) at f))
   where
-    as-before : reading s t′ ≡ reading s t
-    as-before = ap (λ (l : ℕ). read s (l / 4)) (sym tables)
+    t : List ℕ
+    t = l .table
 
-    go : (y : Way s t) → Final (answered y w o n) → Alike (answered y w o n) (Evaluate s t′ w′ o′ n′)
-    go (unread v p e) f = rw (evaluate-answered s t′ (unread v p (as-before ∙ e)) w′ o′ n′) (refusals-alike v p t t′ o o′)
-    go (unversioned rs es e h) f = rw (evaluate-answered s t′ (unversioned rs es (as-before ∙ e) h) w′ o′ n′) (refusals-alike 9 0 (filled rs t) (filled rs t′) o o′)
-    go (wrong-version rs es e h k) f = rw (evaluate-answered s t′ (wrong-version rs es (as-before ∙ e) h k) w′ o′ n′) (refusals-alike 10 0 (filled rs t) (filled rs t′) o o′)
-    go (runs rs es e h k) f =
-        rw (evaluate-answered s t′ (runs rs es (as-before ∙ e) h k) w′ o′ n′)
-        (kept-alike (filled rs t) (filled rs t′) o o′ room rs (steps-in (run es .events)) _ _
-        (cut-more (run es .events) (run es .end) n n′ (min w 65536) (min w′ 65536) steps (omega arith)) f)
+    t′ : List ℕ
+    t′ = m .table
+
+    o : List ℕ
+    o = l .output
+
+    o′ : List ℕ
+    o′ = m .output
+
+    as-before : reading s t′ ≡ reading s t
+    as-before = ap (λ (k : ℕ). read s (k / 4)) (sym (h .tables))
+
+    go : (y : Way s t) → Final (answered y l) → Alike (answered y l) (evaluation s m)
+    go (unread v p e) f = rw (evaluation-answered s m (unread v p (as-before ∙ e))) (refusals-alike v p t t′ o o′)
+    go (unversioned rs es e x) f = rw (evaluation-answered s m (unversioned rs es (as-before ∙ e) x)) (refusals-alike 9 0 (filled rs t) (filled rs t′) o o′)
+    go (wrong-version rs es e x y) f = rw (evaluation-answered s m (wrong-version rs es (as-before ∙ e) x y)) (refusals-alike 10 0 (filled rs t) (filled rs t′) o o′)
+    go (runs rs es e x y) f =
+        rw (evaluation-answered s m (runs rs es (as-before ∙ e) x y))
+        (kept-alike (filled rs t) (filled rs t′) o o′ (h .outputs) rs (steps-in (run es .events)) _ _
+        (cut-more (run es .events) (run es .end) (l .steps) (m .steps) (min (l .work) 65536) (min (m .work) 65536) (h .steps) (omega (arith, h .work))) f)

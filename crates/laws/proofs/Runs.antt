@@ -135,5 +135,7 @@ module _ {A : Type 0} where
   pub cut-stopped : (es : List Event) (e : End A) (n w v r : ℕ) → cut n w es e ≡ stopped v r → StoppedBy e v r
   unfolding cut
   cut-stopped [] e n w v r h = by-rule h
-  cut-stopped (step q ∷ es) e n w v r h = stopped-choice e (eqb n 0) 16 q (cut (n - 1) w es e) v r (λ k. by-steps (sym k)) (λ k. cut-stopped es e (n - 1) w v r k) h
-  cut-stopped (charge q m ∷ es) e n w v r h = stopped-choice e (ltb w m) 17 q (cut n (w - m) es e) v r (λ k. by-work (sym k)) (λ k. cut-stopped es e n (w - m) v r k) h
+  cut-stopped (step q ∷ es) e n w v r h =
+      stopped-choice e (eqb n 0) 16 q (cut (n - 1) w es e) v r (λ k. by-steps (sym k)) (λ k. cut-stopped es e (n - 1) w v r k) h
+  cut-stopped (charge q m ∷ es) e n w v r h =
+      stopped-choice e (ltb w m) 17 q (cut n (w - m) es e) v r (λ k. by-work (sym k)) (λ k. cut-stopped es e n (w - m) v r k) h

@@ -18,10 +18,10 @@ use Rattle.laws.proofs.Rows.{rows-ordered, rows-inside, ordered-starts,
 use Rattle.laws.proofs.Reading.{stream-laid, Readable, read-readable, read-refused, read-room}
 use Rattle.laws.proofs.Values.{run-proper}
 use Rattle.laws.proofs.Prefix.{run-first}
-use Rattle.laws.proofs.Calls.{put-out-is, put-out-room, put-place, Way, unread, unversioned, wrong-version, runs, way, answered, evaluate-answered}
+use Rattle.laws.proofs.Calls.{put-out-is, put-out-room, put-place, Way, unread, unversioned, wrong-version, runs, way, answered, evaluation-answered}
 use Rattle.laws.proofs.Results.{meant, canonical-reads, same-canonical, it, written-means, written-canonical, written-reads, written-stream, ran, ran-means, ran-ends, left-canonical, left-stream, left-reads, left-begins}
 use Rattle.laws.proofs.Retry.{evaluate-alike}
-use Rattle.laws.proofs.Count.{refused-counted, steps-enough-same, steps-short-refused, sixteen-short}
+use Rattle.laws.proofs.Count.{refused-counted, enough-same, short-refused, sixteen-short}
 
 -- Demand 2: "Given table and room enough, two readable streams of equal meaning are written to equal bytes, two of different meaning
 -- never, and reading what was written gives the meaning back."
@@ -80,22 +80,21 @@ write-same s s′ t t′ o o′ b b′ a a′ =
 
 module _ (s : List ℕ) (l : Lent) (stream : Bytes s) (accepted : evaluation s l .number ≡ 0) where
   pub result-canonical : result-bytes (evaluation s l) ≡ canonical (values-of s)
-  result-canonical = left-canonical s (l .table) (l .work) (l .output) (l .steps) stream accepted
+  result-canonical = left-canonical s l stream accepted
 
   pub result-stream : Bytes (result-bytes (evaluation s l))
-  result-stream = left-stream s (l .table) (l .work) (l .output) (l .steps) stream accepted
+  result-stream = left-stream s l stream accepted
 
   pub result-readable : (room : ℕ) → rows-all (values-of s) ≤ room
       → read (result-bytes (evaluation s l)) room ≡ readable (rows-of (tokens 0 0 (result-bytes (evaluation s l)))) (values-of s)
-  result-readable = left-reads s (l .table) (l .work) (l .output) (l .steps) stream accepted
+  result-readable = left-reads s l stream accepted
 
 -- Demand 3: "Take any stream and evaluate it twice, with tables of equal length, and with steps, workspace and output each no smaller the
 -- second time, whatever table, workspace and output held before. If the first run accepts, or refuses for a reason other than steps, workspace
 -- or output room, the second gives the same number, place, length and step count, and on acceptance the same result bytes."
 
 pub retry : (s : List ℕ) (l m : Lent) → NoSmaller l m → Final (evaluation s l) → Alike (evaluation s l) (evaluation s m)
-retry s l m h f =
-    evaluate-alike s (l .table) (m .table) (l .work) (m .work) (l .output) (m .output) (l .steps) (m .steps) (h .tables) (h .steps) (h .work) (h .outputs) f
+retry = evaluate-alike
 
 -- "The count is always the one that document 01 defines, never above the steps given": "the steps taken on acceptance, else zero"
 
@@ -106,44 +105,31 @@ pub record Count (s : List ℕ) (l : Lent) : Type 0 where
 
 pub count : (s : List ℕ) (l : Lent) → Bytes s → Count s l
 count s l b = record {
-  accepted = λ h. taken h ∙ ap (λ (es : Exprs). steps-in (run es .events)) (ran-means s t w o n b h);
-  refused = refused-counted s t w o n;
+  accepted = λ h. taken h ∙ ap (λ (es : Exprs). steps-in (run es .events)) (ran-means s l b h);
+  refused = refused-counted s l;
   bounded = go (ℕ-discrete (evaluation s l .number) 0);
 }
   where
-    t : List ℕ
-    t = l .table
-
-    w : ℕ
-    w = l .work
-
-    o : List ℕ
-    o = l .output
-
-    n : ℕ
-    n = l .steps
-
-    taken : (h : evaluation s l .number ≡ 0) → evaluation s l .steps ≡ steps-in (run (ran s t w o n b h .meaning) .events)
-    taken h = ap (λ (a : Answer). a .steps) (ran s t w o n b h .is)
+    taken : (h : evaluation s l .number ≡ 0) → evaluation s l .steps ≡ steps-in (run (ran s l b h .meaning) .events)
+    taken h = ap (λ (a : Answer). a .steps) (ran s l b h .is)
 
     go : Dec (evaluation s l .number ≡ 0) → evaluation s l .steps ≤ l .steps
-    go (yes h) = omega (arith, taken h, ran s t w o n b h .within .steps)
-    go (no h) = omega (arith, refused-counted s t w o n h)
+    go (yes h) = omega (arith, taken h, ran s l b h .within .steps)
+    go (no h) = omega (arith, refused-counted s l h)
 
 -- "and the refusal for steps comes exactly when document 01's rules would next take a step beyond them", at the expression that would take it:
 -- `Steps` lists the places of the steps that the rules take with this table and workspace and no bound on steps
 
 module _ (s : List ℕ) (l : Lent) where
   pub sixteen : Bytes s → (evaluation s l .number ≡ 16) ↔ (l .steps < length (Steps s l))
-  sixteen b = (λ h. sixteen-short s (l .table) (l .work) (l .output) (l .steps) b h, λ h. steps-short-refused s (l .table) (l .work) (l .output) (l .steps) h .0)
+  sixteen b = (λ h. sixteen-short s l b h, λ h. short-refused s l h .0)
 
   pub sixteen-place : l .steps < length (Steps s l) → evaluation s l .place ≡ getD (Steps s l) (l .steps) 0
-  sixteen-place h = steps-short-refused s (l .table) (l .work) (l .output) (l .steps) h .1
+  sixteen-place h = short-refused s l h .1
 
   -- "If they accept or refuse within the steps given, that is the answer": with steps enough, how many makes no difference
   pub steps-enough : (n : ℕ) → length (Steps s l) ≤ l .steps → length (Steps s l) ≤ n → evaluation s l ≡ evaluation s (with-steps n l)
-  steps-enough n h k =
-      steps-enough-same s (l .table) (l .work) (l .output) (l .steps) h ∙ sym (steps-enough-same s (l .table) (l .work) (l .output) n k)
+  steps-enough = enough-same s l
 
 -- "And take any two accepted streams and any number q. If their first q top-level expressions are equal in meaning, these give the same
 -- bytes in both, and the result bytes of every run that accepts either stream begin with them."
@@ -154,22 +140,16 @@ pub record Prefix (q : ℕ) (s s′ : List ℕ) : Type 0 where
   pub begins′ : (l : Lent) → evaluation s′ l .number ≡ 0 → Begins (result-bytes (evaluation s′ l)) (bytes-of-first q s)
 
 pub prefix : (q : ℕ) (s s′ : List ℕ) → Bytes s → Bytes s′ → Accepted s → Accepted s′ → SameFirst q s s′ → Prefix q s s′
-prefix q s s′ b b′ a a′ f = record { same = same; begins = λ l h. starts s b l h; begins′ = λ l h. rw same (starts s′ b′ l h) }
+prefix q s s′ b b′ a a′ f = record { same = same; begins = λ l h. left-begins s l b h q; begins′ = λ l h. rw same (left-begins s′ l b′ h q) }
   where
-    starts : (s : List ℕ) → Bytes s → (l : Lent) → evaluation s l .number ≡ 0 → Begins (result-bytes (evaluation s l)) (bytes-of-first q s)
-    starts s b l h = left-begins s (l .table) (l .work) (l .output) (l .steps) b h q
-
-    ends : (s : List ℕ) → Bytes s → Accepted s → (ls : List Exprs) × (run (meaning-of s) .end ≡ done ls)
-    ends s b a = let l = a .lent in (ran s (l .table) (l .work) (l .output) (l .steps) b (a .accepts) .left, ran-ends s (l .table) (l .work) (l .output) (l .steps) b (a .accepts))
-
     same : bytes-of-first q s ≡ bytes-of-first q s′
     same =
-        let (ls, e) = ends s b a in
-        let (ls′, e′) = ends s′ b′ a′ in
-        let one = run-first q (meaning-of s) ls e in
-        let other = run-first q (meaning-of s′) ls′ e′ in
+        let e = ran-ends s (a .lent) b (a .accepts) in
+        let e′ = ran-ends s′ (a′ .lent) b′ (a′ .accepts) in
+        let one = run-first q (meaning-of s) _ e in
+        let other = run-first q (meaning-of s′) _ e′ in
         let equal : run (first q (meaning-of s)) .end ≡ run (first q (meaning-of s′)) .end = ap (λ (es : Exprs). run es .end) (f .equal) in
-        let taken : take q ls ≡ take q ls′ = cc in
+        let taken : take q (ran s (a .lent) b (a .accepts) .left) ≡ take q (ran s′ (a′ .lent) b′ (a′ .accepts) .left) = cc in
         rw (e, e′) (ap (λ x. canonical (result x)) taken)
 
 -- Laws that a wrong definition would not meet, in the words of specs/Sanity
@@ -210,24 +190,22 @@ read-place s t b = go (reading s t) refl
     go (readable rs es) e = omega arith
 
 pub evaluate-place : (s : List ℕ) (l : Lent) → Bytes s → evaluation s l .place ≤ length s
-evaluate-place s l b = rw (evaluate-answered s t (way s t) (l .work) o (l .steps)) (go (way s t))
+evaluate-place s l b = rw (evaluation-answered s l (way s t)) (go (way s t))
   where
     t : List ℕ
     t = l .table
 
-    o : List ℕ
-    o = l .output
-
-    by-end : (rs : List Row) (k : ℕ) → Inside (length s) rs → (x : End (List Exprs)) → end-answer rs k (filled rs t) o x .place ≤ length s
-    by-end rs k i (done ls) = omega (arith, put-place (put-out-is (canonical (result ls)) k (filled rs t) o))
+    by-end : (rs : List Row) (k : ℕ) → Inside (length s) rs → (x : End (List Exprs)) → end-answer rs k (filled rs t) (l .output) x .place ≤ length s
+    by-end rs k i (done ls) = omega (arith, put-place (put-out-is (canonical (result ls)) k (filled rs t) (l .output)))
     by-end rs k i (stopped v r) = inside-start (row-at [] 0) (length s) rs i (omega arith) r
 
-    go : (y : Way s t) → answered y (l .work) o (l .steps) .place ≤ length s
+    go : (y : Way s t) → answered y l .place ≤ length s
     go (unread v p e) = read-refused s (length t / 4) v p b e .2
     go (unversioned rs es e h) = omega arith
     go (wrong-version rs es e h k) = omega arith
     go (runs rs es e h k) =
-        by-end rs (steps-in (run es .events)) (rows-in-stream s (length t / 4) rs es b e) (cut (l .steps) (min (l .work) 65536) (run es .events) (run es .end))
+        by-end rs (steps-in (run es .events)) (rows-in-stream s (length t / 4) rs es b e)
+        (cut (l .steps) (min (l .work) 65536) (run es .events) (run es .end))
 
 -- with as many rows as bytes, more make no difference: 8 can't arise in Item's reading
 pub item-rows : (s : List ℕ) (room : ℕ) → length s ≤ room → read s room ≡ read s (length s)

@@ -83,17 +83,21 @@ laid-first p b s h bs rest = go (eqb b 0x01) (eqb b 0x02) (read-atom b s) (off-a
         → Laid p (atom-token p end x ∷ tokens (p + 1) (further (atom-token p end x)) s) end
     atomic (taken a t) o =
         let size = ap length (front a (o .0 .0) .is) in
-        let l : length t ≤ length s = omega (arith, size, o .0 .1) in (
+        let l : length t ≤ length s = omega (arith, size, o .0 .1) in
+        let k : ℕ = end - length t - p - 1 in (
           omega arith,
           omega arith,
           omega (arith, o .0 .1),
           o .0 .0,
-          laid-at (p + 1 + (end - length t - p - 1)) (end - length t) (tokens (p + 1) (end - length t - p - 1) s) end end (omega arith) refl (rest (end - length t - p - 1) (omega arith)),
+          laid-at (p + 1 + k) (end - length t) (tokens (p + 1) k s) end end (omega arith) refl (rest k (omega arith)),
         )
     atomic (failed w t) o = omega arith
 
+    kind : Bool → Bool → Taken Atom → Token
+    kind c d x = if c then opening p else if d then closing p else atom-token p end x
+
     go : (c d : Bool) (x : Taken Atom) → Off (Read (suc (length s))) (suc (length s)) x
-        → Laid p ((if c then opening p else if d then closing p else atom-token p end x) ∷ tokens (p + 1) (further (if c then opening p else if d then closing p else atom-token p end x)) s) end
+        → Laid p (kind c d x ∷ tokens (p + 1) (further (kind c d x)) s) end
     go true d x o = (omega arith, next)
     go false true x o = (omega arith, next)
     go false false x o = atomic x o
@@ -106,7 +110,8 @@ tokens-laid (b ∷ s) p zero bs h =
     laid-at p (p + 0) (token p b s ∷ tokens (p + 1) (further (token p b s)) s) (p + 1 + length s) (p + suc (length s)) (omega arith) (omega arith)
     (laid-first p b s (bs .0) (bs .1) (λ k l. tokens-laid s (p + 1) k (bs .1) l))
 tokens-laid (b ∷ s) p (suc k) bs h =
-    laid-at (p + 1 + k) (p + suc k) (tokens (p + 1) k s) (p + 1 + length s) (p + suc (length s)) (omega arith) (omega arith) (tokens-laid s (p + 1) k (bs .1) (omega arith))
+    laid-at (p + 1 + k) (p + suc k) (tokens (p + 1) k s) (p + 1 + length s) (p + suc (length s)) (omega arith) (omega arith)
+    (tokens-laid s (p + 1) k (bs .1) (omega arith))
 
 -- Refusals
 

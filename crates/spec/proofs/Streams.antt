@@ -124,14 +124,16 @@ starred =
     -- j* N, then define 28 01 as 89, then 28 01: result ends 85 89
     (evaluates (N ++ define-89 ++ word-28-01) 65536 16 11 gives result-is (version-form ++ ns-form ++ (0x85 ∷ 0x89 ∷ [])) 11) ∷
     -- k* In N, put 28 01 directly before the define too: that one stays 28 01
-    (evaluates (version-form ++ ns-form ++ word-28-01 ++ define-85 ++ word-28-01) 65536 17 9 gives result-is (version-form ++ ns-form ++ word-28-01 ++ (0x85 ∷ [])) 9) ∷
+    (evaluates (version-form ++ ns-form ++ word-28-01 ++ define-85 ++ word-28-01) 65536 17 9
+    gives result-is (version-form ++ ns-form ++ word-28-01 ++ (0x85 ∷ [])) 9) ∷
     -- l* result V, 01 81 83 84 82 02; 10 steps, 22 charged
     (evaluates (version-form ++ call-l) 22 12 10 gives result-is (version-form ++ (0x01 ∷ 0x81 ∷ 0x83 ∷ 0x84 ∷ 0x82 ∷ 0x02 ∷ [])) 10) ∷
     (evaluates (version-form ++ call-l) 22 12 9 gives refusal 16 16 12) ∷
     (evaluates (version-form ++ call-l) 21 12 10 gives refusal 17 6 12) ∷
     -- m* V, 01 20 0A C1 41 81 02: 11 at 6. With C1 42 for the 81: C2 41 42
     (evaluates (version-form ++ (0x01 ∷ 0x20 ∷ 0x0A ∷ 0xC1 ∷ 0x41 ∷ 0x81 ∷ 0x02 ∷ [])) 65536 9 99 gives refusal 11 6 9) ∷
-    (evaluates (version-form ++ (0x01 ∷ 0x20 ∷ 0x0A ∷ 0xC1 ∷ 0x41 ∷ 0xC1 ∷ 0x42 ∷ 0x02 ∷ [])) 65536 9 7 gives result-is (version-form ++ (0xC2 ∷ 0x41 ∷ 0x42 ∷ [])) 7) ∷
+    (evaluates (version-form ++ (0x01 ∷ 0x20 ∷ 0x0A ∷ 0xC1 ∷ 0x41 ∷ 0xC1 ∷ 0x42 ∷ 0x02 ∷ [])) 65536 9 7
+    gives result-is (version-form ++ (0xC2 ∷ 0x41 ∷ 0x42 ∷ [])) 7) ∷
     []
 
 starred-hold : answers starred ≡ map expected starred
@@ -147,17 +149,22 @@ form-in (suc n) = only (form (form-in n))
 others : List Case
 others =
     -- the listing's example
-    (reads (0x01 ∷ 0x20 ∷ 0x00 ∷ 0x81 ∷ 0x80 ∷ 0x02 ∷ 0x00 ∷ []) 20 gives told 0 0 5 0 (1 ∷ 0 ∷ 6 ∷ 4 ∷ 4 ∷ 1 ∷ 3 ∷ 2 ∷ 3 ∷ 3 ∷ 4 ∷ 3 ∷ 3 ∷ 4 ∷ 5 ∷ 4 ∷ 0 ∷ 6 ∷ 7 ∷ 5 ∷ [])) ∷
+    (reads (0x01 ∷ 0x20 ∷ 0x00 ∷ 0x81 ∷ 0x80 ∷ 0x02 ∷ 0x00 ∷ []) 20
+    gives told 0 0 5 0 (1 ∷ 0 ∷ 6 ∷ 4 ∷ 4 ∷ 1 ∷ 3 ∷ 2 ∷ 3 ∷ 3 ∷ 4 ∷ 3 ∷ 3 ∷ 4 ∷ 5 ∷ 4 ∷ 0 ∷ 6 ∷ 7 ∷ 5 ∷ [])) ∷
     -- running a function's code with the definitions at the call
-    (evaluates (version-form ++ ns-form ++ define-85 ++ (0x01 ∷ 0x20 ∷ 0x09 ∷ 0x28 ∷ 0x02 ∷ 0x01 ∷ 0x20 ∷ 0x0B ∷ 0x28 ∷ 0x01 ∷ 0x02 ∷ 0x02 ∷ []) ++ define-89 ++ (0x01 ∷ 0x28 ∷ 0x02 ∷ 0x02 ∷ [])) 65536 15 99 gives result-is (version-form ++ ns-form ++ (0x85 ∷ [])) 12) ∷
+    (evaluates (version-form ++ ns-form ++ define-85 ++ (0x01 ∷ 0x20 ∷ 0x09 ∷ 0x28 ∷ 0x02 ∷ 0x01 ∷ 0x20 ∷ 0x0B ∷ 0x28 ∷ 0x01 ∷ 0x02 ∷ 0x02 ∷ []) ++ define-89 ++ (0x01 ∷ 0x28 ∷ 0x02 ∷ 0x02 ∷ [])) 65536 15 99
+    gives result-is (version-form ++ ns-form ++ (0x85 ∷ [])) 12) ∷
     -- letting a nested define outlive its form
-    (evaluates (version-form ++ ns-form ++ (0x01 ∷ []) ++ define-85 ++ word-28-01 ++ (0x02 ∷ []) ++ word-28-01) 65536 19 99 gives result-is (version-form ++ ns-form ++ (0x01 ∷ 0x85 ∷ 0x02 ∷ []) ++ word-28-01) 10) ∷
+    (evaluates (version-form ++ ns-form ++ (0x01 ∷ []) ++ define-85 ++ word-28-01 ++ (0x02 ∷ []) ++ word-28-01) 65536 19 99
+    gives result-is (version-form ++ ns-form ++ (0x01 ∷ 0x85 ∷ 0x02 ∷ []) ++ word-28-01) 10) ∷
     -- evaluating a defined value again
-    (evaluates (version-form ++ ns-form ++ (0x01 ∷ 0x20 ∷ 0x09 ∷ 0x28 ∷ 0x02 ∷ 0x28 ∷ 0x01 ∷ 0x02 ∷ []) ++ define-85 ++ (0x28 ∷ 0x02 ∷ [])) 65536 16 99 gives result-is (version-form ++ ns-form ++ word-28-01) 10) ∷
+    (evaluates (version-form ++ ns-form ++ (0x01 ∷ 0x20 ∷ 0x09 ∷ 0x28 ∷ 0x02 ∷ 0x28 ∷ 0x01 ∷ 0x02 ∷ []) ++ define-85 ++ (0x28 ∷ 0x02 ∷ [])) 65536 16 99
+    gives result-is (version-form ++ ns-form ++ word-28-01) 10) ∷
     -- giving half a result when steps run out
     (evaluates N 65536 99 5 gives refusal 16 14 99) ∷
     -- writing a 5-byte array back with its 03
-    (writes (0x03 ∷ 0x85 ∷ 0x01 ∷ 0x02 ∷ 0x03 ∷ 0x04 ∷ 0x05 ∷ []) 4 9 gives told 0 0 6 0 (0xC5 ∷ 0x01 ∷ 0x02 ∷ 0x03 ∷ 0x04 ∷ 0x05 ∷ 0xEE ∷ 0xEE ∷ 0xEE ∷ [])) ∷
+    (writes (0x03 ∷ 0x85 ∷ 0x01 ∷ 0x02 ∷ 0x03 ∷ 0x04 ∷ 0x05 ∷ []) 4 9
+    gives told 0 0 6 0 (0xC5 ∷ 0x01 ∷ 0x02 ∷ 0x03 ∷ 0x04 ∷ 0x05 ∷ 0xEE ∷ 0xEE ∷ 0xEE ∷ [])) ∷
     -- Item: the first expression and the last; none behind it; the other buffer; a buffer that can't be read
     (items N [] of-stream 0 gives item-is (part of-stream 0 6)) ∷
     (items N [] of-stream 3 gives item-is (part of-stream 21 23)) ∷
@@ -174,13 +181,16 @@ others =
     (evaluates (0x01 ∷ 0x20 ∷ 0x00 ∷ 0x81 ∷ 0x81 ∷ 0x02 ∷ []) 65536 9 99 gives refusal 10 0 9) ∷
     (evaluates (version-form ++ ns-form ++ (0x20 ∷ 0x09 ∷ [])) 65536 9 99 gives refusal 12 14 9) ∷
     (evaluates (version-form ++ ns-form ++ (0x01 ∷ 0x20 ∷ 0x0B ∷ 0x02 ∷ [])) 65536 9 99 gives refusal 12 14 9) ∷
-    (evaluates (version-form ++ ns-form ++ (0x01 ∷ 0x01 ∷ 0x20 ∷ 0x06 ∷ 0x29 ∷ 0x00 ∷ 0xC1 ∷ 0x42 ∷ 0x02 ∷ 0x02 ∷ [])) 65536 9 99 gives refusal 13 15 9) ∷
-    (evaluates (version-form ++ ns-form ++ (0x01 ∷ 0x20 ∷ 0x0A ∷ 0x01 ∷ 0x20 ∷ 0x09 ∷ 0x28 ∷ 0x01 ∷ 0xC0 ∷ 0x02 ∷ 0xC0 ∷ 0x02 ∷ [])) 65536 9 99 gives refusal 13 17 9) ∷
+    (evaluates (version-form ++ ns-form ++ (0x01 ∷ 0x01 ∷ 0x20 ∷ 0x06 ∷ 0x29 ∷ 0x00 ∷ 0xC1 ∷ 0x42 ∷ 0x02 ∷ 0x02 ∷ [])) 65536 9 99
+    gives refusal 13 15 9) ∷
+    (evaluates (version-form ++ ns-form ++ (0x01 ∷ 0x20 ∷ 0x0A ∷ 0x01 ∷ 0x20 ∷ 0x09 ∷ 0x28 ∷ 0x01 ∷ 0xC0 ∷ 0x02 ∷ 0xC0 ∷ 0x02 ∷ [])) 65536 9 99
+    gives refusal 13 17 9) ∷
     (evaluates (version-form ++ ns-form ++ (0x01 ∷ 0x20 ∷ 0x09 ∷ 0x20 ∷ 0x00 ∷ 0x80 ∷ 0x02 ∷ [])) 65536 9 99 gives refusal 14 14 9) ∷
     (evaluates (version-form ++ ns-form ++ (0x01 ∷ 0x20 ∷ 0x06 ∷ 0x29 ∷ 0x00 ∷ 0xC1 ∷ 0x41 ∷ 0x02 ∷ [])) 65536 9 99 gives refusal 14 14 9) ∷
     -- 15: arg outside code, an argument too many
     (evaluates (version-form ++ ns-form ++ (0x01 ∷ 0x20 ∷ 0x0C ∷ 0x80 ∷ 0x02 ∷ [])) 65536 9 99 gives refusal 15 14 9) ∷
-    (evaluates (version-form ++ ns-form ++ (0x01 ∷ 0x01 ∷ 0x20 ∷ 0x0B ∷ 0x01 ∷ 0x20 ∷ 0x0C ∷ 0x80 ∷ 0x02 ∷ 0x02 ∷ 0x02 ∷ [])) 65536 9 99 gives refusal 15 18 9) ∷
+    (evaluates (version-form ++ ns-form ++ (0x01 ∷ 0x01 ∷ 0x20 ∷ 0x0B ∷ 0x01 ∷ 0x20 ∷ 0x0C ∷ 0x80 ∷ 0x02 ∷ 0x02 ∷ 0x02 ∷ [])) 65536 9 99
+    gives refusal 15 18 9) ∷
     []
 
 others-hold : answers others ≡ map expected others
