@@ -15,10 +15,10 @@ use Rattle.laws.specs.Demands.{Bytes}
 use Rattle.laws.proofs.Fits.{bytes-take, bytes-drop, Fits}
 use Rattle.laws.proofs.Canonical.{Head, one-byte, three-bytes, four-bytes, array-head-is, Mark, short, long, marker-bytes-are}
 
--- What was read off at most n bytes: a thing of which P holds with the number of bytes left, or one of reading's refusals
+-- What was read off at most n bytes: a thing of which P holds with the number of bytes left, or one of an atom's refusals
 abbrev pub Off : {A : Type 0} → (A → ℕ → Type 0) → ℕ → Taken A → Type 0
 Off P n (taken a s) = P a (length s) × Bytes s × (length s ≤ n)
-Off P n (failed w s) = (length s ≤ n) × (1 ≤ w) × (w ≤ 8)
+Off P n (failed w s) = (length s ≤ n) × (1 ≤ w) × (w ≤ 7)
 
 off-choice : {A : Type 0} (P : A → ℕ → Type 0) (n : ℕ) (b : Bool) (x y : Taken A) → (b ≡ true → Off P n x) → (b ≡ false → Off P n y)
     → Off P n (if b then x else y)
@@ -32,12 +32,12 @@ off-then P Q n (failed w s) f x g = x
 
 -- take-bytes
 
-abbrev Part : ℕ → ℕ → List ℕ → ℕ → Type 0
-Part n total bs left = (length bs ≡ n) × (length bs + left ≡ total) × Bytes bs
+abbrev SomeBytes : ℕ → ℕ → List ℕ → ℕ → Type 0
+SomeBytes n total bs left = (length bs ≡ n) × (length bs + left ≡ total) × Bytes bs
 
-off-take : (n m : ℕ) (s : List ℕ) → Bytes s → length s ≤ m → Off (Part n (length s)) m (take-bytes n s)
+off-take : (n m : ℕ) (s : List ℕ) → Bytes s → length s ≤ m → Off (SomeBytes n (length s)) m (take-bytes n s)
 unfolding take-bytes
-off-take n m s b h = off-choice (Part n (length s)) m (leb n (length s)) (taken (take n s) (drop n s)) (failed 2 [])
+off-take n m s b h = off-choice (SomeBytes n (length s)) m (leb n (length s)) (taken (take n s) (drop n s)) (failed 2 [])
     (λ e. let k = leb-true n (length s) e in (
       (simp length-take (omega arith), simp (length-take, length-drop) (omega arith), bytes-take n s b),
       bytes-drop n s b,
@@ -79,9 +79,9 @@ head-natural (x ∷ y ∷ s) b = omega (arith, head-bounds (natural ((0 * 256 + 
 abbrev Length : ℕ → ℕ → ℕ → Type 0
 Length total n left = head-size n + left ≤ 1 + total
 
-off-as-length : (n m total : ℕ) (s : List ℕ) → 1 + length s ≤ total → length s ≤ m → (x : Taken (List ℕ)) → Off (Part n (length s)) m x
+off-as-length : (n m total : ℕ) (s : List ℕ) → 1 + length s ≤ total → length s ≤ m → (x : Taken (List ℕ)) → Off (SomeBytes n (length s)) m x
     → Off (Length total) m (and-then x as-length)
-off-as-length n m total s h k x o = off-then (Part n (length s)) (Length total) m x as-length o
+off-as-length n m total s h k x o = off-then (SomeBytes n (length s)) (Length total) m x as-length o
     (λ bs t p b l. (omega (arith, head-natural bs (p .2), p .1), b, l))
 
 off-plain : (b : ℕ) (s : List ℕ) → b < 256 → Bytes s → Off (Length (suc (length s))) (suc (length s)) (plain-length b s)
@@ -101,7 +101,7 @@ off-generic : (total : ℕ) (x : Taken ℕ) → Off (Length total) total x → O
 off-generic total (failed w s) o = o
 off-generic total (taken n s) o = weaker (take-bytes n s) (off-take n total s (o .1) (o .2))
   where
-    weaker : (y : Taken (List ℕ)) → Off (Part n (length s)) total y → Off (Generic total) total y
+    weaker : (y : Taken (List ℕ)) → Off (SomeBytes n (length s)) total y → Off (Generic total) total y
     weaker (taken bs t) y = ((y .0 .2, omega (arith, ap (λ k. head-size k) (y .0 .0), y .0 .1, o .0)), y .1, y .2)
     weaker (failed w t) y = y
 
@@ -140,8 +140,8 @@ off-marker m (b ∷ s) bs =
 -- atoms
 
 -- an atom that begins with the first of `total` bytes
-abbrev pub Read : ℕ → Atom → ℕ → Type 0
-Read total a left = Fits a × (length (atom-bytes a) + left ≤ total)
+abbrev pub AtomOf : ℕ → Atom → ℕ → Type 0
+AtomOf total a left = Fits a × (length (atom-bytes a) + left ≤ total)
 
 -- a reference has its marker's bytes and one more
 reference-size : (m n : ℕ) → (m < 0x7F → length (atom-bytes (ref m n)) ≡ 2) × (0x7F ≤ m → length (atom-bytes (ref m n)) ≡ (m - 0x7F) / 0xFF + 3)
@@ -154,11 +154,11 @@ reference-size m n = go (marker-bytes-are m)
 
 -- a name byte after a marker, in a reference of so many bytes
 off-name : (total m : ℕ) (from s : List ℕ) → 16 ≤ m → Bytes s → length s ≤ total → length from ≤ total
-    → ((n : ℕ) → length (atom-bytes (ref m n)) + length s ≤ 1 + total) → Off (Read total) total (name from m s)
+    → ((n : ℕ) → length (atom-bytes (ref m n)) + length s ≤ 1 + total) → Off (AtomOf total) total (name from m s)
 unfolding name
 off-name total m from [] g bs l k f = omega arith
 off-name total m from (n ∷ s) g bs l k f =
-    off-choice (Read total) total (ltb 65535 m) _ _ (λ e. (k, omega arith, omega arith))
+    off-choice (AtomOf total) total (ltb 65535 m) _ _ (λ e. (k, omega arith, omega arith))
     (λ e. ((((g, ltb-false 65535 m e, bs .0)), omega (arith, f n)), bs .1, omega arith))
 
 array-size : (bs : List ℕ) → length (atom-bytes (array bs)) ≡ head-size (length bs) + length bs
@@ -166,38 +166,38 @@ unfolding atom-bytes
 array-size bs = length-append (array-head (length bs)) bs
 
 -- an array of so many bytes
-off-array : (total : ℕ) (x : Taken (List ℕ)) → Off (Generic total) total x → Off (Read (suc total)) (suc total) (and-then x as-array)
+off-array : (total : ℕ) (x : Taken (List ℕ)) → Off (Generic total) total x → Off (AtomOf (suc total)) (suc total) (and-then x as-array)
 off-array total (taken bs t) o = ((o .0 .0, omega (arith, array-size bs, o .0 .1)), o .1, omega (arith, o .2))
 off-array total (failed w t) o = omega arith
 
 off-small-array : (n : ℕ) (s : List ℕ) → n < 64 → Bytes s → Off (Generic (length s)) (length s) (take-bytes n s)
 off-small-array n s h bs = go (take-bytes n s) (off-take n (length s) s bs (omega arith))
   where
-    go : (x : Taken (List ℕ)) → Off (Part n (length s)) (length s) x → Off (Generic (length s)) (length s) x
+    go : (x : Taken (List ℕ)) → Off (SomeBytes n (length s)) (length s) x → Off (Generic (length s)) (length s) x
     go (taken ds t) o = ((o .0 .2, omega (arith, head-small (length ds) (omega (arith, o .0 .0)), o .0 .1)), o .1, o .2)
     go (failed w t) o = o
 
-off-large : (b : ℕ) (s : List ℕ) → Bytes s → Off (Read (suc (length s))) (suc (length s)) (and-then (marker 0x7F s) (name (b ∷ s)))
+off-large : (b : ℕ) (s : List ℕ) → Bytes s → Off (AtomOf (suc (length s))) (suc (length s)) (and-then (marker 0x7F s) (name (b ∷ s)))
 off-large b s bs = go (marker 0x7F s) (off-marker 0x7F s bs)
   where
-    go : (x : Taken ℕ) → Off (Sum 0x7F (length s)) (length s) x → Off (Read (suc (length s))) (suc (length s)) (and-then x (name (b ∷ s)))
+    go : (x : Taken ℕ) → Off (Sum 0x7F (length s)) (length s) x → Off (AtomOf (suc (length s))) (suc (length s)) (and-then x (name (b ∷ s)))
     go (taken m t) o =
         off-name (suc (length s)) m (b ∷ s) t (omega (arith, o .0 .0)) (o .1) (omega (arith, o .2)) (omega arith)
         (λ n. omega (arith, reference-size m n .1 (o .0 .0), o .0 .1))
     go (failed w t) o = omega arith
 
-pub off-atom : (b : ℕ) (s : List ℕ) → b < 256 → Bytes s → Off (Read (suc (length s))) (suc (length s)) (read-atom b s)
+pub off-atom : (b : ℕ) (s : List ℕ) → b < 256 → Bytes s → Off (AtomOf (suc (length s))) (suc (length s)) (read-atom b s)
 unfolding read-atom atom-bytes
 off-atom b s h bs =
     let n : ℕ = suc (length s) in
-    off-choice (Read n) n (eqb b 0x00) _ _ (λ e. ((tt, omega arith), bs, omega arith)) λ e0.
-    off-choice (Read n) n (eqb b 0x03) _ _
+    off-choice (AtomOf n) n (eqb b 0x00) _ _ (λ e. ((tt, omega arith), bs, omega arith)) λ e0.
+    off-choice (AtomOf n) n (eqb b 0x03) _ _
     (λ e. off-array (length s) (and-then (length-expr 7 s) take-bytes) (off-generic (length s) (length-expr 7 s) (off-length 7 s bs))) λ e3.
-    off-choice (Read n) n (ltb b 0x10) _ _ (λ e. omega arith) λ e10.
-    off-choice (Read n) n (ltb b 0x7F) _ _
+    off-choice (AtomOf n) n (ltb b 0x10) _ _ (λ e. omega arith) λ e10.
+    off-choice (AtomOf n) n (ltb b 0x7F) _ _
     (λ e. off-name n b (b ∷ s) s (ltb-false b 0x10 e10) bs (omega arith) (omega arith) (λ k. omega (arith, reference-size b k .0 (ltb-true b 0x7F e)))) λ e7F.
-    off-choice (Read n) n (ltb b 0x80) _ _ (λ e. off-large b s bs) λ e80.
-    off-choice (Read n) n (ltb b 0xC0) _ _ (λ e. ((omega (arith, ltb-true b 0xC0 e), omega arith), bs, omega arith)) λ eC0.
+    off-choice (AtomOf n) n (ltb b 0x80) _ _ (λ e. off-large b s bs) λ e80.
+    off-choice (AtomOf n) n (ltb b 0xC0) _ _ (λ e. ((omega (arith, ltb-true b 0xC0 e), omega arith), bs, omega arith)) λ eC0.
     off-array (length s) (take-bytes (b - 0xC0) s) (off-small-array (b - 0xC0) s (omega arith) bs)
 
 -- The canonical bytes of an atom

@@ -3,19 +3,20 @@ use Prim.Native.Nat.{ℕ, _/_, _≤_, _<_, min}
 use mathlib.Core.Path.{_≡_, refl, ap, _∙_}
 use mathlib.Core.List.{List}
 use mathlib.Core.Bool.{Bool, true, false, not}
-use lib.ListN.{length, take, drop}
+use lib.ListN.{length, take, drop, length-append, length-drop}
 use lib.Seq.{take-append-seam}
 use lib.Dec.{ltb}
 use borrow.Author.Tests.{ltb-true, ltb-false, le-ltb}
 use native.Mathlib.Omega.{arith}
 use Rattle.spec.specs.Expr.{if_then_else_, same, Exprs, canonical}
-use Rattle.spec.specs.Reading.{Row, Reading, refused, readable}
+use Rattle.spec.specs.Reading.{tokens, Row, rows-of, numbers, Reading, refused, readable}
 use Rattle.spec.specs.Runs.{End, done, stopped, cut, steps-in}
 use Rattle.spec.specs.Evaluation.{run, result}
-use Rattle.spec.specs.Calls.{Answer, refusal, acceptance, over, filled, put-out, once-read, reading, Write, is-versioned, version-bytes, end-answer, run-answer, Evaluate}
-use Rattle.laws.specs.Demands.{Bytes, Lent, evaluation, result-bytes}
+use Rattle.spec.specs.Calls.{Answer, refusal, acceptance, over, filled, put-out, once-read, reading, Write, is-versioned, version-bytes, row-at, end-answer, run-answer, Evaluate}
+use Rattle.laws.specs.Demands.{Bytes, Kept, Lent, evaluation, result-bytes}
 use Rattle.laws.specs.Sanity.{RuleNumber}
 use Rattle.laws.proofs.Fits.{FitsAll}
+use Rattle.laws.proofs.Rows.{rows-room, numbers-length}
 use Rattle.laws.proofs.Reading.{read-refused, read-readable, read-meant}
 use Rattle.laws.proofs.Runs.{Within, cut-done, StoppedBy, by-steps, by-work, by-rule, cut-stopped}
 use Rattle.laws.proofs.Values.{not-rule, run-proper}
@@ -47,6 +48,24 @@ pub put-place : {bs : List ℕ} {k : ℕ} {t o : List ℕ} {a : Answer} → Put 
 put-place (too-short l) = refl
 put-place (fits l) = refl
 
+over-length : (new old : List ℕ) → length new ≤ length old → length (over new old) ≡ length old
+over-length new old h = simp (length-append, length-drop) (omega arith)
+
+put-kept : {bs : List ℕ} {k : ℕ} {t o : List ℕ} {a : Answer} (u : List ℕ) → length t ≡ length u → Put bs k t o a → Kept u o a
+put-kept u h (too-short l) = record { tables = h; outputs = refl; refused = λ z. refl }
+put-kept {bs} {k} {t} {o} u h (fits l) = record { tables = h; outputs = over-length bs o l; refused = λ z. absurd (z refl) }
+
+refusal-kept : (w p : ℕ) (t o u : List ℕ) → length t ≡ length u → Kept u o (refusal w p t o)
+refusal-kept w p t o u h = record { tables = h; outputs = refl; refused = λ z. refl }
+
+-- the rows have room in the table
+pub filled-length : (s t : List ℕ) (rs : List Row) (es : Exprs) → reading s t ≡ readable rs es → length (filled rs t) ≡ length t
+filled-length s t rs es e =
+    let r = read-readable s (length t / 4) rs es e in
+    let size : length rs ≡ length (rows-of (tokens 0 0 s)) = ap length (r .rows-are) in
+    let room = rows-room (length s) (length t / 4) (tokens 0 0 s) 0 0 (r .passes) (omega arith) in
+    over-length (numbers rs rs) t (omega (arith, numbers-length rs rs))
+
 pub put-out-bytes : (bs : List ℕ) (k : ℕ) (t o : List ℕ) → result-bytes (acceptance (length bs) k t (over bs o)) ≡ bs
 put-out-bytes bs k t o = take-append-seam bs (drop (length bs) o)
 
@@ -70,6 +89,23 @@ written s t o b h = go (reading s t) refl h
     go (readable rs es) e h =
         let room = put-room (put-out-is (canonical es) 0 (filled rs t) o) h in
         record { rows = rs; meaning = es; reads = e; is = ap answer e ∙ put-out-room (canonical es) 0 (filled rs t) o room }
+
+module _ (s t o : List ℕ) (rs : List Row) (es : Exprs) (reads : reading s t ≡ readable rs es) where
+  pub write-out : length (canonical es) ≤ length o → Write s t o ≡ acceptance (length (canonical es)) 0 (filled rs t) (over (canonical es) o)
+  unfolding Write
+  write-out h = rw reads (put-out-room (canonical es) 0 (filled rs t) o h)
+
+  pub write-room : Write s t o .number ≡ 0 → length (canonical es) ≤ length o
+  unfolding Write
+  write-room h = put-room (put-out-is (canonical es) 0 (filled rs t) o) (rw reads at h)
+
+pub write-kept : (s t o : List ℕ) → Kept t o (Write s t o)
+unfolding Write
+write-kept s t o = go (reading s t) refl
+  where
+    go : (r : Reading) → reading s t ≡ r → Kept t o (once-read t o (λ rs es. put-out (canonical es) 0 (filled rs t) o) r)
+    go (refused w p) e = refusal-kept w p t o t refl
+    go (readable rs es) e = put-kept t (filled-length s t rs es e) (put-out-is (canonical es) 0 (filled rs t) o)
 
 -- Evaluate
 
@@ -110,25 +146,45 @@ evaluation-answered s l (unversioned rs es e h) = rw (e, h)
 evaluation-answered s l (wrong-version rs es e h k) = rw (e, h, k)
 evaluation-answered s l (runs rs es e h k) = rw (e, h, k)
 
+pub evaluation-kept : (s : List ℕ) (l : Lent) → Kept (l .table) (l .output) (evaluation s l)
+evaluation-kept s l = rw (evaluation-answered s l (way s t)) (go (way s t))
+  where
+    t : List ℕ
+    t = l .table
+
+    o : List ℕ
+    o = l .output
+
+    by-end : (rs : List Row) (k : ℕ) → length (filled rs t) ≡ length t → (x : End (List Exprs)) → Kept t o (end-answer rs k (filled rs t) o x)
+    by-end rs k h (done ls) = put-kept t h (put-out-is (canonical (result ls)) k (filled rs t) o)
+    by-end rs k h (stopped v r) = refusal-kept v (row-at rs r .start) (filled rs t) o t h
+
+    go : (y : Way s t) → Kept t o (answered y l)
+    go (unread v p e) = refusal-kept v p t o t refl
+    go (unversioned rs es e h) = refusal-kept 9 0 (filled rs t) o t (filled-length s t rs es e)
+    go (wrong-version rs es e h k) = refusal-kept 10 0 (filled rs t) o t (filled-length s t rs es e)
+    go (runs rs es e h k) =
+        by-end rs (steps-in (run es .events)) (filled-length s t rs es e) (cut (l .steps) (min (l .work) 65536) (run es .events) (run es .end))
+
 -- what was read fits
 pub reading-fits : (s t : List ℕ) (rs : List Row) (es : Exprs) → Bytes s → reading s t ≡ readable rs es → FitsAll es
 reading-fits s t rs es b r = read-meant s (length t / 4) rs es b (read-readable s (length t / 4) rs es r) .fits
 
 -- a run that is cut is refused with 16, 17 or a rule's number
-data Refused (v : ℕ) : Type 0 where
-  for-steps : v ≡ 16 → Refused v
-  for-work : v ≡ 17 → Refused v
-  for-rule : RuleNumber v → Refused v
+data CutNumber (v : ℕ) : Type 0 where
+  for-steps : v ≡ 16 → CutNumber v
+  for-work : v ≡ 17 → CutNumber v
+  for-rule : RuleNumber v → CutNumber v
 
-cut-refused : (es : Exprs) → FitsAll es → (n w v r : ℕ) → cut n w (run es .events) (run es .end) ≡ stopped v r → Refused v
+cut-refused : (es : Exprs) → FitsAll es → (n w v r : ℕ) → cut n w (run es .events) (run es .end) ≡ stopped v r → CutNumber v
 cut-refused es f n w v r h = go (cut-stopped (run es .events) (run es .end) n w v r h)
   where
-    go : StoppedBy (run es .end) v r → Refused v
+    go : StoppedBy (run es .end) v r → CutNumber v
     go (by-steps k) = for-steps k
     go (by-work k) = for-work k
     go (by-rule k) = for-rule (run-proper es f .stops v r k .0)
 
-not-accepted : (v : ℕ) → Refused v → v ≡ 0 → ⊥
+not-accepted : (v : ℕ) → CutNumber v → v ≡ 0 → ⊥
 not-accepted v (for-steps k) h = omega arith
 not-accepted v (for-work k) h = omega arith
 not-accepted v (for-rule k) h = not-rule {v = 0} refl k h

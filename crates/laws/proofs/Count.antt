@@ -11,33 +11,33 @@ use Rattle.spec.specs.Expr.{Exprs, canonical}
 use Rattle.spec.specs.Reading.{Row}
 use Rattle.spec.specs.Runs.{End, done, stopped, cut, steps-in}
 use Rattle.spec.specs.Evaluation.{run, result}
-use Rattle.spec.specs.Calls.{Answer, filled, row-at, end-answer}
-use Rattle.laws.specs.Demands.{Bytes, Lent, evaluation, steps-within, steps-of, Steps, with-steps}
+use Rattle.spec.specs.Calls.{Answer, refusal, filled, row-at, end-answer}
+use Rattle.laws.specs.Demands.{Bytes, Lent, evaluation, step-rows, step-places, all-steps, with-steps}
 use Rattle.laws.proofs.Reading.{read-refused}
-use Rattle.laws.proofs.Runs.{steps-enough, steps-short, steps-own}
+use Rattle.laws.proofs.Runs.{all-step-rows, cut-enough, cut-short, cut-own}
 use Rattle.laws.proofs.Values.{not-rule, run-proper}
-use Rattle.laws.proofs.Calls.{Put, too-short, fits, put-out-is, Way, unread, unversioned, wrong-version, runs, way, answered, evaluation-answered, reading-fits}
+use Rattle.laws.proofs.Calls.{Put, too-short, fits, put-out-is, Way, unread, unversioned, wrong-version, runs, way, answered, evaluation-answered, reading-fits, Ran}
 
 -- a refusal counts nothing
-abbrev pub Counted : Answer → Type 0
-Counted a = (a .number ≡ 0 → ⊥) → a .steps ≡ 0
+abbrev pub CountsNothing : Answer → Type 0
+CountsNothing a = (a .number ≡ 0 → ⊥) → a .steps ≡ 0
 
-put-counted : {bs : List ℕ} {k : ℕ} {t o : List ℕ} {a : Answer} → Put bs k t o a → Counted a
+put-counted : {bs : List ℕ} {k : ℕ} {t o : List ℕ} {a : Answer} → Put bs k t o a → CountsNothing a
 put-counted (too-short l) h = refl
 put-counted (fits l) h = absurd (h refl)
 
-end-counted : (rs : List Row) (k : ℕ) (t o : List ℕ) (x : End (List Exprs)) → Counted (end-answer rs k t o x)
+end-counted : (rs : List Row) (k : ℕ) (t o : List ℕ) (x : End (List Exprs)) → CountsNothing (end-answer rs k t o x)
 end-counted rs k t o (done ls) h = put-counted (put-out-is (canonical (result ls)) k t o) h
 end-counted rs k t o (stopped v r) h = refl
 
-way-counted : (s t : List ℕ) (y : Way s t) (l : Lent) → Counted (answered y l)
+way-counted : (s t : List ℕ) (y : Way s t) (l : Lent) → CountsNothing (answered y l)
 way-counted s t (unread v p e) l h = refl
 way-counted s t (unversioned rs es e x) l h = refl
 way-counted s t (wrong-version rs es e x y) l h = refl
 way-counted s t (runs rs es e x y) l h =
     end-counted rs _ (filled rs t) (l .output) (cut (l .steps) (min (l .work) 65536) (run es .events) (run es .end)) h
 
-pub refused-counted : (s : List ℕ) (l : Lent) → Counted (evaluation s l)
+pub refused-counted : (s : List ℕ) (l : Lent) → CountsNothing (evaluation s l)
 refused-counted s l = rw (evaluation-answered s l (way s (l .table))) (way-counted s (l .table) (way s (l .table)) l)
 
 -- Refusal 16
@@ -47,10 +47,10 @@ abbrev stepped : {s t : List ℕ} → Way s t → ℕ → List ℕ
 stepped (unread v p e) w = []
 stepped (unversioned rs es e h) w = []
 stepped (wrong-version rs es e h k) w = []
-stepped (runs rs es e h k) w = map (λ r. row-at rs r .start) (steps-within (min w 65536) (run es .events))
+stepped (runs rs es e h k) w = map (λ r. row-at rs r .start) (step-rows (min w 65536) (run es .events))
 
-steps-stepped : (s t : List ℕ) (y : Way s t) (w : ℕ) → steps-of s t w ≡ stepped y w
-unfolding steps-of
+steps-stepped : (s t : List ℕ) (y : Way s t) (w : ℕ) → step-places s t w ≡ stepped y w
+unfolding step-places
 steps-stepped s t (unread v p e) w = rw e
 steps-stepped s t (unversioned rs es e h) w = rw (e, h)
 steps-stepped s t (wrong-version rs es e h k) w = rw (e, h, k)
@@ -64,11 +64,12 @@ way-enough s t (unversioned rs es e x) l n h k = refl
 way-enough s t (wrong-version rs es e x y) l n h k = refl
 way-enough s t (runs rs es e x y) l n h k =
     let w : ℕ = min (l .work) 65536 in
-    let size = length-map (steps-within w (run es .events)) (λ r. row-at rs r .start) in
+    let size = length-map (step-rows w (run es .events)) (λ r. row-at rs r .start) in
     ap (end-answer rs (steps-in (run es .events)) (filled rs t) (l .output))
-    (steps-enough (run es .events) (run es .end) (l .steps) w (omega (arith, size)) ∙ sym (steps-enough (run es .events) (run es .end) n w (omega (arith, size))))
+    (cut-enough (run es .events) (run es .end) (l .steps) w (omega (arith, size)) ∙ sym (cut-enough (run es .events) (run es .end) n w (omega (arith, size))))
 
-pub enough-same : (s : List ℕ) (l : Lent) (n : ℕ) → length (Steps s l) ≤ l .steps → length (Steps s l) ≤ n → evaluation s l ≡ evaluation s (with-steps n l)
+pub enough-same : (s : List ℕ) (l : Lent) (n : ℕ) → length (all-steps s l) ≤ l .steps → length (all-steps s l) ≤ n
+    → evaluation s l ≡ evaluation s (with-steps n l)
 enough-same s l n h k =
     let y = way s (l .table) in
     let e = steps-stepped s (l .table) y (l .work) in
@@ -90,11 +91,11 @@ way-short s t (unversioned rs es e x) l h = absurd (omega arith)
 way-short s t (wrong-version rs es e x y) l h = absurd (omega arith)
 way-short s t (runs rs es e x y) l h =
     let place : ℕ → ℕ = λ r. row-at rs r .start in
-    let rows = steps-within (min (l .work) 65536) (run es .events) in
-    let short = steps-short (run es .events) (run es .end) (l .steps) (min (l .work) 65536) (rw (length-map rows place) at h) in
+    let rows = step-rows (min (l .work) 65536) (run es .events) in
+    let short = cut-short (run es .events) (run es .end) (l .steps) (min (l .work) 65536) (rw (length-map rows place) at h) in
     (rw short, rw short (sym (getD-inside (map place rows) (l .steps) 0 (place 0) h ∙ List·getD-map place rows (l .steps) 0)))
 
-pub short-refused : (s : List ℕ) (l : Lent) → l .steps < length (Steps s l) → OutOfSteps (evaluation s l) (getD (Steps s l) (l .steps) 0)
+pub short-refused : (s : List ℕ) (l : Lent) → l .steps < length (all-steps s l) → OutOfSteps (evaluation s l) (getD (all-steps s l) (l .steps) 0)
 short-refused s l h =
     let y = way s (l .table) in
     let e = steps-stepped s (l .table) y (l .work) in
@@ -115,20 +116,40 @@ way-sixteen s t (runs rs es e x y) l b h = rw (length-map rows (λ r. row-at rs 
     w = min (l .work) 65536
 
     rows : List ℕ
-    rows = steps-within w (run es .events)
+    rows = step-rows w (run es .events)
 
     own : (z : End (List Exprs)) → cut (length rows) w (run es .events) (run es .end) ≡ z
         → end-answer rs (steps-in (run es .events)) (filled rs t) (l .output) z .number ≡ 16 → ⊥
     own (done ls) c k = put-number (put-out-is (canonical (result ls)) (steps-in (run es .events)) (filled rs t) (l .output)) k
     own (stopped v r) c k =
-        let end = steps-own (run es .events) (run es .end) w r (c ∙ ap (λ (q : ℕ). stopped q r) k) in
+        let end = cut-own (run es .events) (run es .end) w r (c ∙ ap (λ (q : ℕ). stopped q r) k) in
         not-rule {v = 16} {w = 16} refl (run-proper es (reading-fits s t rs es b e) .stops 16 r end .0) refl
 
     go : (c : Bool) → ltb (l .steps) (length rows) ≡ c → l .steps < length rows
     go true c = ltb-true (l .steps) (length rows) c
-    go false c = absurd (own _ (sym (steps-enough (run es .events) (run es .end) (l .steps) w (ltb-false (l .steps) (length rows) c))) h)
+    go false c = absurd (own _ (sym (cut-enough (run es .events) (run es .end) (l .steps) w (ltb-false (l .steps) (length rows) c))) h)
 
-pub sixteen-short : (s : List ℕ) (l : Lent) → Bytes s → evaluation s l .number ≡ 16 → l .steps < length (Steps s l)
+pub sixteen-short : (s : List ℕ) (l : Lent) → Bytes s → evaluation s l .number ≡ 16 → l .steps < length (all-steps s l)
 sixteen-short s l b h =
     let y = way s (l .table) in
     rw (steps-stepped s (l .table) y (l .work)) (way-sixteen s (l .table) y l b (rw (evaluation-answered s l y) at h))
+
+-- an accepted evaluation takes all the steps that the rules take
+pub ran-all-steps : (s : List ℕ) (l : Lent) → evaluation s l .number ≡ 0 → (r : Ran s l)
+    → steps-in (run (r .meaning) .events) ≡ length (all-steps s l)
+ran-all-steps s l h r = go (way s (l .table))
+  where
+    refused-way : (y : Way s (l .table)) (v p : ℕ) (u : List ℕ) → 0 < v → answered y l ≡ refusal v p u (l .output) → ⊥
+    refused-way y v p u k e = let z : 0 ≡ v = sym h ∙ ap (λ (a : Answer). a .number) (evaluation-answered s l y ∙ e) in omega arith
+
+    go : (y : Way s (l .table)) → steps-in (run (r .meaning) .events) ≡ length (all-steps s l)
+    go (unread v p e) = absurd (let z : _≡_ {A = ℕ} 0 1 = cc (r .reads, e) in omega arith)
+    go (unversioned rs es e x) = absurd (refused-way (unversioned rs es e x) 9 0 (filled rs (l .table)) (omega arith) refl)
+    go (wrong-version rs es e x y) = absurd (refused-way (wrong-version rs es e x y) 10 0 (filled rs (l .table)) (omega arith) refl)
+    go (runs rs es e x y) =
+        let w : ℕ = min (l .work) 65536 in
+        let meant : r .meaning ≡ es = cc (r .reads, e) in
+        let places = ap length (steps-stepped s (l .table) (runs rs es e x y) (l .work)) in
+        let size = length-map (step-rows w (run es .events)) (λ k. row-at rs k .start) in
+        let all = all-step-rows (run (r .meaning) .events) w (r .within .work) in
+        sym (places ∙ size ∙ ap (λ (fs : Exprs). length (step-rows w (run fs .events))) (sym meant) ∙ all)

@@ -1,6 +1,7 @@
 -- Laws of `read`: what holds of a meaning that was read, and that the canonical bytes of such a meaning are read as that meaning.
 use Prim.Native.Nat.{ℕ, zero, suc, _+_, _-_, _≤_}
 use mathlib.Core.Path.{_≡_, refl, sym, ap, _∙_, subst}
+use mathlib.Core.Logic.{_⊎_, inl, inr}
 use mathlib.Core.List.{List, [], _∷_, _++_, append-assoc, append-nil}
 use mathlib.Core.Bool.{Bool, true, false}
 use lib.ListN.{length, getD, length-append}
@@ -13,25 +14,25 @@ use Rattle.spec.specs.Reading.{Token, opening, closing, whole, bad, token, toke
 use Rattle.laws.specs.Demands.{Bytes, meaning-of}
 use Rattle.laws.proofs.Fits.{Fits, FitsExpr, FitsAll}
 use Rattle.laws.proofs.Atoms.{Front, front}
-use Rattle.laws.proofs.Tokens.{right-end, right-opening, right-closing, right-whole, right-bad, Laid, tokens-laid, Refusal, check-refusal, tokens-few, check-room}
-use Rattle.laws.proofs.Rows.{rows-in, rows-count, rows-room}
+use Rattle.laws.proofs.Tokens.{right-end, right-opening, right-closing, right-whole, right-bad, Laid, tokens-laid, RefusalInside, check-refusal, tokens-few, check-room}
+use Rattle.laws.proofs.Rows.{rows-in, rows-count, rows-room, right-room}
 
 -- What was read
 
 -- the lists that tokens fill, at d open forms: each fits, and none is too deep where it stands
-abbrev Sound : ℕ → List Exprs → Type 0
-Sound d [] = ⊥
-Sound zero (es ∷ []) = FitsAll es × (deepest es ≤ 64)
-Sound zero (es ∷ fs ∷ ls) = ⊥
-Sound (suc d) (es ∷ ls) = FitsAll es × (deepest es + suc d ≤ 64) × Sound d ls
+abbrev ListsFit : ℕ → List Exprs → Type 0
+ListsFit d [] = ⊥
+ListsFit zero (es ∷ []) = FitsAll es × (deepest es ≤ 64)
+ListsFit zero (es ∷ fs ∷ ls) = ⊥
+ListsFit (suc d) (es ∷ ls) = FitsAll es × (deepest es + suc d ≤ 64) × ListsFit d ls
 
 -- their canonical bytes, with a byte 02 for each
 abbrev weight : List Exprs → ℕ
 weight [] = 0
 weight (es ∷ ls) = length (canonical es) + 1 + weight ls
 
-put-sound : (d : ℕ) (e : Expr) (ls : List Exprs) → FitsExpr e → depth e + d ≤ 64 → Sound d ls
-    → Sound d (put e ls) × (weight (put e ls) ≡ length (bytes e) + weight ls)
+put-sound : (d : ℕ) (e : Expr) (ls : List Exprs) → FitsExpr e → depth e + d ≤ 64 → ListsFit d ls
+    → ListsFit d (put e ls) × (weight (put e ls) ≡ length (bytes e) + weight ls)
 unfolding depth bytes
 put-sound zero e [] f h s = absurd s
 put-sound zero e (es ∷ []) f h s = (((f, s .0), omega (arith, s .1)), simp length-append (omega arith))
@@ -39,7 +40,7 @@ put-sound zero e (es ∷ fs ∷ ls) f h s = absurd s
 put-sound (suc d) e [] f h s = absurd s
 put-sound (suc d) e (es ∷ ls) f h s = (((f, s .0), omega (arith, s .1), s .2), simp length-append (omega arith))
 
-wrap-sound : (d : ℕ) (ls : List Exprs) → Sound (suc d) ls → Sound d (wrap ls) × (weight (wrap ls) ≡ weight ls + 1)
+wrap-sound : (d : ℕ) (ls : List Exprs) → ListsFit (suc d) ls → ListsFit d (wrap ls) × (weight (wrap ls) ≡ weight ls + 1)
 unfolding depth bytes
 wrap-sound d [] s = absurd s
 wrap-sound d (es ∷ ls) s =
@@ -48,11 +49,11 @@ wrap-sound d (es ∷ ls) s =
 
 module _ (end room : ℕ) where
   lists-sound : (ts : List Token) (p d n : ℕ) → d ≤ 64 → Laid p ts end → check end room ts d n ≡ right
-      → Sound d (lists ts) × (p + weight (lists ts) ≤ end + 1)
+      → ListsFit d (lists ts) × (p + weight (lists ts) ≤ end + 1)
   unfolding lists depth bytes
   lists-sound [] p d n h l c =
       let z = right-end end room d n c in
-      (subst (λ (x : ℕ). Sound x (none ∷ [])) (sym z) (tt, omega arith), omega arith)
+      (subst (λ (x : ℕ). ListsFit x (none ∷ [])) (sym z) (tt, omega arith), omega arith)
   lists-sound (opening q ∷ ts) p d n h l c =
       let k = right-opening end room ts q d n c in
       let a = lists-sound ts (q + 1) (d + 1) (n + 1) (omega (arith, k .0)) (l .1) (k .2) in
@@ -95,16 +96,38 @@ unfolding read
 readable-read s room h k = rw (le-ltb 65536 (length s) h, k)
 
 -- a refusal has one of reading's numbers, and its place is in the stream
+module _ (most : ℕ) (s : List ℕ) (room : ℕ) (stream : Bytes s) (seven : 7 ≤ most) (rows : (8 ≤ most) ⊎ (length s ≤ room)) where
+  refusal-inside : RefusalInside most (length s) (check (length s) room (tokens 0 0 s) 0 0)
+  refusal-inside = check-refusal most (length s) room (tokens 0 0 s) 0 0 0 (stream-laid s stream) seven (go rows)
+    where
+      go : (8 ≤ most) ⊎ (length s ≤ room) → (8 ≤ most) ⊎ (0 + length (tokens 0 0 s) ≤ room)
+      go (inl h) = inl h
+      go (inr h) = inr (omega (arith, tokens-few s 0 0))
+
+  read-refusal : (w p : ℕ) → read s room ≡ refused w p → (1 ≤ w) × (w ≤ most) × (p ≤ length s)
+  unfolding read
+  read-refusal w p h = go (ltb 65536 (length s)) (check (length s) room (tokens 0 0 s) 0 0) refusal-inside h
+    where
+      go : (c : Bool) (v : Verdict) → RefusalInside most (length s) v → (if c then refused 1 0 else by-verdict v (tokens 0 0 s)) ≡ refused w p
+          → (1 ≤ w) × (w ≤ most) × (p ≤ length s)
+      go true v r h = let number : 1 ≡ w = cc in let place : 0 ≡ p = cc in omega arith
+      go false right r h = absurd (let z : _≡_ {A = ℕ} 0 1 = cc in omega arith)
+      go false (wrong v q) r h = let number : v ≡ w = cc in let place : q ≡ p = cc in omega (arith, r .0, r .1, r .2)
+
 pub read-refused : (s : List ℕ) (room w p : ℕ) → Bytes s → read s room ≡ refused w p → (1 ≤ w) × (w ≤ 8) × (p ≤ length s)
-unfolding read
-read-refused s room w p b h =
-    go (ltb 65536 (length s)) (check (length s) room (tokens 0 0 s) 0 0) (check-refusal (length s) room (tokens 0 0 s) 0 0 0 (stream-laid s b)) h
-  where
-    go : (c : Bool) (v : Verdict) → Refusal (length s) v → (if c then refused 1 0 else by-verdict v (tokens 0 0 s)) ≡ refused w p
-        → (1 ≤ w) × (w ≤ 8) × (p ≤ length s)
-    go true v r h = let number : 1 ≡ w = cc in let place : 0 ≡ p = cc in omega arith
-    go false right r h = absurd (let z : _≡_ {A = ℕ} 0 1 = cc in omega arith)
-    go false (wrong v q) r h = let number : v ≡ w = cc in let place : q ≡ p = cc in omega (arith, r .0, r .1, r .2)
+read-refused s room w p b h = read-refusal 8 s room b (omega arith) (inl (omega arith)) w p h
+
+-- with as many rows as bytes there is always a row left
+pub read-refused-roomy : (s : List ℕ) (w p : ℕ) → Bytes s → read s (length s) ≡ refused w p → w ≤ 7
+read-refused-roomy s w p b h = read-refusal 7 s (length s) b (omega arith) (inr (omega arith)) w p h .1
+
+-- the rows that were counted are enough
+pub read-enough : (s : List ℕ) (room : ℕ) (rs : List Row) (es : Exprs) → read s room ≡ readable rs es → (room′ : ℕ) → length rs ≤ room′
+    → read s room′ ≡ readable rs es
+read-enough s room rs es h room′ k =
+    let r = read-readable s room rs es h in
+    let size : length rs ≡ length (rows-of (tokens 0 0 s)) = ap length (r .rows-are) in
+    rw (r .rows-are, r .means) (readable-read s room′ (r .short) (right-room (length s) room (tokens 0 0 s) 0 0 (r .passes) room′ (omega arith)))
 
 -- what holds of a meaning that was read: its canonical bytes can be read too, in as many rows, and are no more than the stream's
 pub record Meant (s : List ℕ) (room : ℕ) (rs : List Row) (es : Exprs) : Type 0 where
@@ -123,7 +146,7 @@ read-meant s room rs es b r =
     (only-list (lists ts) (sound .0) (sound .1) (size ∙ rows-count (length s) room ts 0 0 (r .passes) .0)
     (omega (arith, size, rows-room (length s) room ts 0 0 (r .passes) (omega arith))))
   where
-    only-list : (ls : List Exprs) → Sound 0 ls → 0 + weight ls ≤ length s + 1 → length rs ≡ rows-in ls → length rs ≤ room
+    only-list : (ls : List Exprs) → ListsFit 0 ls → 0 + weight ls ≤ length s + 1 → length rs ≡ rows-in ls → length rs ≤ room
         → Meant s room rs (getD ls 0 none)
     only-list [] o w c k = absurd o
     only-list (fs ∷ []) o w c k = record { fits = o .0; shallow = o .1; shorter = omega arith; counted = omega arith; roomy = omega arith }

@@ -8,7 +8,7 @@ use Rattle.spec.specs.Expr.{Exprs, rows-all, deepest, canonical}
 use Rattle.spec.specs.Reading.{tokens, Row, rows-of, readable, read}
 use Rattle.spec.specs.Runs.{done, steps-in}
 use Rattle.spec.specs.Evaluation.{run, result}
-use Rattle.spec.specs.Calls.{filled, reading, Write}
+use Rattle.spec.specs.Calls.{Answer, filled, reading, Write}
 use Rattle.laws.specs.Demands.{Bytes, Begins, Lent, evaluation, result-bytes, meaning-of, left-by, values-of, bytes-of-first}
 use Rattle.laws.proofs.Fits.{FitsAll}
 use Rattle.laws.proofs.Canonical.{canonical-append, canonical-bytes}
@@ -45,23 +45,23 @@ same-canonical s s′ room room′ rs rs′ es es′ b b′ r r′ h =
 -- What was written
 
 module _ (s t o : List ℕ) (stream : Bytes s) (accepted : Write s t o .number ≡ 0) where
-  pub it : Written s t o
-  it = written s t o stream accepted
+  pub writing : Written s t o
+  writing = written s t o stream accepted
 
-  pub written-means : it .meaning ≡ meaning-of s
-  written-means = read-readable s (length t / 4) (it .rows) (it .meaning) (it .reads) .means
+  pub written-means : writing .meaning ≡ meaning-of s
+  written-means = read-readable s (length t / 4) (writing .rows) (writing .meaning) (writing .reads) .means
 
   pub written-canonical : result-bytes (Write s t o) ≡ canonical (meaning-of s)
-  written-canonical = ap result-bytes (it .is) ∙ put-out-bytes (canonical (it .meaning)) 0 (filled (it .rows) t) o ∙ ap canonical written-means
+  written-canonical = ap result-bytes (writing .is) ∙ put-out-bytes (canonical (writing .meaning)) 0 (filled (writing .rows) t) o ∙ ap canonical written-means
 
   pub written-reads : reading (result-bytes (Write s t o)) t ≡ readable (rows-of (tokens 0 0 (result-bytes (Write s t o)))) (meaning-of s)
   written-reads =
-      let m = meant s (length t / 4) (it .rows) (it .meaning) stream (it .reads) in
+      let m = meant s (length t / 4) (writing .rows) (writing .meaning) stream (writing .reads) in
       rw (written-canonical, ← written-means)
-      (canonical-reads s (length t / 4) (it .rows) (it .meaning) stream (it .reads) (length t / 4) (omega (arith, m .counted, m .roomy)))
+      (canonical-reads s (length t / 4) (writing .rows) (writing .meaning) stream (writing .reads) (length t / 4) (omega (arith, m .counted, m .roomy)))
 
   pub written-stream : Bytes (result-bytes (Write s t o))
-  written-stream = rw (written-canonical, ← written-means) (canonical-stream s (length t / 4) (it .rows) (it .meaning) stream (it .reads))
+  written-stream = rw (written-canonical, ← written-means) (canonical-stream s (length t / 4) (writing .rows) (writing .meaning) stream (writing .reads))
 
 -- What was left
 
@@ -91,6 +91,9 @@ module _ (s : List ℕ) (l : Lent) (stream : Bytes s) (accepted : evaluation s l
       ap result-bytes (ran .is)
       ∙ put-out-bytes (canonical (result (ran .left))) (steps-in (run (ran .meaning) .events)) (filled (ran .rows) (l .table)) (l .output)
       ∙ ap canonical left-values
+
+  pub left-length : evaluation s l .given ≡ length (canonical (values-of s))
+  left-length = ap (λ (a : Answer). a .given) (ran .is) ∙ ap (λ (es : Exprs). length (canonical es)) left-values
 
   pub left-stream : Bytes (result-bytes (evaluation s l))
   left-stream = rw left-canonical (canonical-bytes (values-of s) (left-fits .0) left-short)

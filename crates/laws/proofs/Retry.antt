@@ -10,7 +10,7 @@ use Rattle.spec.specs.Runs.{End, done, stopped, steps-in}
 use Rattle.spec.specs.Evaluation.{run, result}
 use Rattle.spec.specs.Calls.{Answer, refusal, filled, put-out, reading, row-at, end-answer}
 use Rattle.laws.specs.Demands.{Lent, evaluation, NoSmaller, Final, Alike}
-use Rattle.laws.proofs.Runs.{Kept, kept, no-steps, no-work, cut-more}
+use Rattle.laws.proofs.Runs.{SameEnd, same-end, no-steps, no-work, cut-more}
 use Rattle.laws.proofs.Calls.{Put, too-short, fits, put-out-is, put-out-room, put-out-bytes, Way, unread, unversioned, wrong-version, runs, way, answered, evaluation-answered}
 
 refusals-alike : (w p : ℕ) (t t′ o o′ : List ℕ) → Alike (refusal w p t o) (refusal w p t′ o′)
@@ -27,11 +27,11 @@ module _ (t t′ o o′ : List ℕ) (room : length o ≤ length o′) where
   end-alike rs k (done ls) f = put-alike (canonical (result ls)) k (put-out-is (canonical (result ls)) k t o) f
   end-alike rs k (stopped w r) f = refusals-alike w (row-at rs r .start) t t′ o o′
 
-  kept-alike : (rs : List Row) (k : ℕ) (e e′ : End (List Exprs)) → Kept e e′ → Final (end-answer rs k t o e)
+  same-end-alike : (rs : List Row) (k : ℕ) (e e′ : End (List Exprs)) → SameEnd e e′ → Final (end-answer rs k t o e)
       → Alike (end-answer rs k t o e) (end-answer rs k t′ o′ e′)
-  kept-alike rs k e e′ (kept h) f = rw (← h) (end-alike rs k e f)
-  kept-alike rs k e e′ (no-steps r h) f = absurd (f .steps-last (rw h))
-  kept-alike rs k e e′ (no-work r h) f = absurd (f .work-fits (rw h))
+  same-end-alike rs k e e′ (same-end h) f = rw (← h) (end-alike rs k e f)
+  same-end-alike rs k e e′ (no-steps r h) f = absurd (f .steps-suffice (rw h))
+  same-end-alike rs k e e′ (no-work r h) f = absurd (f .work-fits (rw h))
 
 -- both evaluations read the same
 pub evaluate-alike : (s : List ℕ) (l m : Lent) → NoSmaller l m → Final (evaluation s l) → Alike (evaluation s l) (evaluation s m)
@@ -60,5 +60,5 @@ evaluate-alike s l m h f =
     go (wrong-version rs es e x y) f = rw (evaluation-answered s m (wrong-version rs es (as-before ∙ e) x y)) (refusals-alike 10 0 (filled rs t) (filled rs t′) o o′)
     go (runs rs es e x y) f =
         rw (evaluation-answered s m (runs rs es (as-before ∙ e) x y))
-        (kept-alike (filled rs t) (filled rs t′) o o′ (h .outputs) rs (steps-in (run es .events)) _ _
+        (same-end-alike (filled rs t) (filled rs t′) o o′ (h .outputs) rs (steps-in (run es .events)) _ _
         (cut-more (run es .events) (run es .end) (l .steps) (m .steps) (min (l .work) 65536) (min (m .work) 65536) (h .steps) (omega (arith, h .work))) f)

@@ -6,7 +6,7 @@ use mathlib.Core.List.{List, [], _∷_}
 use mathlib.Core.Bool.{Bool, true, false}
 use lib.ListN.{length, drop, getD, length-drop, List·getD-append}
 use lib.Dec.{leb}
-use borrow.Author.Tests.{leb-true, leb-false}
+use borrow.Author.Tests.{leb-true, leb-false, lt-leb, ne-eqb}
 use native.Mathlib.Omega.{arith}
 use Rattle.spec.specs.Expr.{if_then_else_, Expr, atom, form, Exprs, rows, rows-all}
 use Rattle.spec.specs.Reading.{Token, opening, closing, whole, bad, right, check, put, wrap, lists, Row, ends, rows-of, next-row, numbers}
@@ -91,6 +91,21 @@ module _ (end room : ℕ) where
       let k = right-whole end room ts x p e d n c in
       let a = rows-room ts d (n + 1) (k .1) (omega arith) in omega arith
   rows-room (bad w p ∷ ts) d n c h = absurd (right-bad end room ts w p d n c)
+
+  -- with as many rows as there are, more or fewer make no difference
+  pub right-room : (ts : List Token) (d n : ℕ) → check end room ts d n ≡ right → (room′ : ℕ) → n + length (rows-of ts) ≤ room′
+      → check end room′ ts d n ≡ right
+  unfolding check rows-of
+  right-room [] d n c room′ h = c
+  right-room (opening p ∷ ts) d n c room′ h =
+      let k = right-opening end room ts p d n c in
+      rw (lt-leb 64 d (k .0), lt-leb room′ n (omega arith)) (right-room ts (d + 1) (n + 1) (k .2) room′ (omega arith))
+  right-room (closing p ∷ ts) d n c room′ h =
+      let k = right-closing end room ts p d n c in
+      rw (ne-eqb d 0 (λ e. omega (arith, k .0))) (right-room ts (d - 1) n (k .1) room′ h)
+  right-room (whole x p e ∷ ts) d n c room′ h =
+      rw (lt-leb room′ n (omega arith)) (right-room ts d (n + 1) (right-whole end room ts x p e d n c .1) room′ (omega arith))
+  right-room (bad w p ∷ ts) d n c room′ h = absurd (right-bad end room ts w p d n c)
 
   pub rows-ordered : (ts : List Token) (p d n : ℕ) → Laid p ts end → check end room ts d n ≡ right → Ordered p (rows-of ts)
   unfolding rows-of

@@ -10,7 +10,7 @@ use borrow.Author.Tests.{ltb-false, eqb-false, le-ltb, ne-eqb}
 use native.Mathlib.Omega.{arith}
 use Rattle.spec.specs.Expr.{if_then_else_}
 use Rattle.spec.specs.Runs.{Event, step, charge, End, done, stopped, Run, follow, bind, cut, steps-in}
-use Rattle.laws.specs.Demands.{steps-within}
+use Rattle.laws.specs.Demands.{step-rows}
 
 module _ {A B : Type 0} where
   pub bind-end : (run : Run A) (f : A → Run B) (a : A) → run .end ≡ done a → bind run f .end ≡ f a .end
@@ -29,26 +29,33 @@ charges [] = 0
 charges (step r ∷ es) = charges es
 charges (charge r n ∷ es) = n + charges es
 
+-- with the workspace that a run takes, all its steps are taken
+pub all-step-rows : (es : List Event) (w : ℕ) → charges es ≤ w → length (step-rows w es) ≡ steps-in es
+unfolding step-rows steps-in charges
+all-step-rows [] w h = refl
+all-step-rows (step r ∷ es) w h = omega (arith, all-step-rows es w h)
+all-step-rows (charge r n ∷ es) w h = rw (le-ltb w n (omega arith)) (all-step-rows es (w - n) (omega arith))
+
 module _ {A : Type 0} where
   -- the second end is the first, unless the first is for want of steps or workspace
-  pub data Kept (x y : End A) : Type 0 where
-    kept : x ≡ y → Kept x y
-    no-steps : (r : ℕ) → x ≡ stopped 16 r → Kept x y
-    no-work : (r : ℕ) → x ≡ stopped 17 r → Kept x y
+  pub data SameEnd (x y : End A) : Type 0 where
+    same-end : x ≡ y → SameEnd x y
+    no-steps : (r : ℕ) → x ≡ stopped 16 r → SameEnd x y
+    no-work : (r : ℕ) → x ≡ stopped 17 r → SameEnd x y
 
-  pub cut-more : (es : List Event) (e : End A) (n n′ w w′ : ℕ) → n ≤ n′ → w ≤ w′ → Kept (cut n w es e) (cut n′ w′ es e)
+  pub cut-more : (es : List Event) (e : End A) (n n′ w w′ : ℕ) → n ≤ n′ → w ≤ w′ → SameEnd (cut n w es e) (cut n′ w′ es e)
   unfolding cut
-  cut-more [] e n n′ w w′ h k = kept refl
+  cut-more [] e n n′ w w′ h k = same-end refl
   cut-more (step r ∷ es) e n n′ w w′ h k = go (eqb n 0) refl (cut-more es e (n - 1) (n′ - 1) w w′ (omega arith) k)
     where
-      go : (b : Bool) → eqb n 0 ≡ b → Kept (cut (n - 1) w es e) (cut (n′ - 1) w′ es e)
-          → Kept (if b then stopped 16 r else cut (n - 1) w es e) (if eqb n′ 0 then stopped 16 r else cut (n′ - 1) w′ es e)
+      go : (b : Bool) → eqb n 0 ≡ b → SameEnd (cut (n - 1) w es e) (cut (n′ - 1) w′ es e)
+          → SameEnd (if b then stopped 16 r else cut (n - 1) w es e) (if eqb n′ 0 then stopped 16 r else cut (n′ - 1) w′ es e)
       go true q on = no-steps r refl
       go false q on = let z = eqb-false n 0 q in rw (ne-eqb n′ 0 (λ e. omega (arith, z))) on
   cut-more (charge r m ∷ es) e n n′ w w′ h k = go (ltb w m) refl (cut-more es e n n′ (w - m) (w′ - m) h (omega arith))
     where
-      go : (b : Bool) → ltb w m ≡ b → Kept (cut n (w - m) es e) (cut n′ (w′ - m) es e)
-          → Kept (if b then stopped 17 r else cut n (w - m) es e) (if ltb w′ m then stopped 17 r else cut n′ (w′ - m) es e)
+      go : (b : Bool) → ltb w m ≡ b → SameEnd (cut n (w - m) es e) (cut n′ (w′ - m) es e)
+          → SameEnd (if b then stopped 17 r else cut n (w - m) es e) (if ltb w′ m then stopped 17 r else cut n′ (w′ - m) es e)
       go true q on = no-work r refl
       go false q on = rw (le-ltb w′ m (omega (arith, ltb-false w m q))) on
 
@@ -75,49 +82,49 @@ module _ {A : Type 0} where
       record { ends = on .ends; steps = on .steps; work = omega (arith, on .work, ltb-false w m (k .0)) }
 
   -- the steps that the workspace allows: with as many or more, steps make no difference; with fewer, it is 16 at the next one
-  pub steps-enough : (es : List Event) (e : End A) (n w : ℕ) → length (steps-within w es) ≤ n → cut n w es e ≡ cut (length (steps-within w es)) w es e
-  unfolding cut steps-within
-  steps-enough [] e n w h = refl
-  steps-enough (step r ∷ es) e n w h =
-      let l : ℕ = length (steps-within w es) in
+  pub cut-enough : (es : List Event) (e : End A) (n w : ℕ) → length (step-rows w es) ≤ n → cut n w es e ≡ cut (length (step-rows w es)) w es e
+  unfolding cut step-rows
+  cut-enough [] e n w h = refl
+  cut-enough (step r ∷ es) e n w h =
+      let l : ℕ = length (step-rows w es) in
       let less : suc l - 1 ≡ l = omega arith in
-      rw (ne-eqb n 0 (λ z. omega arith), ne-eqb (suc l) 0 (λ z. omega arith), less) (steps-enough es e (n - 1) w (omega arith))
-  steps-enough (charge r m ∷ es) e n w h = go (ltb w m) h (λ k. steps-enough es e n (w - m) k)
+      rw (ne-eqb n 0 (λ z. omega arith), ne-eqb (suc l) 0 (λ z. omega arith), less) (cut-enough es e (n - 1) w (omega arith))
+  cut-enough (charge r m ∷ es) e n w h = go (ltb w m) h (λ k. cut-enough es e n (w - m) k)
     where
-      go : (b : Bool) → length (if b then [] else steps-within (w - m) es) ≤ n
-          → (length (steps-within (w - m) es) ≤ n → cut n (w - m) es e ≡ cut (length (steps-within (w - m) es)) (w - m) es e)
-          → (if b then stopped 17 r else cut n (w - m) es e) ≡ (if b then stopped 17 r else cut (length (if b then [] else steps-within (w - m) es)) (w - m) es e)
+      go : (b : Bool) → length (if b then [] else step-rows (w - m) es) ≤ n
+          → (length (step-rows (w - m) es) ≤ n → cut n (w - m) es e ≡ cut (length (step-rows (w - m) es)) (w - m) es e)
+          → (if b then stopped 17 r else cut n (w - m) es e) ≡ (if b then stopped 17 r else cut (length (if b then [] else step-rows (w - m) es)) (w - m) es e)
       go true h on = refl
       go false h on = on h
 
-  pub steps-short : (es : List Event) (e : End A) (n w : ℕ) → n < length (steps-within w es)
-      → cut n w es e ≡ stopped 16 (getD (steps-within w es) n 0)
-  unfolding cut steps-within
-  steps-short [] e n w h = absurd (omega arith)
-  steps-short (step r ∷ es) e zero w h = refl
-  steps-short (step r ∷ es) e (suc n) w h =
+  pub cut-short : (es : List Event) (e : End A) (n w : ℕ) → n < length (step-rows w es)
+      → cut n w es e ≡ stopped 16 (getD (step-rows w es) n 0)
+  unfolding cut step-rows
+  cut-short [] e n w h = absurd (omega arith)
+  cut-short (step r ∷ es) e zero w h = refl
+  cut-short (step r ∷ es) e (suc n) w h =
       let less : suc n - 1 ≡ n = omega arith in
-      rw (ne-eqb (suc n) 0 (λ z. omega arith), less) (steps-short es e n w (omega arith))
-  steps-short (charge r m ∷ es) e n w h = go (ltb w m) h (λ k. steps-short es e n (w - m) k)
+      rw (ne-eqb (suc n) 0 (λ z. omega arith), less) (cut-short es e n w (omega arith))
+  cut-short (charge r m ∷ es) e n w h = go (ltb w m) h (λ k. cut-short es e n (w - m) k)
     where
-      go : (b : Bool) → n < length (if b then [] else steps-within (w - m) es)
-          → (n < length (steps-within (w - m) es) → cut n (w - m) es e ≡ stopped 16 (getD (steps-within (w - m) es) n 0))
-          → (if b then stopped 17 r else cut n (w - m) es e) ≡ stopped 16 (getD (if b then [] else steps-within (w - m) es) n 0)
+      go : (b : Bool) → n < length (if b then [] else step-rows (w - m) es)
+          → (n < length (step-rows (w - m) es) → cut n (w - m) es e ≡ stopped 16 (getD (step-rows (w - m) es) n 0))
+          → (if b then stopped 17 r else cut n (w - m) es e) ≡ stopped 16 (getD (if b then [] else step-rows (w - m) es) n 0)
       go true h on = absurd (omega arith)
       go false h on = on h
 
   -- with steps enough, 16 would have to be the run's own end
-  pub steps-own : (es : List Event) (e : End A) (w r : ℕ) → cut (length (steps-within w es)) w es e ≡ stopped 16 r → e ≡ stopped 16 r
-  unfolding cut steps-within
-  steps-own [] e w r h = h
-  steps-own (step q ∷ es) e w r h =
-      let l : ℕ = length (steps-within w es) in
+  pub cut-own : (es : List Event) (e : End A) (w r : ℕ) → cut (length (step-rows w es)) w es e ≡ stopped 16 r → e ≡ stopped 16 r
+  unfolding cut step-rows
+  cut-own [] e w r h = h
+  cut-own (step q ∷ es) e w r h =
+      let l : ℕ = length (step-rows w es) in
       let less : suc l - 1 ≡ l = omega arith in
-      steps-own es e w r (rw (ne-eqb (suc l) 0 (λ z. omega arith), less) at h)
-  steps-own (charge q m ∷ es) e w r h = go (ltb w m) h (λ k. steps-own es e (w - m) r k)
+      cut-own es e w r (rw (ne-eqb (suc l) 0 (λ z. omega arith), less) at h)
+  cut-own (charge q m ∷ es) e w r h = go (ltb w m) h (λ k. cut-own es e (w - m) r k)
     where
-      go : (b : Bool) → (if b then stopped 17 q else cut (length (if b then [] else steps-within (w - m) es)) (w - m) es e) ≡ stopped 16 r
-          → (cut (length (steps-within (w - m) es)) (w - m) es e ≡ stopped 16 r → e ≡ stopped 16 r) → e ≡ stopped 16 r
+      go : (b : Bool) → (if b then stopped 17 q else cut (length (if b then [] else step-rows (w - m) es)) (w - m) es e) ≡ stopped 16 r
+          → (cut (length (step-rows (w - m) es)) (w - m) es e ≡ stopped 16 r → e ≡ stopped 16 r) → e ≡ stopped 16 r
       go true h on = absurd (let z : _≡_ {A = ℕ} 17 16 = cc in omega arith)
       go false h on = on h
 

@@ -11,59 +11,89 @@ use Rattle.spec.specs.Expr.{Exprs, first, rows-all, canonical}
 use Rattle.spec.specs.Reading.{tokens, Row, rows-of, row-width, numbers, Reading, refused, readable, read}
 use Rattle.spec.specs.Runs.{End, done, stopped, cut, steps-in}
 use Rattle.spec.specs.Evaluation.{run, result}
-use Rattle.spec.specs.Calls.{Answer, acceptance, filled, once-read, reading, row-at, end-answer, Read, Write}
-use Rattle.laws.specs.Demands.{Bytes, Begins, Lent, evaluation, result-bytes, NoSmaller, Final, Alike, Accepted, meaning-of, SameFirst, values-of, bytes-of-first, Steps, with-steps}
+use Rattle.spec.specs.Calls.{Answer, refusal, acceptance, filled, put-out, once-read, reading, row-at, end-answer, Read, Write, Evaluate}
+use Rattle.laws.specs.Demands.{Bytes, Kept, Lent, evaluation, result-bytes, NoSmaller, Final, Alike, Accepted, meaning-of, SameFirst, values-of, bytes-of-first, all-steps, with-steps, Counted, SamePrefix}
 use Rattle.laws.specs.Sanity.{Inside, FirstFrom, Proper}
 use Rattle.laws.proofs.Rows.{rows-ordered, rows-inside, ordered-starts, inside-start, next-row-first, numbers-fourth}
-use Rattle.laws.proofs.Reading.{stream-laid, Readable, read-readable, read-refused, read-room}
+use Rattle.laws.proofs.Reading.{stream-laid, Readable, read-readable, read-refused, read-refused-roomy, read-enough, read-room}
 use Rattle.laws.proofs.Values.{run-proper}
 use Rattle.laws.proofs.Prefix.{run-first}
-use Rattle.laws.proofs.Calls.{put-out-is, put-out-room, put-place, Way, unread, unversioned, wrong-version, runs, way, answered, evaluation-answered}
-use Rattle.laws.proofs.Results.{meant, canonical-reads, same-canonical, it, written-means, written-canonical, written-reads, written-stream, ran, ran-means, ran-ends, left-canonical, left-stream, left-reads, left-begins}
+use Rattle.laws.proofs.Calls.{put-out-is, put-place, put-out-bytes, write-out, write-room, write-kept, Way, unread, unversioned, wrong-version, runs, way, answered, evaluation-answered, evaluation-kept}
+use Rattle.laws.proofs.Results.{meant, canonical-reads, same-canonical, writing, written-means, written-canonical, written-reads, written-stream, ran, ran-means, ran-ends, left-canonical, left-length, left-stream, left-reads, left-begins}
 use Rattle.laws.proofs.Retry.{evaluate-alike}
-use Rattle.laws.proofs.Count.{refused-counted, enough-same, short-refused, sixteen-short}
+use Rattle.laws.proofs.Count.{refused-counted, ran-all-steps, enough-same, short-refused, sixteen-short}
+
+-- Demand 1: "Every public call ends and answers for all inputs": the calls are functions on all lists. "Bad input gets the refusal number and
+-- place from document 01's table, [..] and the output buffer is then unchanged."
+
+-- a stream that can't be read gets reading's number and place from all three calls, with every buffer as it was
+pub unreadable : (s : List ℕ) (l : Lent) (w p : ℕ) → reading s (l .table) ≡ refused w p
+    → (Read s (l .table) ≡ refusal w p (l .table) []) × (Write s (l .table) (l .output) ≡ refusal w p (l .table) (l .output)) × (evaluation s l ≡ refusal w p (l .table) (l .output))
+unfolding Read Write Evaluate
+unreadable s l w p h = (rw h, rw h, rw h)
+
+pub read-table : (s t : List ℕ) (rs : List Row) (es : Exprs) → reading s t ≡ readable rs es → Read s t ≡ acceptance (length rs) 0 (filled rs t) []
+unfolding Read
+read-table s t rs es h = rw h
+
+pub write-keeps : (s t o : List ℕ) → Kept t o (Write s t o)
+write-keeps = write-kept
+
+pub evaluation-keeps : (s : List ℕ) (l : Lent) → Kept (l .table) (l .output) (evaluation s l)
+evaluation-keeps = evaluation-kept
 
 -- Demand 2: "Given table and room enough, two readable streams of equal meaning are written to equal bytes, two of different meaning
 -- never, and reading what was written gives the meaning back."
 
+module _ (s : List ℕ) (room : ℕ) (rs : List Row) (es : Exprs) (reads : read s room ≡ readable rs es) where
+  -- what is meant does not depend on the number of rows
+  pub read-means : es ≡ meaning-of s
+  read-means = read-readable s room rs es reads .means
+
+  -- "table enough": as many rows as there are
+  pub read-roomy : (room′ : ℕ) → length rs ≤ room′ → read s room′ ≡ readable rs es
+  read-roomy = read-enough s room rs es reads
+
 module _ (s : List ℕ) (room : ℕ) (rs : List Row) (es : Exprs) (stream : Bytes s) (reads : read s room ≡ readable rs es) where
-  -- the canonical bytes of a meaning that was read are read as that meaning, with no more rows
+  -- given at least as many rows, the canonical bytes of what was read are read as it
   pub read-back : (room′ : ℕ) → length rs ≤ room′ → read (canonical es) room′ ≡ readable (rows-of (tokens 0 0 (canonical es))) es
   read-back = canonical-reads s room rs es stream reads
 
-  -- they are never more than the stream's
+  -- canonical bytes are never more than the stream's
   pub canonical-shorter : length (canonical es) ≤ length s
   canonical-shorter = meant s room rs es stream reads .shorter
 
--- they are equal exactly when the meanings are
+  -- a canonical stream is written to itself
+  pub write-self : (t o : List ℕ) → length rs ≤ length t / row-width → length (canonical es) ≤ length o
+      → (Write (canonical es) t o .number ≡ 0) × (result-bytes (Write (canonical es) t o) ≡ canonical es)
+  write-self t o h k =
+      let w = write-out (canonical es) t o (rows-of (tokens 0 0 (canonical es))) es (read-back (length t / 4) h) k in
+      (ap (λ (a : Answer). a .number) w, ap result-bytes w ∙ put-out-bytes (canonical es) 0 (filled (rows-of (tokens 0 0 (canonical es))) t) o)
+
+-- canonical bytes are equal exactly when the meanings are
 pub canonical-equal : (s s′ : List ℕ) (room room′ : ℕ) (rs rs′ : List Row) (es es′ : Exprs) → Bytes s → Bytes s′
     → read s room ≡ readable rs es → read s′ room′ ≡ readable rs′ es′ → (canonical es ≡ canonical es′) ↔ (es ≡ es′)
 canonical-equal s s′ room room′ rs rs′ es es′ b b′ r r′ = (same-canonical s s′ room room′ rs rs′ es es′ b b′ r r′, λ h. ap canonical h)
 
--- "Given table and room enough": a readable stream is written if the output is as long as the stream
-pub write-accepts : (s t o : List ℕ) (rs : List Row) (es : Exprs) → Bytes s → reading s t ≡ readable rs es → length s ≤ length o
-    → Write s t o .number ≡ 0
-unfolding Write
-write-accepts s t o rs es b r h =
-    let fits = canonical-shorter s (length t / 4) rs es b r in
-    rw r (ap (λ (a : Answer). a .number) (put-out-room (canonical es) 0 (filled rs t) o (omega arith)))
+-- "room enough": a readable stream is written exactly if the output has room for its canonical bytes
+pub write-accepts : (s t o : List ℕ) (rs : List Row) (es : Exprs) → reading s t ≡ readable rs es
+    → (Write s t o .number ≡ 0) ↔ (length (canonical es) ≤ length o)
+write-accepts s t o rs es r = (write-room s t o rs es r, λ h. ap (λ (a : Answer). a .number) (write-out s t o rs es r h))
 
 module _ (s t o : List ℕ) (stream : Bytes s) (accepted : Write s t o .number ≡ 0) where
-  -- what is written is the canonical stream
+  -- what is written is the canonical stream, and its length is given
   pub write-canonical : result-bytes (Write s t o) ≡ canonical (meaning-of s)
   write-canonical = written-canonical s t o stream accepted
+
+  pub write-length : Write s t o .given ≡ length (canonical (meaning-of s))
+  write-length = ap (λ (a : Answer). a .given) (writing s t o stream accepted .is) ∙ ap (λ (es : Exprs). length (canonical es)) (written-means s t o stream accepted)
+
+  pub write-stream : Bytes (result-bytes (Write s t o))
+  write-stream = written-stream s t o stream accepted
 
   -- "reading what was written gives the meaning back", with the same table
   pub write-read-back : reading (result-bytes (Write s t o)) t ≡ readable (rows-of (tokens 0 0 (result-bytes (Write s t o)))) (meaning-of s)
   write-read-back = written-reads s t o stream accepted
-
-  -- a canonical stream is written to itself
-  pub write-self : (t′ o′ : List ℕ) → Write (result-bytes (Write s t o)) t′ o′ .number ≡ 0
-      → result-bytes (Write (result-bytes (Write s t o)) t′ o′) ≡ result-bytes (Write s t o)
-  write-self t′ o′ a =
-      let c = result-bytes (Write s t o) in
-      let again : meaning-of c ≡ meaning-of s = sym (read-readable c (length t / 4) _ (meaning-of s) write-read-back .means) in
-      written-canonical c t′ o′ (written-stream s t o stream accepted) a ∙ ap canonical again ∙ sym write-canonical
 
 -- "two readable streams of equal meaning are written to equal bytes, two of different meaning never"
 pub write-same : (s s′ t t′ o o′ : List ℕ) → Bytes s → Bytes s′ → Write s t o .number ≡ 0 → Write s′ t′ o′ .number ≡ 0
@@ -73,7 +103,7 @@ write-same s s′ t t′ o o′ b b′ a a′ =
     let m′ = written-means s′ t′ o′ b′ a′ in
     let c = written-canonical s t o b a in
     let c′ = written-canonical s′ t′ o′ b′ a′ in
-    let same = same-canonical s s′ (length t / 4) (length t′ / 4) _ _ _ _ b b′ (it s t o b a .reads) (it s′ t′ o′ b′ a′ .reads) in
+    let same = same-canonical s s′ (length t / 4) (length t′ / 4) _ _ _ _ b b′ (writing s t o b a .reads) (writing s′ t′ o′ b′ a′ .reads) in
     (λ h. c ∙ ap canonical h ∙ sym c′, λ h. sym m ∙ same (ap canonical m ∙ sym c ∙ h ∙ c′ ∙ ap canonical (sym m′)) ∙ m′)
 
 -- Every result is a stream that can be read, and means the values that were left.
@@ -81,6 +111,9 @@ write-same s s′ t t′ o o′ b b′ a a′ =
 module _ (s : List ℕ) (l : Lent) (stream : Bytes s) (accepted : evaluation s l .number ≡ 0) where
   pub result-canonical : result-bytes (evaluation s l) ≡ canonical (values-of s)
   result-canonical = left-canonical s l stream accepted
+
+  pub result-length : evaluation s l .given ≡ length (canonical (values-of s))
+  result-length = left-length s l stream accepted
 
   pub result-stream : Bytes (result-bytes (evaluation s l))
   result-stream = left-stream s l stream accepted
@@ -96,16 +129,12 @@ module _ (s : List ℕ) (l : Lent) (stream : Bytes s) (accepted : evaluation s l
 pub retry : (s : List ℕ) (l m : Lent) → NoSmaller l m → Final (evaluation s l) → Alike (evaluation s l) (evaluation s m)
 retry = evaluate-alike
 
--- "The count is always the one that document 01 defines, never above the steps given": "the steps taken on acceptance, else zero"
+-- "The count is always the one that document 01 defines, never above the steps given."
 
-pub record Count (s : List ℕ) (l : Lent) : Type 0 where
-  pub accepted : evaluation s l .number ≡ 0 → evaluation s l .steps ≡ steps-in (run (meaning-of s) .events)
-  pub refused : (evaluation s l .number ≡ 0 → ⊥) → evaluation s l .steps ≡ 0
-  pub bounded : evaluation s l .steps ≤ l .steps
-
-pub count : (s : List ℕ) (l : Lent) → Bytes s → Count s l
+pub count : (s : List ℕ) (l : Lent) → Bytes s → Counted s l
 count s l b = record {
-  accepted = λ h. taken h ∙ ap (λ (es : Exprs). steps-in (run es .events)) (ran-means s l b h);
+  accepted = λ h. taken h ∙ ran-all-steps s l h (ran s l b h);
+  of-run = λ h. taken h ∙ ap (λ (es : Exprs). steps-in (run es .events)) (ran-means s l b h);
   refused = refused-counted s l;
   bounded = go (ℕ-discrete (evaluation s l .number) 0);
 }
@@ -121,25 +150,20 @@ count s l b = record {
 -- `Steps` lists the places of the steps that the rules take with this table and workspace and no bound on steps
 
 module _ (s : List ℕ) (l : Lent) where
-  pub sixteen : Bytes s → (evaluation s l .number ≡ 16) ↔ (l .steps < length (Steps s l))
+  pub sixteen : Bytes s → (evaluation s l .number ≡ 16) ↔ (l .steps < length (all-steps s l))
   sixteen b = (λ h. sixteen-short s l b h, λ h. short-refused s l h .0)
 
-  pub sixteen-place : l .steps < length (Steps s l) → evaluation s l .place ≡ getD (Steps s l) (l .steps) 0
+  pub sixteen-place : l .steps < length (all-steps s l) → evaluation s l .place ≡ getD (all-steps s l) (l .steps) 0
   sixteen-place h = short-refused s l h .1
 
   -- "If they accept or refuse within the steps given, that is the answer": with steps enough, how many makes no difference
-  pub steps-enough : (n : ℕ) → length (Steps s l) ≤ l .steps → length (Steps s l) ≤ n → evaluation s l ≡ evaluation s (with-steps n l)
+  pub steps-enough : (n : ℕ) → length (all-steps s l) ≤ l .steps → length (all-steps s l) ≤ n → evaluation s l ≡ evaluation s (with-steps n l)
   steps-enough = enough-same s l
 
 -- "And take any two accepted streams and any number q. If their first q top-level expressions are equal in meaning, these give the same
 -- bytes in both, and the result bytes of every run that accepts either stream begin with them."
 
-pub record Prefix (q : ℕ) (s s′ : List ℕ) : Type 0 where
-  pub same : bytes-of-first q s ≡ bytes-of-first q s′
-  pub begins : (l : Lent) → evaluation s l .number ≡ 0 → Begins (result-bytes (evaluation s l)) (bytes-of-first q s)
-  pub begins′ : (l : Lent) → evaluation s′ l .number ≡ 0 → Begins (result-bytes (evaluation s′ l)) (bytes-of-first q s)
-
-pub prefix : (q : ℕ) (s s′ : List ℕ) → Bytes s → Bytes s′ → Accepted s → Accepted s′ → SameFirst q s s′ → Prefix q s s′
+pub prefix : (q : ℕ) (s s′ : List ℕ) → Bytes s → Bytes s′ → Accepted s → Accepted s′ → SameFirst q s s′ → SamePrefix q s s′
 prefix q s s′ b b′ a a′ f = record { same = same; begins = λ l h. left-begins s l b h q; begins′ = λ l h. rw same (left-begins s′ l b′ h q) }
   where
     same : bytes-of-first q s ≡ bytes-of-first q s′
@@ -189,6 +213,14 @@ read-place s t b = go (reading s t) refl
     go (refused w p) e = read-refused s (length t / 4) w p b e .2
     go (readable rs es) e = omega arith
 
+pub write-place : (s t o : List ℕ) → Bytes s → Write s t o .place ≤ length s
+unfolding Write
+write-place s t o b = go (reading s t) refl
+  where
+    go : (r : Reading) → reading s t ≡ r → once-read t o (λ rs es. put-out (canonical es) 0 (filled rs t) o) r .place ≤ length s
+    go (refused w p) e = read-refused s (length t / 4) w p b e .2
+    go (readable rs es) e = omega (arith, put-place (put-out-is (canonical es) 0 (filled rs t) o))
+
 pub evaluate-place : (s : List ℕ) (l : Lent) → Bytes s → evaluation s l .place ≤ length s
 evaluate-place s l b = rw (evaluation-answered s l (way s t)) (go (way s t))
   where
@@ -207,6 +239,9 @@ evaluate-place s l b = rw (evaluation-answered s l (way s t)) (go (way s t))
         by-end rs (steps-in (run es .events)) (rows-in-stream s (length t / 4) rs es b e)
         (cut (l .steps) (min (l .work) 65536) (run es .events) (run es .end))
 
--- with as many rows as bytes, more make no difference: 8 can't arise in Item's reading
+-- Item reads with as many rows as bytes: more make no difference, and 8 does not arise
 pub item-rows : (s : List ℕ) (room : ℕ) → length s ≤ room → read s room ≡ read s (length s)
 item-rows = read-room
+
+pub item-eight : (s : List ℕ) (w p : ℕ) → Bytes s → read s (length s) ≡ refused w p → w ≤ 7
+item-eight = read-refused-roomy

@@ -1,17 +1,18 @@
 -- Laws of `tokens` and `check`: how the tokens of a stream lie in it, and what holds of tokens that are right.
 use Prim.Native.Nat.{ℕ, zero, suc, _+_, _-_, _≤_, _<_}
 use mathlib.Core.Path.{_≡_, refl, ap, subst}
+use mathlib.Core.Logic.{_⊎_, inl, inr}
 use mathlib.Core.List.{List, [], _∷_}
 use mathlib.Core.Bool.{Bool, true, false}
 use lib.ListN.{length}
 use lib.Dec.{leb, eqb}
-use borrow.Author.Tests.{leb-false, eqb-true, eqb-false, lt-leb}
+use borrow.Author.Tests.{leb-true, leb-false, eqb-true, eqb-false, lt-leb}
 use native.Mathlib.Omega.{arith}
 use Rattle.spec.specs.Expr.{if_then_else_, Atom, atom-bytes}
 use Rattle.spec.specs.Reading.{Taken, taken, failed, read-atom, Token, opening, closing, whole, bad, atom-token, token, further, tokens, Verdict, right, wrong, check}
 use Rattle.laws.specs.Demands.{Bytes}
 use Rattle.laws.proofs.Fits.{Fits}
-use Rattle.laws.proofs.Atoms.{Off, Read, off-atom, front}
+use Rattle.laws.proofs.Atoms.{Off, AtomOf, off-atom, front}
 
 -- a verdict is right only by way of the branch that does not refuse
 not-refused : (b : Bool) (w p : ℕ) (v : Verdict) → (if b then wrong w p else v) ≡ right → (b ≡ false) × (v ≡ right)
@@ -62,7 +63,7 @@ Laid p [] end = p ≤ end
 Laid p (opening q ∷ ts) end = (p ≤ q) × Laid (q + 1) ts end
 Laid p (closing q ∷ ts) end = (p ≤ q) × Laid (q + 1) ts end
 Laid p (whole a q e ∷ ts) end = (p ≤ q) × (q < e) × (q + length (atom-bytes a) ≤ e) × Fits a × Laid e ts end
-Laid p (bad w q ∷ ts) end = (p ≤ end) × (q ≤ end) × (1 ≤ w) × (w ≤ 8)
+Laid p (bad w q ∷ ts) end = (p ≤ end) × (q ≤ end) × (1 ≤ w) × (w ≤ 7)
 
 laid-at : (p q : ℕ) (ts : List Token) (end end′ : ℕ) → p ≡ q → end ≡ end′ → Laid p ts end → Laid q ts end′
 laid-at p q ts end end′ e e′ l = subst (λ (x : ℕ). Laid x ts end′) e (subst (λ (x : ℕ). Laid p ts x) e′ l)
@@ -79,7 +80,7 @@ laid-first p b s h bs rest = go (eqb b 0x01) (eqb b 0x02) (read-atom b s) (off-a
     next : Laid (p + 1) (tokens (p + 1) 0 s) end
     next = laid-at (p + 1 + 0) (p + 1) (tokens (p + 1) 0 s) end end (omega arith) refl (rest 0 (omega arith))
 
-    atomic : (x : Taken Atom) → Off (Read (suc (length s))) (suc (length s)) x
+    atomic : (x : Taken Atom) → Off (AtomOf (suc (length s))) (suc (length s)) x
         → Laid p (atom-token p end x ∷ tokens (p + 1) (further (atom-token p end x)) s) end
     atomic (taken a t) o =
         let size = ap length (front a (o .0 .0) .is) in
@@ -96,7 +97,7 @@ laid-first p b s h bs rest = go (eqb b 0x01) (eqb b 0x02) (read-atom b s) (off-a
     kind : Bool → Bool → Taken Atom → Token
     kind c d x = if c then opening p else if d then closing p else atom-token p end x
 
-    go : (c d : Bool) (x : Taken Atom) → Off (Read (suc (length s))) (suc (length s)) x
+    go : (c d : Bool) (x : Taken Atom) → Off (AtomOf (suc (length s))) (suc (length s)) x
         → Laid p (kind c d x ∷ tokens (p + 1) (further (kind c d x)) s) end
     go true d x o = (omega arith, next)
     go false true x o = (omega arith, next)
@@ -122,29 +123,48 @@ laid-inside p (closing q ∷ ts) end l = omega (arith, l .0, laid-inside (q + 1)
 laid-inside p (whole a q e ∷ ts) end l = omega (arith, l .0, l .1, laid-inside e ts end (l .4))
 laid-inside p (bad w q ∷ ts) end l = l .0
 
--- one of reading's numbers, and a place in the stream
-abbrev pub Refusal : ℕ → Verdict → Type 0
-Refusal end right = Unit {0}
-Refusal end (wrong w p) = (1 ≤ w) × (w ≤ 8) × (p ≤ end)
+-- a refusal has one of reading's numbers up to `most`, and a place in the stream
+abbrev pub RefusalInside : ℕ → ℕ → Verdict → Type 0
+RefusalInside most end right = Unit {0}
+RefusalInside most end (wrong w p) = (1 ≤ w) × (w ≤ most) × (p ≤ end)
 
-refusal-choice : (end : ℕ) (b : Bool) (v v′ : Verdict) → Refusal end v → Refusal end v′ → Refusal end (if b then v else v′)
-refusal-choice end true v v′ h k = h
-refusal-choice end false v v′ h k = k
+refusal-choice : (most end : ℕ) (b : Bool) (v v′ : Verdict) → (b ≡ true → RefusalInside most end v) → RefusalInside most end v′
+    → RefusalInside most end (if b then v else v′)
+refusal-choice most end true v v′ h k = h refl
+refusal-choice most end false v v′ h k = k
 
-pub check-refusal : (end room : ℕ) (ts : List Token) (p d n : ℕ) → Laid p ts end → Refusal end (check end room ts d n)
+-- 8 is allowed, or there are k rows at least
+abbrev Enough : ℕ → ℕ → ℕ → Type 0
+Enough most room k = (8 ≤ most) ⊎ (k ≤ room)
+
+enough-less : (most room k j : ℕ) → j ≤ k → Enough most room k → Enough most room j
+enough-less most room k j h (inl m) = inl m
+enough-less most room k j h (inr r) = inr (omega arith)
+
+no-row : (most room n k : ℕ) → n < k → Enough most room k → leb room n ≡ true → 8 ≤ most
+no-row most room n k h (inl m) e = m
+no-row most room n k h (inr r) e = absurd (omega (arith, leb-true room n e))
+
+pub check-refusal : (most end room : ℕ) (ts : List Token) (p d n : ℕ) → Laid p ts end → 7 ≤ most → Enough most room (n + length ts)
+    → RefusalInside most end (check end room ts d n)
 unfolding check
-check-refusal end room [] p d n l = refusal-choice end (eqb d 0) right (wrong 2 end) tt (omega arith)
-check-refusal end room (opening q ∷ ts) p d n l =
+check-refusal most end room [] p d n l m r = refusal-choice most end (eqb d 0) right (wrong 2 end) (λ e. tt) (omega arith)
+check-refusal most end room (opening q ∷ ts) p d n l m r =
     let here = laid-inside (q + 1) ts end (l .1) in
-    refusal-choice end (leb 64 d) (wrong 6 q) _ (omega arith)
-    (refusal-choice end (leb room n) (wrong 8 q) _ (omega arith) (check-refusal end room ts (q + 1) (d + 1) (n + 1) (l .1)))
-check-refusal end room (closing q ∷ ts) p d n l =
+    let k : ℕ = n + suc (length ts) in
+    refusal-choice most end (leb 64 d) (wrong 6 q) _ (λ e. omega arith)
+    (refusal-choice most end (leb room n) (wrong 8 q) _ (λ e. (omega arith, no-row most room n k (omega arith) r e, omega arith))
+    (check-refusal most end room ts (q + 1) (d + 1) (n + 1) (l .1) m (enough-less most room k (n + 1 + length ts) (omega arith) r)))
+check-refusal most end room (closing q ∷ ts) p d n l m r =
     let here = laid-inside (q + 1) ts end (l .1) in
-    refusal-choice end (eqb d 0) (wrong 3 q) _ (omega arith) (check-refusal end room ts (q + 1) (d - 1) n (l .1))
-check-refusal end room (whole a q e ∷ ts) p d n l =
+    refusal-choice most end (eqb d 0) (wrong 3 q) _ (λ e. omega arith)
+    (check-refusal most end room ts (q + 1) (d - 1) n (l .1) m (enough-less most room (n + suc (length ts)) (n + length ts) (omega arith) r))
+check-refusal most end room (whole a q e ∷ ts) p d n l m r =
     let here = laid-inside e ts end (l .4) in
-    refusal-choice end (leb room n) (wrong 8 q) _ (omega (arith, l .1)) (check-refusal end room ts e d (n + 1) (l .4))
-check-refusal end room (bad w q ∷ ts) p d n l = (l .2, l .3, l .1)
+    let k : ℕ = n + suc (length ts) in
+    refusal-choice most end (leb room n) (wrong 8 q) _ (λ b. (omega arith, no-row most room n k (omega arith) r b, omega (arith, l .1)))
+    (check-refusal most end room ts e d (n + 1) (l .4) m (enough-less most room k (n + 1 + length ts) (omega arith) r))
+check-refusal most end room (bad w q ∷ ts) p d n l m r = (l .2, omega (arith, l .3), l .1)
 
 -- Rows enough
 

@@ -7,7 +7,7 @@ use lib.ListN.{length, take}
 use lib.Dec.{ltb}
 use Rattle.spec.specs.Expr.{if_then_else_, same, Exprs, size, first, canonical}
 use Rattle.spec.specs.Reading.{tokens, meaning, Reading, refused, readable}
-use Rattle.spec.specs.Runs.{Event, step, charge, End, done, stopped}
+use Rattle.spec.specs.Runs.{Event, step, charge, End, done, stopped, steps-in}
 use Rattle.spec.specs.Evaluation.{run, result}
 use Rattle.spec.specs.Calls.{Answer, Evaluate, reading, is-versioned, version-bytes, row-at}
 
@@ -16,10 +16,17 @@ abbrev pub Bytes : List ℕ → Type 0
 Bytes [] = Unit {0}
 Bytes (b ∷ s) = (b < 256) × Bytes s
 
--- what a list begins with
+-- s is `front`, then `back`
 pub record Begins (s front : List ℕ) : Type 0 where
   pub back : List ℕ
   pub is : s ≡ front ++ back
+
+-- "the output buffer is then unchanged": an answer to a call with this table and output leaves both as long as they were, and on a refusal
+-- the output as it was
+pub record Kept (table output : List ℕ) (a : Answer) : Type 0 where
+  pub tables : length (a .table) ≡ length table
+  pub outputs : length (a .output) ≡ length output
+  pub refused : (a .number ≡ 0 → ⊥) → a .output ≡ output
 
 -- what a stream is evaluated with; of the workspace its length
 pub record Lent : Type 0 where
@@ -46,9 +53,9 @@ pub record NoSmaller (l m : Lent) : Type 0 where
   pub outputs : length (l .output) ≤ length (m .output)
   pub steps : l .steps ≤ m .steps
 
--- "accepts, or refuses for a reason other than steps, workspace or output room"
+-- "accepts, or refuses for a reason other than steps, workspace or output room": an answer that a retry does not change
 pub record Final (a : Answer) : Type 0 where
-  pub steps-last : a .number ≡ 16 → ⊥
+  pub steps-suffice : a .number ≡ 16 → ⊥
   pub work-fits : a .number ≡ 17 → ⊥
   pub output-fits : a .number ≡ 18 → ⊥
 
@@ -65,7 +72,7 @@ pub record Accepted (s : List ℕ) : Type 0 where
   pub lent : Lent
   pub accepts : evaluation s lent .number ≡ 0
 
--- the meaning of a stream that can be read
+-- the meaning that `read` gives, if it gives one
 abbrev pub meaning-of : List ℕ → Exprs
 meaning-of s = meaning (tokens 0 0 s)
 
@@ -76,6 +83,7 @@ pub record SameFirst (q : ℕ) (s t : List ℕ) : Type 0 where
   pub enough′ : q ≤ size (meaning-of t)
   pub equal : first q (meaning-of s) ≡ first q (meaning-of t)
 
+-- what each expression of the top level left; nothing, if the run stopped
 abbrev pub left-by : End (List Exprs) → List Exprs
 left-by (done ls) = ls
 left-by (stopped w r) = []
@@ -89,22 +97,36 @@ abbrev pub bytes-of-first : ℕ → List ℕ → List ℕ
 bytes-of-first q s = canonical (result (take q (left-by (run (meaning-of s) .end))))
 
 -- the rows of the steps that a run takes with a workspace "and no bound on steps"
-unfoldable pub steps-within : ℕ → List Event → List ℕ
-steps-within work [] = []
-steps-within work (step r ∷ es) = r ∷ steps-within work es
-steps-within work (charge r n ∷ es) = if ltb work n then [] else steps-within (work - n) es
+unfoldable pub step-rows : ℕ → List Event → List ℕ
+step-rows work [] = []
+step-rows work (step r ∷ es) = r ∷ step-rows work es
+step-rows work (charge r n ∷ es) = if ltb work n then [] else step-rows (work - n) es
 
 -- the places of the expressions that take a step when "these rules, reading first," are run "with the table, workspace [..] given and no
 -- bound on steps"
-abbrev pub steps-once-read : List ℕ → ℕ → Reading → List ℕ
-steps-once-read s work (refused w p) = []
-steps-once-read s work (readable rows es) =
+abbrev pub step-places-once-read : List ℕ → ℕ → Reading → List ℕ
+step-places-once-read s work (refused w p) = []
+step-places-once-read s work (readable rows es) =
     if not (is-versioned es) then [] else
     if not (same (take 6 s) version-bytes) then [] else
-    map (λ r. row-at rows r .start) (steps-within (min work 65536) (run es .events))
+    map (λ r. row-at rows r .start) (step-rows (min work 65536) (run es .events))
 
-unfoldable pub steps-of : List ℕ → List ℕ → ℕ → List ℕ
-steps-of s table work = steps-once-read s work (reading s table)
+unfoldable pub step-places : List ℕ → List ℕ → ℕ → List ℕ
+step-places s table work = step-places-once-read s work (reading s table)
 
-abbrev pub Steps : List ℕ → Lent → List ℕ
-Steps s l = steps-of s (l .table) (l .work)
+-- of an evaluation; the output plays no part, since 18 comes "last of all"
+abbrev pub all-steps : List ℕ → Lent → List ℕ
+all-steps s l = step-places s (l .table) (l .work)
+
+-- "The count is always the one that document 01 defines, never above the steps given": "the steps taken on acceptance, else zero"
+pub record Counted (s : List ℕ) (l : Lent) : Type 0 where
+  pub accepted : evaluation s l .number ≡ 0 → evaluation s l .steps ≡ length (all-steps s l)
+  pub of-run : evaluation s l .number ≡ 0 → evaluation s l .steps ≡ steps-in (run (meaning-of s) .events)
+  pub refused : (evaluation s l .number ≡ 0 → ⊥) → evaluation s l .steps ≡ 0
+  pub bounded : evaluation s l .steps ≤ l .steps
+
+-- "these give the same bytes in both, and the result bytes of every run that accepts either stream begin with them"
+pub record SamePrefix (q : ℕ) (s t : List ℕ) : Type 0 where
+  pub same : bytes-of-first q s ≡ bytes-of-first q t
+  pub begins : (l : Lent) → evaluation s l .number ≡ 0 → Begins (result-bytes (evaluation s l)) (bytes-of-first q s)
+  pub begins′ : (l : Lent) → evaluation t l .number ≡ 0 → Begins (result-bytes (evaluation t l)) (bytes-of-first q s)
