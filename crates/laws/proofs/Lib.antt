@@ -1,5 +1,6 @@
 pub mod Fits
 pub mod Canonical
+pub mod Spelling
 pub mod Atoms
 pub mod Tokens
 pub mod Rows

@@ -9,11 +9,12 @@ use lib.Dec.{ltb}
 use borrow.Author.Tests.{ltb-false, le-ltb, lt-leb, ne-eqb}
 use native.Mathlib.Omega.{arith}
 use native.Mathlib.Numerals.{add-one}
-use Rattle.spec.specs.Expr.{if_then_else_, Atom, atom-bytes, Expr, atom, form, Exprs, none, more, rows, rows-all, depth, deepest, bytes, canonical}
+use Rattle.spec.specs.Expr.{if_then_else_, Atom, Expr, atom, form, Exprs, none, more, rows, rows-all, depth, deepest, bytes, canonical}
 use Rattle.spec.specs.Reading.{Token, opening, closing, whole, bad, token, tokens, Verdict, right, wrong, check, put, wrap, lists, Row, rows-of, refused, readable, by-verdict, read}
 use Rattle.laws.specs.Demands.{Bytes, meaning-of}
-use Rattle.laws.proofs.Fits.{Fits, FitsExpr, FitsAll}
-use Rattle.laws.proofs.Atoms.{Front, front}
+use Rattle.laws.proofs.Fits.{FitsExpr, FitsAll}
+use Rattle.laws.specs.Grammar.{SpellsAtom, Spells, SpellsAll}
+use Rattle.laws.proofs.Spelling.{Front, front, canonical-atom}
 use Rattle.laws.proofs.Tokens.{right-end, right-opening, right-closing, right-whole, right-bad, Laid, tokens-laid, RefusalInside, check-refusal, tokens-few, check-room}
 use Rattle.laws.proofs.Rows.{rows-in, rows-count, rows-room, right-room}
 
@@ -159,7 +160,7 @@ read-room s room h =
     let few = tokens-few s 0 0 in
     rw (check-room (length s) room (length s) (tokens 0 0 s) 0 0 (omega arith) (omega arith))
 
--- The canonical bytes
+-- Bytes that spell expressions
 
 -- bytes that belong to the token before
 tokens-skip : (x s : List ℕ) (p : ℕ) → tokens p (length x) (x ++ s) ≡ tokens (p + length x) 0 s
@@ -167,28 +168,34 @@ unfolding tokens
 tokens-skip [] s p = ap (λ (q : ℕ). tokens q 0 s) (omega arith)
 tokens-skip (b ∷ x) s p = tokens-skip x s (p + 1) ∙ ap (λ (q : ℕ). tokens q 0 s) (omega arith)
 
-tokens-form : (es : Exprs) (p : ℕ) (s : List ℕ) → tokens p 0 (bytes (form es) ++ s) ≡ opening p ∷ tokens (p + 1) 0 (canonical es ++ (0x02 ∷ s))
-unfolding tokens token bytes
-tokens-form es p s = ap (λ x. opening p ∷ tokens (p + 1) 0 x) (append-assoc (canonical es) (0x02 ∷ []) s)
+tokens-form : (x : List ℕ) (p : ℕ) (s : List ℕ) → tokens p 0 (0x01 ∷ ((x ++ (0x02 ∷ [])) ++ s)) ≡ opening p ∷ tokens (p + 1) 0 (x ++ (0x02 ∷ s))
+unfolding tokens token
+tokens-form x p s = ap (λ y. opening p ∷ tokens (p + 1) 0 y) (append-assoc x (0x02 ∷ []) s)
 
 tokens-closing : (p : ℕ) (s : List ℕ) → tokens p 0 (0x02 ∷ s) ≡ closing p ∷ tokens (p + 1) 0 s
 unfolding tokens token
 tokens-closing p s = refl
 
-token-atom : (a : Atom) (f : Front a) (p : ℕ) (s : List ℕ) → token p (f .byte) (f .others ++ s) ≡ whole a p (p + suc (length (f .others)))
+token-atom : (a : Atom) (x : List ℕ) (f : Front a x) (p : ℕ) (s : List ℕ) → token p (f .byte) (f .others ++ s) ≡ whole a p (p + suc (length (f .others)))
 unfolding token
-token-atom a f p s =
+token-atom a x f p s =
     let end : p + 1 + length (f .others ++ s) - length s ≡ p + suc (length (f .others)) = simp length-append (omega arith) in
     rw (ne-eqb (f .byte) 0x01 (f .no-opening), ne-eqb (f .byte) 0x02 (f .no-closing), f .reads s, end)
 
-tokens-atom : (a : Atom) → Fits a → (p : ℕ) (s : List ℕ)
-    → tokens p 0 (atom-bytes a ++ s) ≡ whole a p (p + length (atom-bytes a)) ∷ tokens (p + length (atom-bytes a)) 0 s
+tokens-atom : (a : Atom) (x : List ℕ) → SpellsAtom a x → (p : ℕ) (s : List ℕ) → tokens p 0 (x ++ s) ≡ whole a p (p + length x) ∷ tokens (p + length x) 0 s
 unfolding tokens
-tokens-atom a fits p s =
-    let f = front a fits in
+tokens-atom a x sp p s =
+    let f = front a x sp in
     let n : ℕ = length (f .others) in
     let further-bytes : p + suc n - p - 1 ≡ n = omega arith in
-    rw (f .is, token-atom a f p s, further-bytes, tokens-skip (f .others) s (p + 1)) (ap (λ (q : ℕ). whole a p (p + suc n) ∷ tokens q 0 s) (omega arith))
+    rw (f .is, token-atom a x f p s, further-bytes, tokens-skip (f .others) s (p + 1)) (ap (λ (q : ℕ). whole a p (p + suc n) ∷ tokens q 0 s) (omega arith))
+
+-- where a form ends, and a list
+form-end : (x : List ℕ) (p : ℕ) → p + 1 + length x + 1 ≡ p + suc (length (x ++ (0x02 ∷ [])))
+form-end x p = simp length-append (omega arith)
+
+more-end : (x y : List ℕ) (p : ℕ) → p + length x + length y ≡ p + length (x ++ y)
+more-end x y p = simp length-append (omega arith)
 
 -- a list of expressions in front of the lists that tokens fill
 abbrev put-all : Exprs → List Exprs → List Exprs
@@ -199,74 +206,88 @@ put-all-none : (es : Exprs) (ls : List Exprs) → put-all es (none ∷ ls) ≡ e
 put-all-none none ls = refl
 put-all-none (more e es) ls = ap (put e) (put-all-none es ls)
 
--- where a form ends
-form-end : (es : Exprs) (p : ℕ) → p + 1 + length (canonical es) + 1 ≡ p + length (bytes (form es))
-unfolding bytes
-form-end es p = simp length-append (omega arith)
-
-more-end : (e : Expr) (es : Exprs) (p : ℕ) → p + length (bytes e) + length (canonical es) ≡ p + length (canonical (more e es))
-unfolding bytes
-more-end e es p = simp length-append (omega arith)
-
 mutual
-  unfolding bytes lists
+  unfolding lists
 
-  lists-expr : (e : Expr) → FitsExpr e → (p : ℕ) (s : List ℕ) → lists (tokens p 0 (bytes e ++ s)) ≡ put e (lists (tokens (p + length (bytes e)) 0 s))
-  lists-expr (atom a) f p s = ap lists (tokens-atom a f p s)
-  lists-expr (form es) f p s =
-      ap lists (tokens-form es p s)
-      ∙ ap wrap (lists-all es f (p + 1) (0x02 ∷ s) ∙ ap (λ x. put-all es (lists x)) (tokens-closing (p + 1 + length (canonical es)) s) ∙ put-all-none es _)
-      ∙ ap (λ (q : ℕ). put (form es) (lists (tokens q 0 s))) (form-end es p)
+  lists-expr : (e : Expr) (x : List ℕ) → Spells e x → (p : ℕ) (s : List ℕ) → lists (tokens p 0 (x ++ s)) ≡ put e (lists (tokens (p + length x) 0 s))
+  lists-expr (atom a) x sp p s = ap lists (tokens-atom a x sp p s)
+  lists-expr (form es) x sp p s =
+      let y = sp .0 in
+      rw (sp .1)
+      (ap lists (tokens-form y p s)
+      ∙ ap wrap (lists-all es y (sp .2) (p + 1) (0x02 ∷ s) ∙ ap (λ z. put-all es (lists z)) (tokens-closing (p + 1 + length y) s) ∙ put-all-none es _)
+      ∙ ap (λ (q : ℕ). put (form es) (lists (tokens q 0 s))) (form-end y p))
 
-  lists-all : (es : Exprs) → FitsAll es → (p : ℕ) (s : List ℕ)
-      → lists (tokens p 0 (canonical es ++ s)) ≡ put-all es (lists (tokens (p + length (canonical es)) 0 s))
-  lists-all none f p s = ap (λ (q : ℕ). lists (tokens q 0 s)) (omega arith)
-  lists-all (more e es) f p s =
-      rw (append-assoc (bytes e) (canonical es) s)
-      (lists-expr e (f .0) p (canonical es ++ s)
-      ∙ ap (put e) (lists-all es (f .1) (p + length (bytes e)) s ∙ ap (λ (q : ℕ). put-all es (lists (tokens q 0 s))) (more-end e es p)))
+  lists-all : (es : Exprs) (x : List ℕ) → SpellsAll es x → (p : ℕ) (s : List ℕ) → lists (tokens p 0 (x ++ s)) ≡ put-all es (lists (tokens (p + length x) 0 s))
+  lists-all none x sp p s = rw sp (ap (λ (q : ℕ). lists (tokens q 0 s)) (omega arith))
+  lists-all (more e es) x sp p s =
+      let y = sp .0 in
+      let z = sp .1 in
+      rw (sp .2, append-assoc y z s)
+      (lists-expr e y (sp .3) p (z ++ s)
+      ∙ ap (put e) (lists-all es z (sp .4) (p + length y) s ∙ ap (λ (q : ℕ). put-all es (lists (tokens q 0 s))) (more-end y z p)))
 
 module _ (end room : ℕ) where
   mutual
-    unfolding bytes check rows depth
+    unfolding check rows depth
 
-    check-expr : (e : Expr) → FitsExpr e → (p d n : ℕ) (s : List ℕ) → depth e + d ≤ 64 → n + rows e ≤ room
-        → check end room (tokens p 0 (bytes e ++ s)) d n ≡ check end room (tokens (p + length (bytes e)) 0 s) d (n + rows e)
-    check-expr (atom a) f p d n s h k = rw (tokens-atom a f p s, lt-leb room n (omega arith))
-    check-expr (form es) f p d n s h k =
+    check-expr : (e : Expr) (x : List ℕ) → Spells e x → (p d n : ℕ) (s : List ℕ) → depth e + d ≤ 64 → n + rows e ≤ room
+        → check end room (tokens p 0 (x ++ s)) d n ≡ check end room (tokens (p + length x) 0 s) d (n + rows e)
+    check-expr (atom a) x sp p d n s h k = rw (tokens-atom a x sp p s, lt-leb room n (omega arith))
+    check-expr (form es) x sp p d n s h k =
+        let y = sp .0 in
         let back : d + 1 - 1 ≡ d = omega arith in
         let count : n + 1 + rows-all es ≡ n + (1 + rows-all es) = omega arith in
         rw (
-          tokens-form es p s,
+          sp .1,
+          tokens-form y p s,
           lt-leb 64 d (omega arith),
           lt-leb room n (omega arith),
-          check-all es f (p + 1) (d + 1) (n + 1) (0x02 ∷ s) (omega arith) (omega arith),
-          tokens-closing (p + 1 + length (canonical es)) s,
+          check-all es y (sp .2) (p + 1) (d + 1) (n + 1) (0x02 ∷ s) (omega arith) (omega arith),
+          tokens-closing (p + 1 + length y) s,
           ne-eqb (d + 1) 0 (λ z. omega arith),
           back,
           count,
-          form-end es p,
+          form-end y p,
         )
 
-    check-all : (es : Exprs) → FitsAll es → (p d n : ℕ) (s : List ℕ) → deepest es + d ≤ 64 → n + rows-all es ≤ room
-        → check end room (tokens p 0 (canonical es ++ s)) d n ≡ check end room (tokens (p + length (canonical es)) 0 s) d (n + rows-all es)
-    check-all none f p d n s h k =
+    check-all : (es : Exprs) (x : List ℕ) → SpellsAll es x → (p d n : ℕ) (s : List ℕ) → deepest es + d ≤ 64 → n + rows-all es ≤ room
+        → check end room (tokens p 0 (x ++ s)) d n ≡ check end room (tokens (p + length x) 0 s) d (n + rows-all es)
+    check-all none x sp p d n s h k =
         let place : p + 0 ≡ p = omega arith in
         let count : n + 0 ≡ n = omega arith in
-        rw (place, count)
-    check-all (more e es) f p d n s h k =
+        rw (sp, place, count)
+    check-all (more e es) x sp p d n s h k =
+        let y = sp .0 in
+        let z = sp .1 in
         let count : n + rows e + rows-all es ≡ n + (rows e + rows-all es) = omega arith in
-        rw (append-assoc (bytes e) (canonical es) s, ← more-end e es p, ← count)
-        (check-expr e (f .0) p d n (canonical es ++ s) (omega arith) (omega arith)
-        ∙ check-all es (f .1) (p + length (bytes e)) d (n + rows e) s (omega arith) (omega arith))
+        rw (sp .2, append-assoc y z s, ← more-end y z p, ← count)
+        (check-expr e y (sp .3) p d n (z ++ s) (omega arith) (omega arith)
+        ∙ check-all es z (sp .4) (p + length y) d (n + rows e) s (omega arith) (omega arith))
+
+-- bytes that spell expressions are read as these
+pub read-spelled : (es : Exprs) (s : List ℕ) (room : ℕ) → SpellsAll es s → deepest es ≤ 64 → length s ≤ 65536 → rows-all es ≤ room
+    → read s room ≡ readable (rows-of (tokens 0 0 s)) es
+unfolding check lists tokens
+read-spelled es s room sp h l r =
+    let passes : check (length s) room (tokens 0 0 s) 0 0 ≡ right =
+    ap (λ (x : List ℕ). check (length s) room (tokens 0 0 x) 0 0) (sym (append-nil s)) ∙ check-all (length s) room es s sp 0 0 0 [] (omega arith) (omega arith) in
+    let means : meaning-of s ≡ es =
+    ap (λ (x : List ℕ). meaning-of x) (sym (append-nil s)) ∙ ap (λ (ls : List Exprs). getD ls 0 none) (lists-all es s sp 0 [] ∙ put-all-none es []) in
+    readable-read s room l passes ∙ ap (readable (rows-of (tokens 0 0 s))) means
+
+-- canonical bytes spell
+mutual
+  unfolding bytes
+
+  canonical-expr : (e : Expr) → FitsExpr e → Spells e (bytes e)
+  canonical-expr (atom a) f = canonical-atom a f
+  canonical-expr (form es) f = (canonical es, refl, canonical-spells es f)
+
+  pub canonical-spells : (es : Exprs) → FitsAll es → SpellsAll es (canonical es)
+  canonical-spells none f = refl
+  canonical-spells (more e es) f = (bytes e, canonical es, refl, canonical-expr e (f .0), canonical-spells es (f .1))
 
 pub read-canonical : (es : Exprs) (room : ℕ) → FitsAll es → deepest es ≤ 64 → length (canonical es) ≤ 65536 → rows-all es ≤ room
     → read (canonical es) room ≡ readable (rows-of (tokens 0 0 (canonical es))) es
-unfolding check lists tokens
-read-canonical es room f h l r =
-    let s = canonical es in
-    let passes : check (length s) room (tokens 0 0 s) 0 0 ≡ right =
-    ap (λ (x : List ℕ). check (length s) room (tokens 0 0 x) 0 0) (sym (append-nil s)) ∙ check-all (length s) room es f 0 0 0 [] (omega arith) (omega arith) in
-    let means : meaning-of s ≡ es =
-    ap (λ (x : List ℕ). meaning-of x) (sym (append-nil s)) ∙ ap (λ (ls : List Exprs). getD ls 0 none) (lists-all es f 0 [] ∙ put-all-none es []) in
-    readable-read s room l passes ∙ ap (readable (rows-of (tokens 0 0 s))) means
+read-canonical es room f = read-spelled es (canonical es) room (canonical-spells es f)

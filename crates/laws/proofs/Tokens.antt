@@ -12,7 +12,8 @@ use Rattle.spec.specs.Expr.{if_then_else_, Atom, atom-bytes}
 use Rattle.spec.specs.Reading.{Taken, taken, failed, read-atom, Token, opening, closing, whole, bad, atom-token, token, further, tokens, Verdict, right, wrong, check}
 use Rattle.laws.specs.Demands.{Bytes}
 use Rattle.laws.proofs.Fits.{Fits}
-use Rattle.laws.proofs.Atoms.{Off, AtomOf, off-atom, front}
+use Rattle.laws.proofs.Spelling.{front, canonical-atom}
+use Rattle.laws.proofs.Atoms.{Off, AtomOf, off-atom}
 
 -- a verdict is right only by way of the branch that does not refuse
 not-refused : (b : Bool) (w p : ℕ) (v : Verdict) → (if b then wrong w p else v) ≡ right → (b ≡ false) × (v ≡ right)
@@ -83,7 +84,7 @@ laid-first p b s h bs rest = go (eqb b 0x01) (eqb b 0x02) (read-atom b s) (off-a
     atomic : (x : Taken Atom) → Off (AtomOf (suc (length s))) (suc (length s)) x
         → Laid p (atom-token p end x ∷ tokens (p + 1) (further (atom-token p end x)) s) end
     atomic (taken a t) o =
-        let size = ap length (front a (o .0 .0) .is) in
+        let size = ap length (front a (atom-bytes a) (canonical-atom a (o .0 .0)) .is) in
         let l : length t ≤ length s = omega (arith, size, o .0 .1) in
         let k : ℕ = end - length t - p - 1 in (
           omega arith,

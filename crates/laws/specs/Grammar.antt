@@ -1,0 +1,37 @@
+-- Document 01, "Bytes to expressions", once more: which bytes spell which expressions, as a grammar. `read` of the crate `spec` is a parser;
+-- that it is the parser of this grammar is a theorem.
+use Prim.Native.Nat.{ℕ, suc, _+_, _≤_, _<_}
+use mathlib.Core.Path.{_≡_}
+use mathlib.Core.List.{List, [], _∷_, _++_}
+use lib.ListN.{length}
+use Rattle.spec.specs.Expr.{Atom, nil, array, int, ref, Expr, atom, form, Exprs, none, more, marker-bytes}
+use Rattle.spec.specs.Reading.{natural}
+
+-- the bytes s are a length expression whose number is n, with at most k bytes 03 in a row
+pub data SpellsLength : ℕ → ℕ → List ℕ → Type 0 where
+  as-int : {k n : ℕ} {s : List ℕ} → n < 64 → s ≡ (0x80 + n) ∷ [] → SpellsLength k n s
+  as-small : {k n : ℕ} {s : List ℕ} (ds : List ℕ) → length ds < 64 → n ≡ natural 0 ds → s ≡ (0xC0 + length ds) ∷ ds → SpellsLength k n s
+  as-generic : {k n : ℕ} {s : List ℕ} (ds x : List ℕ) → SpellsLength k (length ds) x → n ≡ natural 0 ds → s ≡ 0x03 ∷ (x ++ ds)
+      → SpellsLength (suc k) n s
+
+-- the bytes s are an array of the bytes bs: "over 8 bytes 03 in a row" are too many, with its own
+pub data SpellsArray (bs s : List ℕ) : Type 0 where
+  small : length bs < 64 → s ≡ (0xC0 + length bs) ∷ bs → SpellsArray bs s
+  generic : (x : List ℕ) → SpellsLength 7 (length bs) x → s ≡ 0x03 ∷ (x ++ bs) → SpellsArray bs s
+
+-- an atom; a reference has only one way of writing
+abbrev pub SpellsAtom : Atom → List ℕ → Type 0
+SpellsAtom nil s = s ≡ 0x00 ∷ []
+SpellsAtom (array bs) s = SpellsArray bs s
+SpellsAtom (int v) s = (v < 64) × (s ≡ (0x80 + v) ∷ [])
+SpellsAtom (ref m n) s = (16 ≤ m) × (m ≤ 65535) × (s ≡ marker-bytes m ++ (n ∷ []))
+
+-- "01 .. 02: form: the expressions between"
+abbrev mutual
+  pub Spells : Expr → List ℕ → Type 0
+  Spells (atom a) s = SpellsAtom a s
+  Spells (form es) s = (x : List ℕ) × (s ≡ 0x01 ∷ (x ++ (0x02 ∷ []))) × SpellsAll es x
+
+  pub SpellsAll : Exprs → List ℕ → Type 0
+  SpellsAll none s = s ≡ []
+  SpellsAll (more e es) s = (x : List ℕ) × (y : List ℕ) × (s ≡ x ++ y) × Spells e x × SpellsAll es y
