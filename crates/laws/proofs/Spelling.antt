@@ -1,18 +1,19 @@
 -- Laws of `read-atom` over the grammar: the bytes that spell an atom are read as that atom, and an atom that is read is spelled by the
 -- bytes that it was read from.
 use Prim.Native.Nat.{ℕ, zero, suc, _+_, _-_, _*_, _/_, _%_, _≤_, _<_}
-use mathlib.Core.Path.{_≡_, refl, ap, _∙_}
+use mathlib.Core.Path.{_≡_, refl, sym, ap, _∙_, subst}
 use mathlib.Core.List.{List, [], _∷_, _++_, append-assoc}
-use mathlib.Core.Bool.{true}
-use lib.ListN.{length, length-append, replicate}
+use mathlib.Core.Bool.{Bool, true, false}
+use lib.ListN.{length, take, drop, length-append, length-take, take-append-drop, replicate}
 use lib.Seq.{take-at, drop-at}
-use lib.Dec.{leb}
-use borrow.Author.Tests.{lt-ltb, le-ltb, le-leb, ne-eqb}
+use lib.Dec.{ltb, leb, eqb}
+use borrow.Author.Tests.{ltb-true, ltb-false, leb-true, eqb-true, eqb-false, lt-ltb, le-ltb, le-leb, ne-eqb}
 use native.Mathlib.Omega.{arith}
-use Rattle.spec.specs.Expr.{Atom, nil, array, int, ref, array-head, marker-bytes, atom-bytes}
-use Rattle.spec.specs.Reading.{taken, and-then, take-bytes, natural, as-length, plain-length, length-expr, marker, name, as-array, read-atom}
+use Rattle.spec.specs.Expr.{if_then_else_, Atom, nil, array, int, ref, array-head, marker-bytes, atom-bytes}
+use Rattle.spec.specs.Reading.{Taken, taken, failed, and-then, take-bytes, natural, as-length, plain-length, length-expr, marker, name, as-array, read-atom}
+use Rattle.laws.specs.Demands.{Bytes}
 use Rattle.laws.specs.Grammar.{SpellsLength, as-int, as-small, as-generic, SpellsArray, small, generic, SpellsAtom}
-use Rattle.laws.proofs.Fits.{Fits}
+use Rattle.laws.proofs.Fits.{bytes-drop, Fits}
 use Rattle.laws.proofs.Canonical.{Head, one-byte, three-bytes, four-bytes, array-head-is, Mark, short, long, marker-bytes-are}
 
 -- From bytes that spell
@@ -189,3 +190,210 @@ canonical-atom (array bs) f = go (array-head-is (length bs)) refl
     go (four-bytes k) e = generic (0xC2 ∷ (n / 256) ∷ (n % 256) ∷ []) (as-small {n = n} ((n / 256) ∷ (n % 256) ∷ []) (omega arith) (omega arith) refl) (rw e)
 canonical-atom (int v) f = (f, refl)
 canonical-atom (ref m n) f = (f .0, f .1, refl)
+
+-- To bytes that spell
+
+-- what a choice gives is given by one of its branches
+by-choice : {A : Type 0} {P : Type 0} (c : Bool) (x y z : Taken A) → (c ≡ true → x ≡ z → P) → (c ≡ false → y ≡ z → P) → (if c then x else y) ≡ z → P
+by-choice true x y z f g h = f refl h
+by-choice false x y z f g h = g refl h
+
+-- what is taken in two parts
+then-taken : {A B : Type 0} (x : Taken A) (f : A → List ℕ → Taken B) (b : B) (t : List ℕ) → and-then x f ≡ taken b t
+    → (a : A) × (s : List ℕ) × (x ≡ taken a s) × (f a s ≡ taken b t)
+then-taken (taken a s) f b t h = (a, s, refl, h)
+then-taken (failed w s) f b t h = absurd (let z : _≡_ {A = ℕ} 0 1 = cc in omega arith)
+
+never-taken : {A : Type 0} (w : ℕ) (s t : List ℕ) (a : A) → failed w s ≡ taken a t → ⊥
+never-taken w s t a h = let z : _≡_ {A = ℕ} 0 1 = cc in omega arith
+
+-- the bytes taken, and those left
+take-taken : (n : ℕ) (s bs t : List ℕ) → take-bytes n s ≡ taken bs t → (s ≡ bs ++ t) × (length bs ≡ n)
+unfolding take-bytes
+take-taken n s bs t h = by-choice (leb n (length s)) (taken (take n s) (drop n s)) (failed 2 []) (taken bs t)
+    (λ e k. let front : take n s ≡ bs = cc in let back : drop n s ≡ t = cc in
+    (sym (take-append-drop n s) ∙ rw (front, back), sym (ap length front) ∙ simp length-take (omega (arith, leb-true n (length s) e))))
+    (λ e k. absurd (never-taken 2 [] t bs k)) h
+
+-- read off the front of s, leaving t: bytes of which P holds
+pub record SplitOff (P : List ℕ → Type 0) (s t : List ℕ) : Type 0 where
+  pub front : List ℕ
+  pub is : s ≡ front ++ t
+  pub holds : P front
+
+plain-taken : (k b : ℕ) (s : List ℕ) (n : ℕ) (t : List ℕ) → b < 256 → plain-length b s ≡ taken n t → SplitOff (SpellsLength k n) (b ∷ s) t
+unfolding plain-length
+plain-taken k b s n t h e =
+    by-choice (ltb b 0x80) _ _ (taken n t) (λ c q. absurd (never-taken 5 (b ∷ s) t n q)) (λ c q.
+    by-choice (ltb b 0xC0) _ _ (taken n t) (λ c′ q′. int-taken (ltb-false b 0x80 c) (ltb-true b 0xC0 c′) q′) (λ c′ q′. small-taken (ltb-false b 0xC0 c′) q′) q) e
+  where
+    int-taken : 0x80 ≤ b → b < 0xC0 → taken (b - 0x80) s ≡ taken n t → SplitOff (SpellsLength k n) (b ∷ s) t
+    int-taken l u q =
+        let number : b - 0x80 ≡ n = cc in
+        let rest : s ≡ t = cc in
+        let byte : b ≡ 0x80 + n = omega arith in
+        record { front = b ∷ []; is = rw rest; holds = as-int {n = n} (omega arith) (ap (λ (x : ℕ). x ∷ []) byte) }
+
+    small-taken : 0xC0 ≤ b → and-then (take-bytes (b - 0xC0) s) as-length ≡ taken n t → SplitOff (SpellsLength k n) (b ∷ s) t
+    small-taken l q =
+        let p = then-taken (take-bytes (b - 0xC0) s) as-length n t q in
+        let ds = p .0 in
+        let number : natural 0 ds ≡ n = cc (p .3) in
+        let rest : p .1 ≡ t = cc (p .3) in
+        let u = take-taken (b - 0xC0) s ds (p .1) (p .2) in
+        let byte : b ≡ 0xC0 + length ds = omega (arith, u .1) in
+        record {
+          front = b ∷ ds;
+          is = ap (λ (x : List ℕ). b ∷ x) (u .0 ∙ rw rest);
+          holds = as-small {n = n} ds (omega (arith, u .1)) (sym number) (ap (λ (x : ℕ). x ∷ ds) byte);
+        }
+
+length-taken : (k : ℕ) (s : List ℕ) (n : ℕ) (t : List ℕ) → Bytes s → length-expr k s ≡ taken n t → SplitOff (SpellsLength k n) s t
+unfolding length-expr
+length-taken zero [] n t b e = absurd (never-taken 2 [] t n e)
+length-taken (suc k) [] n t b e = absurd (never-taken 2 [] t n e)
+length-taken zero (x ∷ s) n t b e =
+    by-choice (eqb x 0x03) _ _ (taken n t) (λ c q. absurd (never-taken 6 (x ∷ s) t n q)) (λ c q. plain-taken zero x s n t (b .0) q) e
+length-taken (suc k) (x ∷ s) n t b e =
+    by-choice (eqb x 0x03) _ _ (taken n t) (λ c q. generic-taken (eqb-true x 0x03 c) (λ j u h. length-taken k s j u (b .1) h) q) (λ c q. plain-taken (suc k) x s n t (b .0) q) e
+  where
+    generic-taken : x ≡ 0x03 → ((j : ℕ) (u : List ℕ) → length-expr k s ≡ taken j u → SplitOff (SpellsLength k j) s u)
+        → and-then (and-then (length-expr k s) take-bytes) as-length ≡ taken n t → SplitOff (SpellsLength (suc k) n) (x ∷ s) t
+    generic-taken h inner q =
+        let p = then-taken (and-then (length-expr k s) take-bytes) as-length n t q in
+        let r = then-taken (length-expr k s) take-bytes (p .0) (p .1) (p .2) in
+        let number : natural 0 (p .0) ≡ n = cc (p .3) in
+        let rest : p .1 ≡ t = cc (p .3) in
+        let own = take-taken (r .0) (r .1) (p .0) (p .1) (r .3) in
+        let o = inner (r .0) (r .1) (r .2) in
+        let spelled : SpellsLength k (length (p .0)) (o .front) = subst (λ (j : ℕ). SpellsLength k j (o .front)) (sym (own .1)) (o .holds) in
+        record {
+          front = 0x03 ∷ (o .front ++ p .0);
+          is = ap (λ (y : ℕ). y ∷ s) h ∙ ap (λ (y : List ℕ). 0x03 ∷ y) (o .is ∙ ap (λ (y : List ℕ). o .front ++ y) (own .0 ∙ rw rest) ∙ sym (append-assoc (o .front) (p .0) t));
+          holds = as-generic {n = n} (p .0) (o .front) spelled (sym number) refl;
+        }
+
+marker-taken : (m : ℕ) (s : List ℕ) (k : ℕ) (t : List ℕ) → Bytes s → marker m s ≡ taken k t
+    → (j : ℕ) × (c : ℕ) × (s ≡ replicate j 0xFF ++ (c ∷ t)) × (c < 0xFF) × (k ≡ m + j * 0xFF + c)
+unfolding marker
+marker-taken m [] k t b e = absurd (never-taken 2 [] t k e)
+marker-taken m (x ∷ s) k t b e =
+    by-choice (eqb x 0xFF) _ _ (taken k t)
+    (λ c q. let p = marker-taken (m + x) s k t (b .1) q in let full = eqb-true x 0xFF c in (
+      suc (p .0),
+      p .1,
+      ap (λ (y : List ℕ). x ∷ y) (p .2) ∙ ap (λ (y : ℕ). y ∷ (replicate (p .0) 0xFF ++ (p .1 ∷ t))) full,
+      p .3,
+      omega (arith, p .4),
+    ))
+    (λ c q. let number : m + x ≡ k = cc in let rest : s ≡ t = cc in
+    (0, x, ap (λ (y : List ℕ). x ∷ y) rest, omega (arith, b .0, eqb-false x 0xFF c), omega arith)) e
+
+-- the marker's sum is its canonical bytes
+mark-is : (j c : ℕ) → c < 0xFF → marker-bytes (0x7F + j * 0xFF + c) ≡ 0x7F ∷ (replicate j 0xFF ++ (c ∷ []))
+mark-is j c h = go (marker-bytes-are (0x7F + j * 0xFF + c))
+  where
+    go : {ms : List ℕ} → Mark (0x7F + j * 0xFF + c) ms → ms ≡ 0x7F ∷ (replicate j 0xFF ++ (c ∷ []))
+    go (short l) = absurd (omega arith)
+    go (long l) =
+        let full : (0x7F + j * 0xFF + c - 0x7F) / 0xFF ≡ j = omega arith in
+        let last : (0x7F + j * 0xFF + c - 0x7F) % 0xFF ≡ c = omega arith in
+        rw (full, last)
+
+mark-short : (m : ℕ) → m < 0x7F → marker-bytes m ≡ m ∷ []
+mark-short m h = go (marker-bytes-are m)
+  where
+    go : {ms : List ℕ} → Mark m ms → ms ≡ m ∷ []
+    go (short l) = refl
+    go (long l) = absurd (omega arith)
+
+name-taken : (from : List ℕ) (m : ℕ) (s : List ℕ) (a : Atom) (t : List ℕ) → name from m s ≡ taken a t
+    → (n : ℕ) × (s ≡ n ∷ t) × (a ≡ ref m n) × (m ≤ 65535)
+unfolding name
+name-taken from m [] a t e = absurd (never-taken 2 [] t a e)
+name-taken from m (n ∷ s) a t e =
+    by-choice (ltb 65535 m) _ _ (taken a t) (λ c q. absurd (never-taken 7 from t a q))
+    (λ c q. let rest : s ≡ t = cc in let it : a ≡ ref m n = cc in (n, ap (λ (y : List ℕ). n ∷ y) rest, it, ltb-false 65535 m c)) e
+
+-- an atom that is read is spelled by the bytes in front of those that are left
+module _ (b : ℕ) (s : List ℕ) (a : Atom) (t : List ℕ) where
+  Split : Type 0
+  Split = SplitOff (SpellsAtom a) (b ∷ s) t
+
+  split-as : (c : Atom) → a ≡ c → SplitOff (SpellsAtom c) (b ∷ s) t → Split
+  unfolding Split
+  split-as c e o = rw e o
+
+  nil-taken : b ≡ 0x00 → taken nil s ≡ taken a t → Split
+  nil-taken h e =
+      let it : a ≡ nil = cc in
+      let rest : s ≡ t = cc in
+      split-as nil it (record { front = b ∷ []; is = ap (λ (y : List ℕ). b ∷ y) rest; holds = ap (λ (x : ℕ). x ∷ []) h })
+
+  int-atom-taken : 0x80 ≤ b → b < 0xC0 → taken (int (b - 0x80)) s ≡ taken a t → Split
+  int-atom-taken l u e =
+      let it : a ≡ int (b - 0x80) = cc in
+      let rest : s ≡ t = cc in
+      let byte : b ≡ 0x80 + (b - 0x80) = omega arith in
+      split-as (int (b - 0x80)) it (record { front = b ∷ []; is = ap (λ (y : List ℕ). b ∷ y) rest; holds = (omega arith, ap (λ (x : ℕ). x ∷ []) byte) })
+
+  small-array-taken : 0xC0 ≤ b → b < 256 → and-then (take-bytes (b - 0xC0) s) as-array ≡ taken a t → Split
+  small-array-taken l u e =
+      let p = then-taken (take-bytes (b - 0xC0) s) as-array a t e in
+      let it : a ≡ array (p .0) = cc (p .3) in
+      let rest : p .1 ≡ t = cc (p .3) in
+      let own = take-taken (b - 0xC0) s (p .0) (p .1) (p .2) in
+      let byte : b ≡ 0xC0 + length (p .0) = omega (arith, own .1) in
+      split-as (array (p .0)) it (record {
+        front = b ∷ p .0;
+        is = ap (λ (y : List ℕ). b ∷ y) (own .0 ∙ rw rest);
+        holds = small (omega (arith, own .1)) (ap (λ (x : ℕ). x ∷ p .0) byte);
+      })
+
+  generic-array-taken : b ≡ 0x03 → Bytes s → and-then (and-then (length-expr 7 s) take-bytes) as-array ≡ taken a t → Split
+  generic-array-taken h bs e =
+      let p = then-taken (and-then (length-expr 7 s) take-bytes) as-array a t e in
+      let r = then-taken (length-expr 7 s) take-bytes (p .0) (p .1) (p .2) in
+      let it : a ≡ array (p .0) = cc (p .3) in
+      let rest : p .1 ≡ t = cc (p .3) in
+      let own = take-taken (r .0) (r .1) (p .0) (p .1) (r .3) in
+      let o = length-taken 7 s (r .0) (r .1) bs (r .2) in
+      let spelled : SpellsLength 7 (length (p .0)) (o .front) = subst (λ (j : ℕ). SpellsLength 7 j (o .front)) (sym (own .1)) (o .holds) in
+      split-as (array (p .0)) it (record {
+        front = b ∷ (o .front ++ p .0);
+        is = ap (λ (y : List ℕ). b ∷ y) (o .is ∙ ap (λ (y : List ℕ). o .front ++ y) (own .0 ∙ rw rest) ∙ sym (append-assoc (o .front) (p .0) t));
+        holds = generic (o .front) spelled (ap (λ (x : ℕ). x ∷ (o .front ++ p .0)) h);
+      })
+
+  short-taken : 16 ≤ b → b < 0x7F → name (b ∷ s) b s ≡ taken a t → Split
+  short-taken l u e =
+      let p = name-taken (b ∷ s) b s a t e in
+      split-as (ref b (p .0)) (p .2) (record { front = b ∷ p .0 ∷ []; is = ap (λ (y : List ℕ). b ∷ y) (p .1); holds = (l, p .3, rw (mark-short b u)) })
+
+  long-taken : b ≡ 0x7F → Bytes s → and-then (marker 0x7F s) (name (b ∷ s)) ≡ taken a t → Split
+  long-taken h bs e =
+      let p = then-taken (marker 0x7F s) (name (b ∷ s)) a t e in
+      let q = marker-taken 0x7F s (p .0) (p .1) bs (p .2) in
+      let r = name-taken (b ∷ s) (p .0) (p .1) a t (p .3) in
+      let full : List ℕ = replicate (q .0) 0xFF in
+      let mark : marker-bytes (p .0) ≡ 0x7F ∷ (full ++ (q .1 ∷ [])) = ap marker-bytes (q .4) ∙ mark-is (q .0) (q .1) (q .3) in
+      split-as (ref (p .0) (r .0)) (r .2) (record {
+        front = b ∷ ((full ++ (q .1 ∷ [])) ++ (r .0 ∷ []));
+        is = ap (λ (y : List ℕ). b ∷ y) (q .2 ∙ ap (λ (y : List ℕ). full ++ (q .1 ∷ y)) (r .1) ∙ simp append-assoc);
+        holds = (
+          omega (arith, q .4),
+          r .3,
+          ap (λ (x : ℕ). x ∷ ((full ++ (q .1 ∷ [])) ++ (r .0 ∷ []))) h ∙ ap (λ (y : List ℕ). y ++ (r .0 ∷ [])) (sym mark),
+        );
+      })
+
+pub atom-taken : (b : ℕ) (s : List ℕ) (a : Atom) (t : List ℕ) → b < 256 → Bytes s → read-atom b s ≡ taken a t → SplitOff (SpellsAtom a) (b ∷ s) t
+unfolding read-atom Split
+atom-taken b s a t h bs e =
+    by-choice (eqb b 0x00) _ _ (taken a t) (λ c q. nil-taken b s a t (eqb-true b 0x00 c) q) (λ c0 q.
+    by-choice (eqb b 0x03) _ _ (taken a t) (λ c q. generic-array-taken b s a t (eqb-true b 0x03 c) bs q) (λ c3 q.
+    by-choice (ltb b 0x10) _ _ (taken a t) (λ c q. absurd (never-taken 4 (b ∷ s) t a q)) (λ c10 q.
+    by-choice (ltb b 0x7F) _ _ (taken a t) (λ c q. short-taken b s a t (ltb-false b 0x10 c10) (ltb-true b 0x7F c) q) (λ c7F q.
+    by-choice (ltb b 0x80) _ _ (taken a t) (λ c q. long-taken b s a t (omega (arith, ltb-false b 0x7F c7F, ltb-true b 0x80 c)) bs q) (λ c80 q.
+    by-choice (ltb b 0xC0) _ _ (taken a t) (λ c q. int-atom-taken b s a t (ltb-false b 0x80 c80) (ltb-true b 0xC0 c) q)
+    (λ c q. small-array-taken b s a t (ltb-false b 0xC0 c) h q) q) q) q) q) q) e
