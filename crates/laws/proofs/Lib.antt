@@ -5,6 +5,7 @@ pub mod Atoms
 pub mod Tokens
 pub mod Rows
 pub mod Reading
+pub mod Parsing
 pub mod Runs
 pub mod Charges
 pub mod Values

@@ -168,11 +168,11 @@ unfolding tokens
 tokens-skip [] s p = ap (λ (q : ℕ). tokens q 0 s) (omega arith)
 tokens-skip (b ∷ x) s p = tokens-skip x s (p + 1) ∙ ap (λ (q : ℕ). tokens q 0 s) (omega arith)
 
-tokens-form : (x : List ℕ) (p : ℕ) (s : List ℕ) → tokens p 0 (0x01 ∷ ((x ++ (0x02 ∷ [])) ++ s)) ≡ opening p ∷ tokens (p + 1) 0 (x ++ (0x02 ∷ s))
+pub tokens-form : (x : List ℕ) (p : ℕ) (s : List ℕ) → tokens p 0 (0x01 ∷ ((x ++ (0x02 ∷ [])) ++ s)) ≡ opening p ∷ tokens (p + 1) 0 (x ++ (0x02 ∷ s))
 unfolding tokens token
 tokens-form x p s = ap (λ y. opening p ∷ tokens (p + 1) 0 y) (append-assoc x (0x02 ∷ []) s)
 
-tokens-closing : (p : ℕ) (s : List ℕ) → tokens p 0 (0x02 ∷ s) ≡ closing p ∷ tokens (p + 1) 0 s
+pub tokens-closing : (p : ℕ) (s : List ℕ) → tokens p 0 (0x02 ∷ s) ≡ closing p ∷ tokens (p + 1) 0 s
 unfolding tokens token
 tokens-closing p s = refl
 
@@ -182,7 +182,7 @@ token-atom a x f p s =
     let end : p + 1 + length (f .others ++ s) - length s ≡ p + suc (length (f .others)) = simp length-append (omega arith) in
     rw (ne-eqb (f .byte) 0x01 (f .no-opening), ne-eqb (f .byte) 0x02 (f .no-closing), f .reads s, end)
 
-tokens-atom : (a : Atom) (x : List ℕ) → SpellsAtom a x → (p : ℕ) (s : List ℕ) → tokens p 0 (x ++ s) ≡ whole a p (p + length x) ∷ tokens (p + length x) 0 s
+pub tokens-atom : (a : Atom) (x : List ℕ) → SpellsAtom a x → (p : ℕ) (s : List ℕ) → tokens p 0 (x ++ s) ≡ whole a p (p + length x) ∷ tokens (p + length x) 0 s
 unfolding tokens
 tokens-atom a x sp p s =
     let f = front a x sp in
@@ -191,10 +191,10 @@ tokens-atom a x sp p s =
     rw (f .is, token-atom a x f p s, further-bytes, tokens-skip (f .others) s (p + 1)) (ap (λ (q : ℕ). whole a p (p + suc n) ∷ tokens q 0 s) (omega arith))
 
 -- where a form ends, and a list
-form-end : (x : List ℕ) (p : ℕ) → p + 1 + length x + 1 ≡ p + suc (length (x ++ (0x02 ∷ [])))
+pub form-end : (x : List ℕ) (p : ℕ) → p + 1 + length x + 1 ≡ p + suc (length (x ++ (0x02 ∷ [])))
 form-end x p = simp length-append (omega arith)
 
-more-end : (x y : List ℕ) (p : ℕ) → p + length x + length y ≡ p + length (x ++ y)
+pub more-end : (x y : List ℕ) (p : ℕ) → p + length x + length y ≡ p + length (x ++ y)
 more-end x y p = simp length-append (omega arith)
 
 -- a list of expressions in front of the lists that tokens fill
