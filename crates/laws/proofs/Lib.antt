@@ -6,6 +6,7 @@ pub mod Tokens
 pub mod Rows
 pub mod Reading
 pub mod Parsing
+pub mod Items
 pub mod Runs
 pub mod Charges
 pub mod Values

@@ -1,23 +1,20 @@
 -- `read` is the parser of the grammar: a stream that is read as some expressions spells them. Where their rows are, and what Item gives.
-use Prim.Native.Nat.{ℕ, zero, suc, _+_, _-_, _≤_, _<_}
+use Prim.Native.Nat.{ℕ, _+_, _-_, _≤_}
 use mathlib.Core.Path.{_≡_, refl, sym, ap, _∙_, subst}
-use mathlib.Core.List.{List, [], _∷_, _++_, append-assoc, append-nil}
+use mathlib.Core.List.{List, [], _∷_, _++_, append-assoc}
 use mathlib.Core.Bool.{Bool, true, false}
-use lib.ListN.{length, drop, getD, length-append}
-use lib.Seq.{drop-at}
+use lib.ListN.{length, getD}
 use lib.Dec.{eqb}
 use borrow.Author.Tests.{eqb-true}
 use native.Mathlib.Omega.{arith}
-use Rattle.spec.specs.Expr.{if_then_else_, Atom, Expr, atom, form, Exprs, none, more, only, size, first, without, rows, rows-all}
-use Rattle.spec.specs.Reading.{Taken, taken, failed, read-atom, Token, opening, closing, whole, bad, atom-token, token, further, tokens, right, check, put, wrap, lists, Row, atom-kind, ends, rows-of, readable, read}
-use Rattle.spec.specs.Calls.{Buffer, Part, part, no-part, row-at, item}
+use Rattle.spec.specs.Expr.{if_then_else_, Atom, Expr, atom, form, Exprs, none, size}
+use Rattle.spec.specs.Reading.{Taken, taken, failed, read-atom, Token, opening, closing, whole, bad, atom-token, token, further, tokens, right, check, put, wrap, lists, Row, readable, read}
 use Rattle.laws.specs.Demands.{Bytes}
-use Rattle.laws.specs.Grammar.{SpellsAtom, Spells, SpellsAll}
-use Rattle.laws.proofs.Fits.{bytes-drop}
-use Rattle.laws.proofs.Spelling.{SplitOff, atom-taken}
-use Rattle.laws.proofs.Tokens.{right-end, right-opening, right-closing, right-whole, right-bad}
+use Rattle.laws.specs.Grammar.{Spells, SpellsAll}
+use Rattle.laws.proofs.Spelling.{atom-taken}
+use Rattle.laws.proofs.Tokens.{right-opening, right-closing, right-whole, right-bad}
 use Rattle.laws.proofs.Rows.{rows-count}
-use Rattle.laws.proofs.Reading.{tokens-atom, tokens-form, tokens-closing, form-end, more-end, Readable, read-readable}
+use Rattle.laws.proofs.Reading.{tokens-atom, read-readable}
 
 -- From tokens to spelling
 
@@ -106,7 +103,8 @@ bytes-back [] s b = b
 bytes-back (c ∷ x) s b = bytes-back x s (b .1)
 
 module _ (end room : ℕ) where
-  tokens-spell : (ts : List Token) (p : ℕ) (s : List ℕ) (d n : ℕ) → Bytes s → tokens p 0 s ≡ ts → check end room ts d n ≡ right → SpellsLists (lists ts) s
+  tokens-spell : (ts : List Token) (p : ℕ) (s : List ℕ) (d n : ℕ) → Bytes s → tokens p 0 s ≡ ts → check end room ts d n ≡ right
+      → SpellsLists (lists ts) s
   unfolding lists
   tokens-spell [] p s d n b e c = no-token p s e
   tokens-spell (opening q ∷ ts) p s d n b e c =

@@ -176,13 +176,15 @@ pub tokens-closing : (p : ℕ) (s : List ℕ) → tokens p 0 (0x02 ∷ s) ≡ cl
 unfolding tokens token
 tokens-closing p s = refl
 
-token-atom : (a : Atom) (x : List ℕ) (f : Front a x) (p : ℕ) (s : List ℕ) → token p (f .byte) (f .others ++ s) ≡ whole a p (p + suc (length (f .others)))
+token-atom : (a : Atom) (x : List ℕ) (f : Front a x) (p : ℕ) (s : List ℕ)
+    → token p (f .byte) (f .others ++ s) ≡ whole a p (p + suc (length (f .others)))
 unfolding token
 token-atom a x f p s =
     let end : p + 1 + length (f .others ++ s) - length s ≡ p + suc (length (f .others)) = simp length-append (omega arith) in
     rw (ne-eqb (f .byte) 0x01 (f .no-opening), ne-eqb (f .byte) 0x02 (f .no-closing), f .reads s, end)
 
-pub tokens-atom : (a : Atom) (x : List ℕ) → SpellsAtom a x → (p : ℕ) (s : List ℕ) → tokens p 0 (x ++ s) ≡ whole a p (p + length x) ∷ tokens (p + length x) 0 s
+pub tokens-atom : (a : Atom) (x : List ℕ) → SpellsAtom a x → (p : ℕ) (s : List ℕ)
+    → tokens p 0 (x ++ s) ≡ whole a p (p + length x) ∷ tokens (p + length x) 0 s
 unfolding tokens
 tokens-atom a x sp p s =
     let f = front a x sp in
@@ -218,7 +220,8 @@ mutual
       ∙ ap wrap (lists-all es y (sp .2) (p + 1) (0x02 ∷ s) ∙ ap (λ z. put-all es (lists z)) (tokens-closing (p + 1 + length y) s) ∙ put-all-none es _)
       ∙ ap (λ (q : ℕ). put (form es) (lists (tokens q 0 s))) (form-end y p))
 
-  lists-all : (es : Exprs) (x : List ℕ) → SpellsAll es x → (p : ℕ) (s : List ℕ) → lists (tokens p 0 (x ++ s)) ≡ put-all es (lists (tokens (p + length x) 0 s))
+  lists-all : (es : Exprs) (x : List ℕ) → SpellsAll es x → (p : ℕ) (s : List ℕ)
+      → lists (tokens p 0 (x ++ s)) ≡ put-all es (lists (tokens (p + length x) 0 s))
   lists-all none x sp p s = rw sp (ap (λ (q : ℕ). lists (tokens q 0 s)) (omega arith))
   lists-all (more e es) x sp p s =
       let y = sp .0 in

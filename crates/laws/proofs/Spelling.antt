@@ -13,7 +13,7 @@ use Rattle.spec.specs.Expr.{if_then_else_, Atom, nil, array, int, ref, array-he
 use Rattle.spec.specs.Reading.{Taken, taken, failed, and-then, take-bytes, natural, as-length, plain-length, length-expr, marker, name, as-array, read-atom}
 use Rattle.laws.specs.Demands.{Bytes}
 use Rattle.laws.specs.Grammar.{SpellsLength, as-int, as-small, as-generic, SpellsArray, small, generic, SpellsAtom}
-use Rattle.laws.proofs.Fits.{bytes-drop, Fits}
+use Rattle.laws.proofs.Fits.{Fits}
 use Rattle.laws.proofs.Canonical.{Head, one-byte, three-bytes, four-bytes, array-head-is, Mark, short, long, marker-bytes-are}
 
 -- From bytes that spell

@@ -7,15 +7,18 @@ use mathlib.Core.List.{List, []}
 use lib.ListN.{length, take, getD}
 use native.Mathlib.Omega.{arith}
 use native.Mathlib.Decide.{ℕ-discrete}
-use Rattle.spec.specs.Expr.{Exprs, first, rows-all, canonical}
+use Rattle.spec.specs.Expr.{Exprs, size, first, rows-all, canonical}
 use Rattle.spec.specs.Reading.{tokens, Row, rows-of, row-width, numbers, Reading, refused, readable, read}
 use Rattle.spec.specs.Runs.{End, done, stopped, cut, steps-in}
 use Rattle.spec.specs.Evaluation.{run, result}
-use Rattle.spec.specs.Calls.{Answer, refusal, acceptance, filled, put-out, once-read, reading, row-at, end-answer, Read, Write, Evaluate}
+use Rattle.spec.specs.Calls.{Answer, refusal, acceptance, filled, put-out, once-read, reading, row-at, end-answer, Read, Write, Evaluate, Buffer, no-part, chosen, Item}
 use Rattle.laws.specs.Demands.{Bytes, Kept, Lent, evaluation, result-bytes, NoSmaller, Final, Alike, Accepted, meaning-of, SameFirst, values-of, bytes-of-first, all-steps, with-steps, Counted, SamePrefix}
+use Rattle.laws.specs.Grammar.{SpellsAll, all-rows, WellFormed, item-reading, SpellsItem}
 use Rattle.laws.specs.Sanity.{Inside, FirstFrom, Proper}
 use Rattle.laws.proofs.Rows.{rows-ordered, rows-inside, ordered-starts, inside-start, next-row-first, numbers-fourth}
-use Rattle.laws.proofs.Reading.{stream-laid, Readable, read-readable, read-refused, read-refused-roomy, read-enough, read-room}
+use Rattle.laws.proofs.Reading.{stream-laid, Readable, read-readable, read-refused, read-refused-roomy, read-enough, read-room, read-spelled}
+use Rattle.laws.proofs.Parsing.{read-spells}
+use Rattle.laws.proofs.Items.{spelled-rows, item-spelled, item-past}
 use Rattle.laws.proofs.Values.{run-proper}
 use Rattle.laws.proofs.Prefix.{run-first}
 use Rattle.laws.proofs.Calls.{put-out-is, put-place, put-out-bytes, write-out, write-room, write-kept, Way, unread, unversioned, wrong-version, runs, way, answered, evaluation-answered, evaluation-kept}
@@ -105,6 +108,19 @@ write-same s s′ t t′ o o′ b b′ a a′ =
     let c′ = written-canonical s′ t′ o′ b′ a′ in
     let same = same-canonical s s′ (length t / 4) (length t′ / 4) _ _ _ _ b b′ (writing s t o b a .reads) (writing s′ t′ o′ b′ a′ .reads) in
     (λ h. c ∙ ap canonical h ∙ sym c′, λ h. sym m ∙ same (ap canonical m ∙ sym c ∙ h ∙ c′ ∙ ap canonical (sym m′)) ∙ m′)
+
+-- Reading is exactly document 01's: `read` is the parser of the grammar in specs/Grammar, and the rows are those of the spelled expressions.
+
+pub read-grammar : (s : List ℕ) (room : ℕ) (es : Exprs) → Bytes s → ((rs : List Row) × (read s room ≡ readable rs es)) ↔ WellFormed s room es
+read-grammar s room es b = (
+  λ r. let m = meant s room (r .0) es b (r .1) in
+      record { spells = read-spells s room (r .0) es b (r .1); shallow = m .shallow; short = read-readable s room (r .0) es (r .1) .short; roomy = m .roomy },
+  λ w. (rows-of (tokens 0 0 s), read-spelled es s room (w .spells) (w .shallow) (w .short) (w .roomy)),
+)
+
+pub read-rows : (s : List ℕ) (room : ℕ) (rs : List Row) (es : Exprs) (spells : SpellsAll es s) → read s room ≡ readable rs es
+    → rs ≡ all-rows es s spells 0
+read-rows s room rs es sp r = read-readable s room rs es r .rows-are ∙ spelled-rows es s sp
 
 -- Every result is a stream that can be read, and means the values that were left.
 
@@ -238,6 +254,24 @@ evaluate-place s l b = rw (evaluation-answered s l (way s t)) (go (way s t))
     go (runs rs es e h k) =
         by-end rs (steps-in (run es .events)) (rows-in-stream s (length t / 4) rs es b e)
         (cut (l .steps) (min (l .work) 65536) (run es .events) (run es .end))
+
+-- Item: the part of the buffer asked for that spells expression k; no part, if there is no such expression or the buffer can't be read
+
+module _ (stream result : List ℕ) (b : Buffer) (k : ℕ) where
+  pub item-given : (rs : List Row) (es : Exprs) → Bytes (chosen b stream result) → item-reading stream result b ≡ readable rs es → k < size es
+      → SpellsItem b (chosen b stream result) es k (Item stream result b k)
+  unfolding Item
+  item-given rs es bytes r h =
+      let s = chosen b stream result in
+      rw r (item-spelled b s es k rs (read-spells s (length s) rs es bytes r) (read-readable s (length s) rs es r .rows-are) h)
+
+  pub item-absent : (rs : List Row) (es : Exprs) → item-reading stream result b ≡ readable rs es → size es ≤ k → Item stream result b k ≡ no-part
+  unfolding Item
+  item-absent rs es r h = rw r (item-past b k es rs h)
+
+  pub item-unread : (w p : ℕ) → item-reading stream result b ≡ refused w p → Item stream result b k ≡ no-part
+  unfolding Item
+  item-unread w p r = rw r
 
 -- Item reads with as many rows as bytes: more make no difference, and 8 does not arise
 pub item-rows : (s : List ℕ) (room : ℕ) → length s ≤ room → read s room ≡ read s (length s)
