@@ -7,16 +7,18 @@ use lib.ListN.{length, getD, length-map, List·getD-map}
 use lib.Dec.{ltb}
 use borrow.Author.Tests.{ltb-true, ltb-false}
 use native.Mathlib.Omega.{arith}
+use native.Mathlib.Decide.{ℕ-discrete}
 use Rattle.spec.specs.Expr.{Exprs, canonical}
 use Rattle.spec.specs.Reading.{Row}
 use Rattle.spec.specs.Runs.{End, done, stopped, cut, steps-in}
 use Rattle.spec.specs.Evaluation.{run, result}
 use Rattle.spec.specs.Calls.{Answer, refusal, filled, row-at, end-answer}
-use Rattle.laws.specs.Demands.{Bytes, Lent, evaluation, step-rows, step-places, all-steps, with-steps}
+use Rattle.laws.specs.Demands.{Bytes, Lent, evaluation, step-rows, step-places, all-steps, with-steps, Counted}
 use Rattle.laws.proofs.Reading.{read-refused}
 use Rattle.laws.proofs.Runs.{all-step-rows, cut-enough, cut-short, cut-own}
 use Rattle.laws.proofs.Values.{not-rule, run-proper}
 use Rattle.laws.proofs.Calls.{Put, too-short, fits, put-out-is, Way, unread, unversioned, wrong-version, runs, way, answered, evaluation-answered, reading-fits, Ran}
+use Rattle.laws.proofs.Results.{ran, ran-means}
 
 -- a refusal counts nothing
 abbrev pub CountsNothing : Answer → Type 0
@@ -153,3 +155,19 @@ ran-all-steps s l h r = go (way s (l .table))
         let size = length-map (step-rows w (run es .events)) (λ k. row-at rs k .start) in
         let all = all-step-rows (run (r .meaning) .events) w (r .within .work) in
         sym (places ∙ size ∙ ap (λ (fs : Exprs). length (step-rows w (run fs .events))) (sym meant) ∙ all)
+
+-- the whole of what is counted
+pub counted : (s : List ℕ) (l : Lent) → Bytes s → Counted s l
+counted s l b = record {
+  accepted = λ h. taken h ∙ ran-all-steps s l h (ran s l b h);
+  of-run = λ h. taken h ∙ ap (λ (es : Exprs). steps-in (run es .events)) (ran-means s l b h);
+  refused = refused-counted s l;
+  bounded = go (ℕ-discrete (evaluation s l .number) 0);
+}
+  where
+    taken : (h : evaluation s l .number ≡ 0) → evaluation s l .steps ≡ steps-in (run (ran s l b h .meaning) .events)
+    taken h = ap (λ (a : Answer). a .steps) (ran s l b h .is)
+
+    go : Dec (evaluation s l .number ≡ 0) → evaluation s l .steps ≤ l .steps
+    go (yes h) = omega (arith, taken h, ran s l b h .within .steps)
+    go (no h) = omega (arith, refused-counted s l h)

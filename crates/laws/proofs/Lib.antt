@@ -13,6 +13,7 @@ pub mod Values
 pub mod Prefix
 pub mod Calls
 pub mod Results
+pub mod Places
 pub mod Retry
 pub mod Count
 pub mod Theorems

@@ -1,21 +1,22 @@
 -- What Write has written and what Evaluate has left: the canonical bytes of a meaning that can be read.
 use Prim.Native.Nat.{ℕ, _+_, _/_, _≤_}
-use mathlib.Core.Path.{_≡_, ap, _∙_}
+use mathlib.Core.Path.{_≡_, sym, ap, _∙_}
+use mathlib.Core.Logic.{_↔_}
 use mathlib.Core.List.{List}
 use lib.ListN.{length, take, drop}
 use native.Mathlib.Omega.{arith}
-use Rattle.spec.specs.Expr.{Exprs, rows-all, deepest, canonical}
+use Rattle.spec.specs.Expr.{Exprs, first, rows-all, deepest, canonical}
 use Rattle.spec.specs.Reading.{tokens, Row, rows-of, readable, read}
 use Rattle.spec.specs.Runs.{done, steps-in}
 use Rattle.spec.specs.Evaluation.{run, result}
 use Rattle.spec.specs.Calls.{Answer, filled, reading, Write}
-use Rattle.laws.specs.Demands.{Bytes, Begins, Lent, evaluation, result-bytes, meaning-of, left-by, values-of, bytes-of-first}
+use Rattle.laws.specs.Demands.{Bytes, Begins, Lent, evaluation, result-bytes, meaning-of, left-by, values-of, bytes-of-first, Accepted, SameFirst, SamePrefix}
 use Rattle.laws.proofs.Fits.{FitsAll}
 use Rattle.laws.proofs.Canonical.{canonical-append, canonical-bytes}
 use Rattle.laws.proofs.Reading.{read-readable, Meant, read-meant, read-canonical}
 use Rattle.laws.proofs.Charges.{run-paid}
 use Rattle.laws.proofs.Values.{run-fits}
-use Rattle.laws.proofs.Prefix.{result-split}
+use Rattle.laws.proofs.Prefix.{run-first, result-split}
 use Rattle.laws.proofs.Calls.{put-out-bytes, Written, written, Ran, evaluate-ran, reading-fits}
 
 -- A meaning that was read
@@ -63,6 +64,16 @@ module _ (s t o : List ℕ) (stream : Bytes s) (accepted : Write s t o .number �
   pub written-stream : Bytes (result-bytes (Write s t o))
   written-stream = rw (written-canonical, ← written-means) (canonical-stream s (length t / 4) (writing .rows) (writing .meaning) stream (writing .reads))
 
+pub written-same : (s s′ t t′ o o′ : List ℕ) → Bytes s → Bytes s′ → Write s t o .number ≡ 0 → Write s′ t′ o′ .number ≡ 0
+    → (meaning-of s ≡ meaning-of s′) ↔ (result-bytes (Write s t o) ≡ result-bytes (Write s′ t′ o′))
+written-same s s′ t t′ o o′ b b′ a a′ =
+    let m = written-means s t o b a in
+    let m′ = written-means s′ t′ o′ b′ a′ in
+    let c = written-canonical s t o b a in
+    let c′ = written-canonical s′ t′ o′ b′ a′ in
+    let same = same-canonical s s′ (length t / 4) (length t′ / 4) _ _ _ _ b b′ (writing s t o b a .reads) (writing s′ t′ o′ b′ a′ .reads) in
+    (λ h. c ∙ ap canonical h ∙ sym c′, λ h. sym m ∙ same (ap canonical m ∙ sym c ∙ h ∙ c′ ∙ ap canonical (sym m′)) ∙ m′)
+
 -- What was left
 
 module _ (s : List ℕ) (l : Lent) (stream : Bytes s) (accepted : evaluation s l .number ≡ 0) where
@@ -108,3 +119,17 @@ module _ (s : List ℕ) (l : Lent) (stream : Bytes s) (accepted : evaluation s l
         back = canonical (result (drop q ls));
         is = left-canonical ∙ ap canonical (result-split q ls) ∙ canonical-append (result (take q ls)) (result (drop q ls));
       }
+
+-- the first q expressions of two accepted streams
+pub same-prefix : (q : ℕ) (s s′ : List ℕ) → Bytes s → Bytes s′ → Accepted s → Accepted s′ → SameFirst q s s′ → SamePrefix q s s′
+same-prefix q s s′ b b′ a a′ f = record { same = same; begins = λ l h. left-begins s l b h q; begins′ = λ l h. rw same (left-begins s′ l b′ h q) }
+  where
+    same : bytes-of-first q s ≡ bytes-of-first q s′
+    same =
+        let e = ran-ends s (a .lent) b (a .accepts) in
+        let e′ = ran-ends s′ (a′ .lent) b′ (a′ .accepts) in
+        let one = run-first q (meaning-of s) _ e in
+        let other = run-first q (meaning-of s′) _ e′ in
+        let equal : run (first q (meaning-of s)) .end ≡ run (first q (meaning-of s′)) .end = ap (λ (es : Exprs). run es .end) (f .equal) in
+        let taken : take q (ran s (a .lent) b (a .accepts) .left) ≡ take q (ran s′ (a′ .lent) b′ (a′ .accepts) .left) = cc in
+        rw (e, e′) (ap (λ x. canonical (result x)) taken)

@@ -1,30 +1,27 @@
 -- The demands, as theorems over the definitions of the crate `spec`, in the words of specs/Demands. Above each stands what was demanded. A
 -- stream is a list of bytes (`Bytes`); whatever is said of a table or an output is said for all lengths and contents.
-use Prim.Native.Nat.{ℕ, _+_, _*_, _/_, _≤_, _<_, min}
-use mathlib.Core.Path.{_≡_, refl, sym, ap, _∙_}
+use Prim.Native.Nat.{ℕ, _+_, _*_, _/_, _≤_, _<_}
+use mathlib.Core.Path.{_≡_, ap, _∙_}
 use mathlib.Core.Logic.{_↔_}
 use mathlib.Core.List.{List, []}
-use lib.ListN.{length, take, getD}
-use native.Mathlib.Omega.{arith}
-use native.Mathlib.Decide.{ℕ-discrete}
-use Rattle.spec.specs.Expr.{Exprs, size, first, rows-all, canonical}
-use Rattle.spec.specs.Reading.{tokens, Row, rows-of, row-width, numbers, Reading, refused, readable, read}
-use Rattle.spec.specs.Runs.{End, done, stopped, cut, steps-in}
-use Rattle.spec.specs.Evaluation.{run, result}
-use Rattle.spec.specs.Calls.{Answer, refusal, acceptance, filled, put-out, once-read, reading, row-at, end-answer, Read, Write, Evaluate, Buffer, no-part, chosen, Item}
-use Rattle.laws.specs.Demands.{Bytes, Kept, Lent, evaluation, result-bytes, NoSmaller, Final, Alike, Accepted, meaning-of, SameFirst, values-of, bytes-of-first, all-steps, with-steps, Counted, SamePrefix}
+use lib.ListN.{length, getD}
+use Rattle.spec.specs.Expr.{Exprs, size, rows-all, canonical}
+use Rattle.spec.specs.Reading.{tokens, Row, rows-of, row-width, numbers, refused, readable, read}
+use Rattle.spec.specs.Evaluation.{run}
+use Rattle.spec.specs.Calls.{Answer, refusal, acceptance, filled, reading, row-at, Read, Write, Evaluate, Buffer, no-part, chosen, Item}
+use Rattle.laws.specs.Demands.{Bytes, Kept, Lent, evaluation, result-bytes, NoSmaller, Final, Alike, Accepted, meaning-of, SameFirst, values-of, all-steps, with-steps, Counted, SamePrefix}
 use Rattle.laws.specs.Grammar.{SpellsAll, all-rows, WellFormed, item-reading, SpellsItem}
 use Rattle.laws.specs.Sanity.{Inside, FirstFrom, Proper}
-use Rattle.laws.proofs.Rows.{rows-ordered, rows-inside, ordered-starts, inside-start, next-row-first, numbers-fourth}
-use Rattle.laws.proofs.Reading.{stream-laid, Readable, read-readable, read-refused, read-refused-roomy, read-enough, read-room, read-spelled}
+use Rattle.laws.proofs.Rows.{next-row-first, numbers-fourth}
+use Rattle.laws.proofs.Reading.{read-readable, read-refused-roomy, read-enough, read-room, read-spelled}
 use Rattle.laws.proofs.Parsing.{read-spells}
 use Rattle.laws.proofs.Items.{spelled-rows, item-spelled, item-past}
 use Rattle.laws.proofs.Values.{run-proper}
-use Rattle.laws.proofs.Prefix.{run-first}
-use Rattle.laws.proofs.Calls.{put-out-is, put-place, put-out-bytes, write-out, write-room, write-kept, Way, unread, unversioned, wrong-version, runs, way, answered, evaluation-answered, evaluation-kept}
-use Rattle.laws.proofs.Results.{meant, canonical-reads, same-canonical, writing, written-means, written-canonical, written-reads, written-stream, ran, ran-means, ran-ends, left-canonical, left-length, left-stream, left-reads, left-begins}
+use Rattle.laws.proofs.Calls.{put-out-bytes, write-out, write-room, write-kept, evaluation-kept}
+use Rattle.laws.proofs.Results.{meant, canonical-reads, same-canonical, written-same, writing, written-means, written-canonical, written-reads, written-stream, left-canonical, left-length, left-stream, left-reads, same-prefix}
+use Rattle.laws.proofs.Places.{read-order, read-inside, read-at-most, write-at-most, evaluation-at-most}
 use Rattle.laws.proofs.Retry.{evaluate-alike}
-use Rattle.laws.proofs.Count.{refused-counted, ran-all-steps, enough-same, short-refused, sixteen-short}
+use Rattle.laws.proofs.Count.{counted, enough-same, short-refused, sixteen-short}
 
 -- Demand 1: "Every public call ends and answers for all inputs": the calls are functions on all lists. "Bad input gets the refusal number and
 -- place from document 01's table, [..] and the output buffer is then unchanged."
@@ -53,7 +50,7 @@ module _ (s : List ℕ) (room : ℕ) (rs : List Row) (es : Exprs) (reads : read 
   pub read-means : es ≡ meaning-of s
   read-means = read-readable s room rs es reads .means
 
-  -- "table enough": as many rows as there are
+  -- "Given table [..] enough": as many rows as there are
   pub read-roomy : (room′ : ℕ) → length rs ≤ room′ → read s room′ ≡ readable rs es
   read-roomy = read-enough s room rs es reads
 
@@ -78,7 +75,7 @@ pub canonical-equal : (s s′ : List ℕ) (room room′ : ℕ) (rs rs′ : List 
     → read s room ≡ readable rs es → read s′ room′ ≡ readable rs′ es′ → (canonical es ≡ canonical es′) ↔ (es ≡ es′)
 canonical-equal s s′ room room′ rs rs′ es es′ b b′ r r′ = (same-canonical s s′ room room′ rs rs′ es es′ b b′ r r′, λ h. ap canonical h)
 
--- "room enough": a readable stream is written exactly if the output has room for its canonical bytes
+-- "and room enough": a readable stream is written exactly if the output has room for its canonical bytes
 pub write-accepts : (s t o : List ℕ) (rs : List Row) (es : Exprs) → reading s t ≡ readable rs es
     → (Write s t o .number ≡ 0) ↔ (length (canonical es) ≤ length o)
 write-accepts s t o rs es r = (write-room s t o rs es r, λ h. ap (λ (a : Answer). a .number) (write-out s t o rs es r h))
@@ -101,13 +98,7 @@ module _ (s t o : List ℕ) (stream : Bytes s) (accepted : Write s t o .number �
 -- "two readable streams of equal meaning are written to equal bytes, two of different meaning never"
 pub write-same : (s s′ t t′ o o′ : List ℕ) → Bytes s → Bytes s′ → Write s t o .number ≡ 0 → Write s′ t′ o′ .number ≡ 0
     → (meaning-of s ≡ meaning-of s′) ↔ (result-bytes (Write s t o) ≡ result-bytes (Write s′ t′ o′))
-write-same s s′ t t′ o o′ b b′ a a′ =
-    let m = written-means s t o b a in
-    let m′ = written-means s′ t′ o′ b′ a′ in
-    let c = written-canonical s t o b a in
-    let c′ = written-canonical s′ t′ o′ b′ a′ in
-    let same = same-canonical s s′ (length t / 4) (length t′ / 4) _ _ _ _ b b′ (writing s t o b a .reads) (writing s′ t′ o′ b′ a′ .reads) in
-    (λ h. c ∙ ap canonical h ∙ sym c′, λ h. sym m ∙ same (ap canonical m ∙ sym c ∙ h ∙ c′ ∙ ap canonical (sym m′)) ∙ m′)
+write-same = written-same
 
 -- Reading is exactly document 01's: `read` is the parser of the grammar in specs/Grammar, and the rows are those of the spelled expressions.
 
@@ -148,22 +139,10 @@ retry = evaluate-alike
 -- "The count is always the one that document 01 defines, never above the steps given."
 
 pub count : (s : List ℕ) (l : Lent) → Bytes s → Counted s l
-count s l b = record {
-  accepted = λ h. taken h ∙ ran-all-steps s l h (ran s l b h);
-  of-run = λ h. taken h ∙ ap (λ (es : Exprs). steps-in (run es .events)) (ran-means s l b h);
-  refused = refused-counted s l;
-  bounded = go (ℕ-discrete (evaluation s l .number) 0);
-}
-  where
-    taken : (h : evaluation s l .number ≡ 0) → evaluation s l .steps ≡ steps-in (run (ran s l b h .meaning) .events)
-    taken h = ap (λ (a : Answer). a .steps) (ran s l b h .is)
-
-    go : Dec (evaluation s l .number ≡ 0) → evaluation s l .steps ≤ l .steps
-    go (yes h) = omega (arith, taken h, ran s l b h .within .steps)
-    go (no h) = omega (arith, refused-counted s l h)
+count = counted
 
 -- "and the refusal for steps comes exactly when document 01's rules would next take a step beyond them", at the expression that would take it:
--- `Steps` lists the places of the steps that the rules take with this table and workspace and no bound on steps
+-- `all-steps` lists the places of the steps that the rules take with this table and workspace and no bound on steps
 
 module _ (s : List ℕ) (l : Lent) where
   pub sixteen : Bytes s → (evaluation s l .number ≡ 16) ↔ (l .steps < length (all-steps s l))
@@ -180,37 +159,22 @@ module _ (s : List ℕ) (l : Lent) where
 -- bytes in both, and the result bytes of every run that accepts either stream begin with them."
 
 pub prefix : (q : ℕ) (s s′ : List ℕ) → Bytes s → Bytes s′ → Accepted s → Accepted s′ → SameFirst q s s′ → SamePrefix q s s′
-prefix q s s′ b b′ a a′ f = record { same = same; begins = λ l h. left-begins s l b h q; begins′ = λ l h. rw same (left-begins s′ l b′ h q) }
-  where
-    same : bytes-of-first q s ≡ bytes-of-first q s′
-    same =
-        let e = ran-ends s (a .lent) b (a .accepts) in
-        let e′ = ran-ends s′ (a′ .lent) b′ (a′ .accepts) in
-        let one = run-first q (meaning-of s) _ e in
-        let other = run-first q (meaning-of s′) _ e′ in
-        let equal : run (first q (meaning-of s)) .end ≡ run (first q (meaning-of s′)) .end = ap (λ (es : Exprs). run es .end) (f .equal) in
-        let taken : take q (ran s (a .lent) b (a .accepts) .left) ≡ take q (ran s′ (a′ .lent) b′ (a′ .accepts) .left) = cc in
-        rw (e, e′) (ap (λ x. canonical (result x)) taken)
+prefix = same-prefix
 
 -- Laws that a wrong definition would not meet, in the words of specs/Sanity
 
 module _ (s : List ℕ) (room : ℕ) (rs : List Row) (es : Exprs) (stream : Bytes s) (reads : read s room ≡ readable rs es) where
-  is-readable : Readable s room rs es
-  is-readable = read-readable s room rs es reads
-
   -- there is a row for each expression
   pub rows-counted : length rs ≡ rows-all es
   rows-counted = meant s room rs es stream reads .counted
 
   -- rows stand in the order of their starts
   pub rows-in-order : (i j : ℕ) → i < j → j < length rs → row-at rs i .start < row-at rs j .start
-  rows-in-order i j h k =
-      let tokens-order = rows-ordered (length s) room (tokens 0 0 s) 0 0 0 (stream-laid s stream) (is-readable .passes) in
-      ordered-starts _ 0 rs (rw (is-readable .rows-are) tokens-order) i j h k
+  rows-in-order = read-order s room rs es stream reads
 
   -- each starts before it ends, and ends in the stream
   pub rows-in-stream : Inside (length s) rs
-  rows-in-stream = rw (is-readable .rows-are) (rows-inside (length s) room (tokens 0 0 s) 0 0 0 (stream-laid s stream) (is-readable .passes))
+  rows-in-stream = read-inside s room rs es stream reads
 
   -- a row's fourth number is the first row that starts at or after its end
   pub row-fourth : (i : ℕ) → i < length rs → FirstFrom (row-at rs i .end) rs (row-at [] 0) (getD (numbers rs rs) (row-width * i + 3) 0)
@@ -221,39 +185,15 @@ module _ (s : List ℕ) (room : ℕ) (rs : List Row) (es : Exprs) (stream : Byte
   run-names-rows = rw rows-counted (run-proper es (meant s room rs es stream reads .fits))
 
 -- a refusal's place is at most the stream's length
+
 pub read-place : (s t : List ℕ) → Bytes s → Read s t .place ≤ length s
-unfolding Read
-read-place s t b = go (reading s t) refl
-  where
-    go : (r : Reading) → reading s t ≡ r → once-read t [] (λ rs es. acceptance (length rs) 0 (filled rs t) []) r .place ≤ length s
-    go (refused w p) e = read-refused s (length t / 4) w p b e .2
-    go (readable rs es) e = omega arith
+read-place = read-at-most
 
 pub write-place : (s t o : List ℕ) → Bytes s → Write s t o .place ≤ length s
-unfolding Write
-write-place s t o b = go (reading s t) refl
-  where
-    go : (r : Reading) → reading s t ≡ r → once-read t o (λ rs es. put-out (canonical es) 0 (filled rs t) o) r .place ≤ length s
-    go (refused w p) e = read-refused s (length t / 4) w p b e .2
-    go (readable rs es) e = omega (arith, put-place (put-out-is (canonical es) 0 (filled rs t) o))
+write-place = write-at-most
 
-pub evaluate-place : (s : List ℕ) (l : Lent) → Bytes s → evaluation s l .place ≤ length s
-evaluate-place s l b = rw (evaluation-answered s l (way s t)) (go (way s t))
-  where
-    t : List ℕ
-    t = l .table
-
-    by-end : (rs : List Row) (k : ℕ) → Inside (length s) rs → (x : End (List Exprs)) → end-answer rs k (filled rs t) (l .output) x .place ≤ length s
-    by-end rs k i (done ls) = omega (arith, put-place (put-out-is (canonical (result ls)) k (filled rs t) (l .output)))
-    by-end rs k i (stopped v r) = inside-start (row-at [] 0) (length s) rs i (omega arith) r
-
-    go : (y : Way s t) → answered y l .place ≤ length s
-    go (unread v p e) = read-refused s (length t / 4) v p b e .2
-    go (unversioned rs es e h) = omega arith
-    go (wrong-version rs es e h k) = omega arith
-    go (runs rs es e h k) =
-        by-end rs (steps-in (run es .events)) (rows-in-stream s (length t / 4) rs es b e)
-        (cut (l .steps) (min (l .work) 65536) (run es .events) (run es .end))
+pub evaluation-place : (s : List ℕ) (l : Lent) → Bytes s → evaluation s l .place ≤ length s
+evaluation-place = evaluation-at-most
 
 -- Item: the part of the buffer asked for that spells expression k; no part, if there is no such expression or the buffer can't be read
 

@@ -57,13 +57,13 @@ call-fits false vs f = (f, tt)
 
 -- Rows and refusals
 
--- 16, 17 and 18 are none of them: `not-rule refl`
+-- 16, 17 and 18 are no rule's numbers: `not-rule refl`
 pub not-rule : {v w : ℕ} → rule-number v ≡ false → RuleNumber w → w ≡ v → ⊥
 not-rule n p q = let z : _≡_ {A = ℕ} 0 1 = cc in omega arith
 
 -- What is so in a stream of so many rows
 module _ (bound : ℕ) where
-  -- as a rule says
+  -- a rule's number, at a row of the stream
   abbrev Stops : ℕ → ℕ → Type 0
   Stops w r = RuleNumber w × (r < bound)
 

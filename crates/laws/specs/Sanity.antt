@@ -13,7 +13,8 @@ abbrev pub Inside : ℕ → List Row → Type 0
 Inside end [] = Unit {0}
 Inside end (r ∷ rs) = (r .start < r .end) × (r .end ≤ end) × Inside end rs
 
--- row k is the first that starts at or after e, or there is none and k is how many rows there are
+-- row k is the first that starts at or after e, or there is none and k is how many rows there are. `other` is what `getD` gives past the
+-- last row; it does not matter.
 pub record FirstFrom (e : ℕ) (rs : List Row) (other : Row) (k : ℕ) : Type 0 where
   pub before : (i : ℕ) → i < k → getD rs i other .start < e
   pub among : k ≤ length rs

@@ -1,6 +1,6 @@
--- Document 01, "Streams to try": the starred ones, each call with its whole answer, in one table under one claim. And a second table, for
--- "Errors that come easily", whose answers a definition with such an error does not give, for Item, and for refusals that no starred stream
--- is given.
+-- Document 01, "Streams to try": the starred ones, each call with its answer, in one table under one claim. And a second table: for "Errors
+-- that come easily", whose answers a definition with such an error does not give; for the table that Evaluate leaves; for Item; and for the
+-- refusals that no starred stream is given.
 use Prim.Native.Nat.{ℕ, zero, suc}
 use mathlib.Core.Path.{_≡_, refl}
 use mathlib.Core.List.{List, [], _∷_, _++_, map}
@@ -21,13 +21,15 @@ data Request : Type 0 where
   means : List ℕ → Request
   -- stream, table, output
   writes : List ℕ → ℕ → ℕ → Request
-  -- stream, workspace, output, steps; the table has 64 rows
+  -- stream, workspace, output, steps; the table has 300 rows
   evaluates : List ℕ → ℕ → ℕ → ℕ → Request
+  -- stream, table, steps: the table that Evaluate leaves
+  fills : List ℕ → ℕ → ℕ → Request
   -- stream, result, which, k
   items : List ℕ → List ℕ → Buffer → ℕ → Request
 
 data Told : Type 0 where
-  -- number, place, rows or length, steps; and afterwards the table, of Read, or the output
+  -- number, place, rows or length, steps; and afterwards the table or the output
   told : ℕ → ℕ → ℕ → ℕ → List ℕ → Told
   meaning : Exprs → Told
   item-is : Part → Told
@@ -53,7 +55,8 @@ answer : Request → Told
 answer (reads s t) = with-table (Read s (before t))
 answer (means s) = meant (read s (length s))
 answer (writes s t o) = with-output (Write s (before t) (before o))
-answer (evaluates s w o n) = with-output (Evaluate s (before 256) w (before o) n)
+answer (evaluates s w o n) = with-output (Evaluate s (before 1200) w (before o) n)
+answer (fills s t n) = with-table (Evaluate s (before t) 65536 [] n)
 answer (items s r b k) = item-is (Item s r b k)
 
 asked : Case → Told
@@ -140,10 +143,18 @@ starred-hold : answers starred ≡ map expected starred
 unfolding answers expected starred refusal result-is version-form ns-form define-85 define-89 word-28-01 N call-l
 starred-hold = refl
 
--- 64 forms one inside another
+-- n forms one inside another, and their bytes around some others
 form-in : ℕ → Exprs
 form-in zero = none
 form-in (suc n) = only (form (form-in n))
+
+nested : ℕ → List ℕ → List ℕ
+nested n s = replicate n 0x01 ++ s ++ replicate n 0x02
+
+-- functions 28 00 to 28 n: the first gives 85, each other calls the one before
+chain : ℕ → List ℕ
+chain zero = 0x01 ∷ 0x20 ∷ 0x09 ∷ 0x28 ∷ 0x00 ∷ 0x01 ∷ 0x20 ∷ 0x0B ∷ 0x85 ∷ 0x02 ∷ 0x02 ∷ []
+chain (suc n) = chain n ++ (0x01 ∷ 0x20 ∷ 0x09 ∷ 0x28 ∷ suc n ∷ 0x01 ∷ 0x20 ∷ 0x0B ∷ 0x01 ∷ 0x28 ∷ n ∷ 0x02 ∷ 0x02 ∷ 0x02 ∷ [])
 
 -- Leaving 7F out of the sum is ruled out by f*.
 others : List Case
@@ -171,28 +182,44 @@ others =
     (items N [] of-stream 4 gives item-is no-part) ∷
     (items [] N of-result 1 gives item-is (part of-result 6 14)) ∷
     (items (N ++ (0x02 ∷ [])) N of-stream 0 gives item-is no-part) ∷
-    -- 6: 64 forms and one more; nine bytes 03. 7: a marker of 65,662. 8: a table of one row
-    (means (replicate 64 0x01 ++ replicate 64 0x02) gives meaning (form-in 64)) ∷
+    -- the table holds the rows when steps run out, and is unchanged when reading refuses
+    (fills version-form 17 0 gives told 16 0 0 0 (1 ∷ 0 ∷ 6 ∷ 4 ∷ 4 ∷ 1 ∷ 3 ∷ 2 ∷ 3 ∷ 3 ∷ 4 ∷ 3 ∷ 3 ∷ 4 ∷ 5 ∷ 4 ∷ 238 ∷ [])) ∷
+    (fills (0x02 ∷ []) 4 9 gives refusal 3 0 4) ∷
+    -- 1: a byte too many. 6: 64 forms and one more; nine bytes 03; a value 65 deep. 7: a marker of 65,662. 8: a table of one row
+    (reads (replicate 65537 0x00) 4 gives refusal 1 0 4) ∷
+    (means (nested 64 []) gives meaning (form-in 64)) ∷
     (reads (replicate 65 0x01) 400 gives refusal 6 64 400) ∷
     (reads (replicate 9 0x03) 4 gives refusal 6 8 4) ∷
+    (evaluates (version-form ++ ns-form ++ (0x01 ∷ 0x20 ∷ 0x09 ∷ 0x28 ∷ 0x01 ∷ []) ++ nested 33 [] ++ (0x02 ∷ []) ++ nested 32 word-28-01) 65536 9 999
+    gives refusal 6 86 9) ∷
     (reads (0x00 ∷ 0x7F ∷ replicate 257 0xFF ++ (0x00 ∷ 0x00 ∷ [])) 8 gives refusal 7 1 8) ∷
     (reads (0x00 ∷ 0x00 ∷ []) 7 gives refusal 8 1 7) ∷
-    -- 10: version 1.1. 12: a function name, a subst form. 13: ns in a form, define as an operand. 14: the core namespace, an id used before
+    -- 10: version 1.1. 11: ns without its id, define of a rest form. 12: a function name, a subst form. 13: ns in a form, define as an operand
     (evaluates (0x01 ∷ 0x20 ∷ 0x00 ∷ 0x81 ∷ 0x81 ∷ 0x02 ∷ []) 65536 9 99 gives refusal 10 0 9) ∷
+    (evaluates (version-form ++ ns-form ++ (0x01 ∷ 0x20 ∷ 0x06 ∷ 0x2A ∷ 0x00 ∷ 0x02 ∷ [])) 65536 9 99 gives refusal 11 14 9) ∷
+    (evaluates (version-form ++ ns-form ++ (0x01 ∷ 0x20 ∷ 0x09 ∷ 0x28 ∷ 0x01 ∷ 0x01 ∷ 0x20 ∷ 0x0D ∷ 0x80 ∷ 0x02 ∷ 0x02 ∷ [])) 65536 9 99
+    gives refusal 11 14 9) ∷
     (evaluates (version-form ++ ns-form ++ (0x20 ∷ 0x09 ∷ [])) 65536 9 99 gives refusal 12 14 9) ∷
     (evaluates (version-form ++ ns-form ++ (0x01 ∷ 0x20 ∷ 0x0B ∷ 0x02 ∷ [])) 65536 9 99 gives refusal 12 14 9) ∷
     (evaluates (version-form ++ ns-form ++ (0x01 ∷ 0x01 ∷ 0x20 ∷ 0x06 ∷ 0x29 ∷ 0x00 ∷ 0xC1 ∷ 0x42 ∷ 0x02 ∷ 0x02 ∷ [])) 65536 9 99
     gives refusal 13 15 9) ∷
     (evaluates (version-form ++ ns-form ++ (0x01 ∷ 0x20 ∷ 0x0A ∷ 0x01 ∷ 0x20 ∷ 0x09 ∷ 0x28 ∷ 0x01 ∷ 0xC0 ∷ 0x02 ∷ 0xC0 ∷ 0x02 ∷ [])) 65536 9 99
     gives refusal 13 17 9) ∷
+    -- 14: the core namespace, a marker not associated, an id used before, a marker borne earlier. 15: arg outside code, an argument that isn't there
     (evaluates (version-form ++ ns-form ++ (0x01 ∷ 0x20 ∷ 0x09 ∷ 0x20 ∷ 0x00 ∷ 0x80 ∷ 0x02 ∷ [])) 65536 9 99 gives refusal 14 14 9) ∷
+    (evaluates (version-form ++ ns-form ++ (0x01 ∷ 0x20 ∷ 0x09 ∷ 0x2A ∷ 0x01 ∷ 0x80 ∷ 0x02 ∷ [])) 65536 9 99 gives refusal 14 14 9) ∷
     (evaluates (version-form ++ ns-form ++ (0x01 ∷ 0x20 ∷ 0x06 ∷ 0x29 ∷ 0x00 ∷ 0xC1 ∷ 0x41 ∷ 0x02 ∷ [])) 65536 9 99 gives refusal 14 14 9) ∷
-    -- 15: arg outside code, an argument too many
+    (evaluates (version-form ++ ns-form ++ (0x2A ∷ 0x01 ∷ 0x01 ∷ 0x20 ∷ 0x06 ∷ 0x2A ∷ 0x00 ∷ 0xC1 ∷ 0x42 ∷ 0x02 ∷ [])) 65536 9 99
+    gives refusal 14 16 9) ∷
     (evaluates (version-form ++ ns-form ++ (0x01 ∷ 0x20 ∷ 0x0C ∷ 0x80 ∷ 0x02 ∷ [])) 65536 9 99 gives refusal 15 14 9) ∷
     (evaluates (version-form ++ ns-form ++ (0x01 ∷ 0x01 ∷ 0x20 ∷ 0x0B ∷ 0x01 ∷ 0x20 ∷ 0x0C ∷ 0x80 ∷ 0x02 ∷ 0x02 ∷ 0x02 ∷ [])) 65536 9 99
     gives refusal 15 18 9) ∷
+    -- 19: 32 codes in progress, and one more
+    (evaluates (version-form ++ ns-form ++ chain 32 ++ (0x01 ∷ 0x28 ∷ 0x1F ∷ 0x02 ∷ [])) 65536 15 999
+    gives result-is (version-form ++ ns-form ++ (0x85 ∷ [])) 71) ∷
+    (evaluates (version-form ++ ns-form ++ chain 32 ++ (0x01 ∷ 0x28 ∷ 0x20 ∷ 0x02 ∷ [])) 65536 15 999 gives refusal 19 33 15) ∷
     []
 
 others-hold : answers others ≡ map expected others
-unfolding answers expected others refusal result-is version-form ns-form define-85 define-89 word-28-01 N form-in
+unfolding answers expected others refusal result-is version-form ns-form define-85 define-89 word-28-01 N form-in nested chain
 others-hold = refl

@@ -6,7 +6,7 @@ use lib.ListN.{length, take, drop, getD}
 use lib.Dec.{ltb, eqb}
 use Rattle.spec.specs.Expr.{if_then_else_, same, if-ref, atom, form, Exprs, none, more, rows, canonical}
 use Rattle.spec.specs.Reading.{Row, numbers, row-width, Reading, refused, readable, read}
-use Rattle.spec.specs.Nodes.{core}
+use Rattle.spec.specs.Nodes.{core, version}
 use Rattle.spec.specs.Runs.{End, done, stopped, Run, cut, steps-in}
 use Rattle.spec.specs.Evaluation.{run, result}
 
@@ -66,7 +66,7 @@ abbrev pub is-versioned : Exprs → Bool
 is-versioned none = false
 is-versioned (more (atom a) es) = false
 is-versioned (more (form none) es) = false
-is-versioned (more (form (more (atom a) fs)) es) = if-ref a (λ m n. eqb m core && eqb n 0x00) false
+is-versioned (more (form (more (atom a) fs)) es) = if-ref a (λ m n. eqb m core && eqb n version) false
 is-versioned (more (form (more (form gs) fs)) es) = false
 
 -- "exactly the six bytes 01 20 00 81 80 02, version 1.0"

@@ -15,9 +15,11 @@ pub record Left : Type 0 where
   pub values : Exprs
   pub here : Here
 
+-- the same as standing in another place
 abbrev pub standing : Place → Here → Here
 standing p h = record { place = p; scope = h .scope; namespaces = h .namespaces; arguments = h .arguments }
 
+-- "associates ref's marker with id"
 abbrev pub add-namespace : Namespace → Here → Here
 add-namespace n h = record { place = h .place; scope = h .scope; namespaces = n ∷ h .namespaces; arguments = h .arguments }
 
@@ -109,6 +111,7 @@ top-level earlier (cons e es) h =
     bind (eval (run-code 32) e (standing (top earlier) h))
     λ left. bind (top-level (markers e ++ earlier) es (left .here)) λ ls. give (left .values ∷ ls)
 
+-- before the first expression
 abbrev pub start : Here
 start = record { place = top []; scope = []; namespaces = []; arguments = outside }
 

@@ -113,12 +113,14 @@ marker-bytes m =
     if ltb m 0x7F then m ∷ [] else
     0x7F ∷ (replicate ((m - 0x7F) / 0xFF) 0xFF ++ (((m - 0x7F) % 0xFF) ∷ []))
 
+-- the other atoms by the table of first bytes, which leaves one way of writing each
 unfoldable pub atom-bytes : Atom → List ℕ
 atom-bytes nil = 0x00 ∷ []
 atom-bytes (array bs) = array-head (length bs) ++ bs
 atom-bytes (int v) = (0x80 + v) ∷ []
 atom-bytes (ref m n) = marker-bytes m ++ (n ∷ [])
 
+-- "01 .. 02: form: the expressions between"
 unfoldable mutual
   pub bytes : Expr → List ℕ
   bytes (atom a) = atom-bytes a

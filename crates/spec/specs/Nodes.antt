@@ -11,6 +11,9 @@ use Rattle.spec.specs.Expr.{if_then_else_, Atom, if-ref, Expr, atom, for
 abbrev pub core : ℕ
 core = 0x20
 
+abbrev pub version : ℕ
+version = 0x00
+
 -- "The last six from ns on are *function names*"; every other reference is plain
 pub data Word : Type 0 where
   ns define concat subst arg rest : Word

@@ -10,7 +10,7 @@ use Rattle.spec.specs.Nodes.{core, Word, ns, define, concat, subst, arg,
 
 -- Where an expression is evaluated
 
--- what its value left, always one; of a function, its code
+-- what its value left; of a function, its code
 pub data Defined : Type 0 where
   value : Exprs → Defined
   function : Nodes → Defined
@@ -200,6 +200,7 @@ plan-atom a scope =
     if-ref a (λ m n. if is (word m n) plain then plan-reference (look-up m n scope) a else refuse 12)
     (leave (only (atom a)))
 
+-- the rule for an expression
 abbrev pub plan : Node → Here → Plan
 plan (leaf r a) h = plan-atom a (h .scope)
 plan (branch r es) h = plan-form (head-word es) es h

@@ -151,7 +151,7 @@ lists (bad w p ∷ ts) = lists ts
 abbrev pub meaning : List Token → Exprs
 meaning ts = getD (lists ts) 0 none
 
--- Rows: "four numbers a row, in order of first bytes"
+-- Rows
 
 -- "kind, start, end (one past)"
 pub record Row : Type 0 where
@@ -159,6 +159,7 @@ pub record Row : Type 0 where
   pub start : ℕ
   pub end : ℕ
 
+-- the column "Kind"; a form's kind is 1
 abbrev pub atom-kind : Atom → ℕ
 atom-kind nil = 0
 atom-kind (array bs) = 2
@@ -173,6 +174,7 @@ ends (closing p ∷ ts) = (p + 1) ∷ ends ts
 ends (whole a p e ∷ ts) = ends ts
 ends (bad w p ∷ ts) = ends ts
 
+-- "in order of first bytes"
 unfoldable pub rows-of : List Token → List Row
 rows-of [] = []
 rows-of (opening p ∷ ts) = record { kind = 1; start = p; end = getD (ends ts) 0 0 } ∷ rows-of ts
@@ -185,6 +187,7 @@ unfoldable pub next-row : ℕ → List Row → ℕ
 next-row e [] = 0
 next-row e (r ∷ rs) = if leb e (r .start) then 0 else 1 + next-row e rs
 
+-- "four numbers a row", of some of all rows
 abbrev pub row-width : ℕ
 row-width = 4
 
