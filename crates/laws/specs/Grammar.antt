@@ -27,7 +27,7 @@ SpellsAtom (array bs) s = SpellsArray bs s
 SpellsAtom (int v) s = (v < 64) × (s ≡ (0x80 + v) ∷ [])
 SpellsAtom (ref m n) s = (16 ≤ m) × (m ≤ 65535) × (s ≡ marker-bytes m ++ (n ∷ []))
 
--- "01 .. 02: form: the expressions between"
+-- "01 .. 02", "form: the expressions between"
 abbrev mutual
   pub Spells : Expr → List ℕ → Type 0
   Spells (atom a) s = SpellsAtom a s

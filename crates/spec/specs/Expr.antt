@@ -120,7 +120,7 @@ atom-bytes (array bs) = array-head (length bs) ++ bs
 atom-bytes (int v) = (0x80 + v) ∷ []
 atom-bytes (ref m n) = marker-bytes m ++ (n ∷ [])
 
--- "01 .. 02: form: the expressions between"
+-- "01 .. 02", "form: the expressions between"
 unfoldable mutual
   pub bytes : Expr → List ℕ
   bytes (atom a) = atom-bytes a
