@@ -14,6 +14,7 @@ use Rattle.spec.specs.Runs.{End, done, stopped, cut, steps-in}
 use Rattle.spec.specs.Evaluation.{run, result}
 use Rattle.spec.specs.Calls.{Answer, refusal, filled, row-at, end-answer}
 use Rattle.laws.specs.Demands.{Bytes, Lent, evaluation, step-rows, step-places, all-steps, with-steps, Counted}
+use Rattle.laws.proofs.Basics.{impossible}
 use Rattle.laws.proofs.Reading.{read-refused}
 use Rattle.laws.proofs.Runs.{all-step-rows, cut-enough, cut-short, cut-own}
 use Rattle.laws.proofs.Values.{not-rule, run-proper}
@@ -145,7 +146,7 @@ ran-all-steps s l h r = go (way s (l .table))
     refused-way y v p u k e = let z : 0 ≡ v = sym h ∙ ap (λ (a : Answer). a .number) (evaluation-answered s l y ∙ e) in omega arith
 
     go : (y : Way s (l .table)) → steps-in (run (r .meaning) .events) ≡ length (all-steps s l)
-    go (unread v p e) = absurd (let z : _≡_ {A = ℕ} 0 1 = cc (r .reads, e) in omega arith)
+    go (unread v p e) = impossible (cc (r .reads, e))
     go (unversioned rs es e x) = absurd (refused-way (unversioned rs es e x) 9 0 (filled rs (l .table)) (omega arith) refl)
     go (wrong-version rs es e x y) = absurd (refused-way (wrong-version rs es e x y) 10 0 (filled rs (l .table)) (omega arith) refl)
     go (runs rs es e x y) =

@@ -1,3 +1,4 @@
+pub mod Basics
 pub mod Fits
 pub mod Canonical
 pub mod Spelling

@@ -11,6 +11,7 @@ use Rattle.spec.specs.Expr.{if_then_else_, Atom, Expr, atom, form, Exprs, none,
 use Rattle.spec.specs.Reading.{Taken, taken, failed, read-atom, Token, opening, closing, whole, bad, atom-token, token, further, tokens, right, check, put, wrap, lists, Row, readable, read}
 use Rattle.laws.specs.Demands.{Bytes}
 use Rattle.laws.specs.Grammar.{Spells, SpellsAll}
+use Rattle.laws.proofs.Basics.{impossible}
 use Rattle.laws.proofs.Spelling.{atom-taken}
 use Rattle.laws.proofs.Tokens.{right-opening, right-closing, right-whole, right-bad}
 use Rattle.laws.proofs.Rows.{rows-count}
@@ -47,7 +48,7 @@ wrap-spells (es ∷ fs ∷ ls) s k h =
 first-token : (p : ℕ) (s : List ℕ) (t : Token) (ts : List Token) → tokens p 0 s ≡ t ∷ ts
     → (b : ℕ) × (u : List ℕ) × (s ≡ b ∷ u) × (token p b u ≡ t) × (tokens (p + 1) (further t) u ≡ ts)
 unfolding tokens
-first-token p [] t ts e = absurd (let z : _≡_ {A = ℕ} 0 1 = cc in omega arith)
+first-token p [] t ts e = impossible (cc)
 first-token p (b ∷ u) t ts e =
     let it : token p b u ≡ t = cc in
     let rest : tokens (p + 1) (further (token p b u)) u ≡ ts = cc in
@@ -56,7 +57,7 @@ first-token p (b ∷ u) t ts e =
 no-token : (p : ℕ) (s : List ℕ) → tokens p 0 s ≡ [] → s ≡ []
 unfolding tokens
 no-token p [] e = refl
-no-token p (b ∷ u) e = absurd (let z : _≡_ {A = ℕ} 0 1 = cc in omega arith)
+no-token p (b ∷ u) e = impossible (cc)
 
 -- which bytes a token comes from
 data From (p b : ℕ) (s : List ℕ) : Token → Type 0 where
@@ -78,21 +79,21 @@ token-from p b s = go (eqb b 0x01) refl (eqb b 0x02) refl (read-atom b s) refl
 
 from-opening : {p b : ℕ} {s : List ℕ} {t : Token} (q : ℕ) → From p b s t → t ≡ opening q → b ≡ 0x01
 from-opening q (from-01 h) e = h
-from-opening q (from-02 h) e = absurd (let z : _≡_ {A = ℕ} 0 1 = cc in omega arith)
-from-opening q (from-atom a k t h) e = absurd (let z : _≡_ {A = ℕ} 0 1 = cc in omega arith)
-from-opening q from-bad e = absurd (let z : _≡_ {A = ℕ} 0 1 = cc in omega arith)
+from-opening q (from-02 h) e = impossible (cc)
+from-opening q (from-atom a k t h) e = impossible (cc)
+from-opening q from-bad e = impossible (cc)
 
 from-closing : {p b : ℕ} {s : List ℕ} {t : Token} (q : ℕ) → From p b s t → t ≡ closing q → b ≡ 0x02
-from-closing q (from-01 h) e = absurd (let z : _≡_ {A = ℕ} 0 1 = cc in omega arith)
+from-closing q (from-01 h) e = impossible (cc)
 from-closing q (from-02 h) e = h
-from-closing q (from-atom a k t h) e = absurd (let z : _≡_ {A = ℕ} 0 1 = cc in omega arith)
-from-closing q from-bad e = absurd (let z : _≡_ {A = ℕ} 0 1 = cc in omega arith)
+from-closing q (from-atom a k t h) e = impossible (cc)
+from-closing q from-bad e = impossible (cc)
 
 from-whole : {p b : ℕ} {s : List ℕ} {t : Token} (a : Atom) (q k : ℕ) → From p b s t → t ≡ whole a q k → (u : List ℕ) × (read-atom b s ≡ taken a u)
-from-whole a q k (from-01 h) e = absurd (let z : _≡_ {A = ℕ} 0 1 = cc in omega arith)
-from-whole a q k (from-02 h) e = absurd (let z : _≡_ {A = ℕ} 0 1 = cc in omega arith)
+from-whole a q k (from-01 h) e = impossible (cc)
+from-whole a q k (from-02 h) e = impossible (cc)
 from-whole a q k (from-atom c j t h) e = let same : c ≡ a = cc in (t, h ∙ ap (λ (x : Atom). taken x t) same)
-from-whole a q k from-bad e = absurd (let z : _≡_ {A = ℕ} 0 1 = cc in omega arith)
+from-whole a q k from-bad e = impossible (cc)
 
 close-spells : (ls : List Exprs) (s : List ℕ) → SpellsLists ls s → SpellsLists (none ∷ ls) (0x02 ∷ s)
 close-spells [] s h = absurd h

@@ -12,6 +12,7 @@ use native.Mathlib.Numerals.{add-one}
 use Rattle.spec.specs.Expr.{if_then_else_, Atom, Expr, atom, form, Exprs, none, more, rows, rows-all, depth, deepest, bytes, canonical}
 use Rattle.spec.specs.Reading.{Token, opening, closing, whole, bad, token, tokens, Verdict, right, wrong, check, put, wrap, lists, Row, rows-of, refused, readable, by-verdict, read}
 use Rattle.laws.specs.Demands.{Bytes, meaning-of}
+use Rattle.laws.proofs.Basics.{impossible}
 use Rattle.laws.proofs.Fits.{FitsExpr, FitsAll}
 use Rattle.laws.specs.Grammar.{SpellsAtom, Spells, SpellsAll}
 use Rattle.laws.proofs.Spelling.{Front, front, canonical-atom}
@@ -87,9 +88,9 @@ read-readable s room rs es h = go (ltb 65536 (length s)) refl (check (length s) 
   where
     go : (b : Bool) → ltb 65536 (length s) ≡ b → (v : Verdict) → check (length s) room (tokens 0 0 s) 0 0 ≡ v
         → (if b then refused 1 0 else by-verdict v (tokens 0 0 s)) ≡ readable rs es → Readable s room rs es
-    go true e v k h = absurd (let z : _≡_ {A = ℕ} 0 1 = cc in omega arith)
+    go true e v k h = impossible (cc)
     go false e right k h = record { short = ltb-false 65536 (length s) e; passes = k; rows-are = cc; means = cc }
-    go false e (wrong w p) k h = absurd (let z : _≡_ {A = ℕ} 0 1 = cc in omega arith)
+    go false e (wrong w p) k h = impossible (cc)
 
 pub readable-read : (s : List ℕ) (room : ℕ) → length s ≤ 65536 → check (length s) room (tokens 0 0 s) 0 0 ≡ right
     → read s room ≡ readable (rows-of (tokens 0 0 s)) (meaning-of s)
@@ -112,7 +113,7 @@ module _ (most : ℕ) (s : List ℕ) (room : ℕ) (stream : Bytes s) (seven : 7 
       go : (c : Bool) (v : Verdict) → RefusalInside most (length s) v → (if c then refused 1 0 else by-verdict v (tokens 0 0 s)) ≡ refused w p
           → (1 ≤ w) × (w ≤ most) × (p ≤ length s)
       go true v r h = let number : 1 ≡ w = cc in let place : 0 ≡ p = cc in omega arith
-      go false right r h = absurd (let z : _≡_ {A = ℕ} 0 1 = cc in omega arith)
+      go false right r h = impossible (cc)
       go false (wrong v q) r h = let number : v ≡ w = cc in let place : q ≡ p = cc in omega (arith, r .0, r .1, r .2)
 
 pub read-refused : (s : List ℕ) (room w p : ℕ) → Bytes s → read s room ≡ refused w p → (1 ≤ w) × (w ≤ 8) × (p ≤ length s)

@@ -11,6 +11,7 @@ use native.Mathlib.Omega.{arith}
 use Rattle.spec.specs.Expr.{if_then_else_}
 use Rattle.spec.specs.Runs.{Event, step, charge, End, done, stopped, Run, follow, bind, cut, steps-in}
 use Rattle.laws.specs.Demands.{step-rows}
+use Rattle.laws.proofs.Basics.{impossible}
 
 module _ {A B : Type 0} where
   pub bind-end : (run : Run A) (f : A → Run B) (a : A) → run .end ≡ done a → bind run f .end ≡ f a .end
@@ -21,7 +22,7 @@ module _ {A B : Type 0} where
     where
       go : (e : End A) → run .end ≡ e → follow (run .events) e f .end ≡ done b → (a : A) × (run .end ≡ done a) × (f a .end ≡ done b)
       go (done a) q h = (a, q, h)
-      go (stopped w r) q h = absurd (let z : _≡_ {A = ℕ} 0 1 = cc in omega arith)
+      go (stopped w r) q h = impossible (cc)
 
 -- all charges together
 unfoldable pub charges : List Event → ℕ
@@ -66,7 +67,7 @@ module _ {A : Type 0} where
     pub work : charges es ≤ w
 
   not-stopped : (b : Bool) (w r : ℕ) (x : End A) (a : A) → (if b then stopped w r else x) ≡ done a → (b ≡ false) × (x ≡ done a)
-  not-stopped true w r x a h = absurd (let z : _≡_ {A = ℕ} 0 1 = cc in omega arith)
+  not-stopped true w r x a h = impossible (cc)
   not-stopped false w r x a h = (refl, h)
 
   pub cut-done : (es : List Event) (e : End A) (n w : ℕ) (a : A) → cut n w es e ≡ done a → Within n w es e a

@@ -13,6 +13,7 @@ use Rattle.spec.specs.Expr.{if_then_else_, Atom, nil, array, int, ref, array-he
 use Rattle.spec.specs.Reading.{Taken, taken, failed, and-then, take-bytes, natural, as-length, plain-length, length-expr, marker, name, as-array, read-atom}
 use Rattle.laws.specs.Demands.{Bytes}
 use Rattle.laws.specs.Grammar.{SpellsLength, as-int, as-small, as-generic, SpellsArray, small, generic, SpellsAtom}
+use Rattle.laws.proofs.Basics.{impossible}
 use Rattle.laws.proofs.Fits.{Fits}
 use Rattle.laws.proofs.Canonical.{Head, one-byte, three-bytes, four-bytes, array-head-is, Mark, short, long, marker-bytes-are}
 
@@ -202,10 +203,10 @@ by-choice false x y z f g h = g refl h
 then-taken : {A B : Type 0} (x : Taken A) (f : A → List ℕ → Taken B) (b : B) (t : List ℕ) → and-then x f ≡ taken b t
     → (a : A) × (s : List ℕ) × (x ≡ taken a s) × (f a s ≡ taken b t)
 then-taken (taken a s) f b t h = (a, s, refl, h)
-then-taken (failed w s) f b t h = absurd (let z : _≡_ {A = ℕ} 0 1 = cc in omega arith)
+then-taken (failed w s) f b t h = impossible (cc)
 
 never-taken : {A : Type 0} (w : ℕ) (s t : List ℕ) (a : A) → failed w s ≡ taken a t → ⊥
-never-taken w s t a h = let z : _≡_ {A = ℕ} 0 1 = cc in omega arith
+never-taken w s t a h = impossible (cc)
 
 -- the bytes taken, and those left
 take-taken : (n : ℕ) (s bs t : List ℕ) → take-bytes n s ≡ taken bs t → (s ≡ bs ++ t) × (length bs ≡ n)

@@ -11,13 +11,14 @@ use native.Mathlib.Omega.{arith}
 use Rattle.spec.specs.Expr.{if_then_else_, Atom, atom-bytes}
 use Rattle.spec.specs.Reading.{Taken, taken, failed, read-atom, Token, opening, closing, whole, bad, atom-token, token, further, tokens, Verdict, right, wrong, check}
 use Rattle.laws.specs.Demands.{Bytes}
+use Rattle.laws.proofs.Basics.{impossible}
 use Rattle.laws.proofs.Fits.{Fits}
 use Rattle.laws.proofs.Spelling.{front, canonical-atom}
 use Rattle.laws.proofs.Atoms.{Off, AtomOf, off-atom}
 
 -- a verdict is right only by way of the branch that does not refuse
 not-refused : (b : Bool) (w p : ℕ) (v : Verdict) → (if b then wrong w p else v) ≡ right → (b ≡ false) × (v ≡ right)
-not-refused true w p v h = absurd (let z : _≡_ {A = ℕ} 0 1 = cc in omega arith)
+not-refused true w p v h = impossible (cc)
 not-refused false w p v h = (refl, h)
 
 module _ (end room : ℕ) where
@@ -27,7 +28,7 @@ module _ (end room : ℕ) where
     where
       go : (b : Bool) → eqb d 0 ≡ b → (if b then right else wrong 2 end) ≡ right → d ≡ 0
       go true e h = eqb-true d 0 e
-      go false e h = absurd (let z : _≡_ {A = ℕ} 0 1 = cc in omega arith)
+      go false e h = impossible (cc)
 
   pub right-opening : (ts : List Token) (p d n : ℕ) → check end room (opening p ∷ ts) d n ≡ right
       → (d < 64) × (n < room) × (check end room ts (d + 1) (n + 1) ≡ right)
@@ -53,7 +54,7 @@ module _ (end room : ℕ) where
 
   pub right-bad : (ts : List Token) (w p d n : ℕ) → check end room (bad w p ∷ ts) d n ≡ right → ⊥
   unfolding check
-  right-bad ts w p d n h = let z : _≡_ {A = ℕ} 0 1 = cc in omega arith
+  right-bad ts w p d n h = impossible (cc)
 
 -- Where tokens lie
 

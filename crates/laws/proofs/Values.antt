@@ -14,6 +14,7 @@ use Rattle.spec.specs.Plan.{Defined, value, function, Definition, Scope, Found,
 use Rattle.spec.specs.Evaluation.{Left, complete, join, Call, one-value, finish, Meaning, in-order, ns-form, perform, eval, eval-all, run-code, top-level, standing, start, run, result}
 use Rattle.laws.specs.Demands.{Bytes}
 use Rattle.laws.specs.Sanity.{RowsBelow, rule-number, RuleNumber, Proper}
+use Rattle.laws.proofs.Basics.{impossible}
 use Rattle.laws.proofs.Fits.{bytes-append, Fits, FitsExpr, FitsAll}
 use Rattle.laws.proofs.Charges.{Ends, complete-cases}
 
@@ -59,7 +60,7 @@ call-fits false vs f = (f, tt)
 
 -- 16, 17 and 18 are no rule's numbers: `not-rule refl`
 pub not-rule : {v w : ℕ} → rule-number v ≡ false → RuleNumber w → w ≡ v → ⊥
-not-rule n p q = let z : _≡_ {A = ℕ} 0 1 = cc in omega arith
+not-rule n p q = impossible (cc)
 
 -- What is so in a stream of so many rows
 module _ (bound : ℕ) where
