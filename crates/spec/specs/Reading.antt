@@ -187,10 +187,11 @@ unfoldable pub next-row : ℕ → List Row → ℕ
 next-row e [] = 0
 next-row e (r ∷ rs) = if leb e (r .start) then 0 else 1 + next-row e rs
 
--- "four numbers a row", of some of all rows
+-- "four numbers a row"
 abbrev pub row-width : ℕ
 row-width = 4
 
+-- the numbers of some of all rows
 unfoldable pub numbers : List Row → List Row → List ℕ
 numbers all [] = []
 numbers all (r ∷ rs) = r .kind ∷ r .start ∷ r .end ∷ next-row (r .end) all ∷ numbers all rs
