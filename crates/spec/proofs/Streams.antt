@@ -1,6 +1,6 @@
--- Document 01, "Streams to try": the starred ones, each call with its answer, in one table under one claim. And a second table: for "Errors
--- that come easily", whose answers a definition with such an error does not give; for the table that Evaluate leaves; for Item; and for the
--- refusals that no starred stream is given.
+-- Document 01, "Streams to try": the starred ones, each call with its answer, in one table under one claim. And two more
+-- tables: for "Errors that come easily", whose answers a definition with such an error does not give, with Item and the table that Evaluate
+-- leaves; and for the refusals that no starred stream is given.
 use Prim.Native.Nat.{ℕ, zero, suc}
 use mathlib.Core.Path.{_≡_, refl}
 use mathlib.Core.List.{List, [], _∷_, _++_, map}
@@ -143,22 +143,9 @@ starred-hold : answers starred ≡ map expected starred
 unfolding answers expected starred refusal result-is version-form ns-form define-85 define-89 word-28-01 N call-l
 starred-hold = refl
 
--- n forms one inside another, and their bytes around some others
-form-in : ℕ → Exprs
-form-in zero = none
-form-in (suc n) = only (form (form-in n))
-
-nested : ℕ → List ℕ → List ℕ
-nested n s = replicate n 0x01 ++ s ++ replicate n 0x02
-
--- functions 28 00 to 28 n: the first gives 85, each other calls the one before
-chain : ℕ → List ℕ
-chain zero = 0x01 ∷ 0x20 ∷ 0x09 ∷ 0x28 ∷ 0x00 ∷ 0x01 ∷ 0x20 ∷ 0x0B ∷ 0x85 ∷ 0x02 ∷ 0x02 ∷ []
-chain (suc n) = chain n ++ (0x01 ∷ 0x20 ∷ 0x09 ∷ 0x28 ∷ suc n ∷ 0x01 ∷ 0x20 ∷ 0x0B ∷ 0x01 ∷ 0x28 ∷ n ∷ 0x02 ∷ 0x02 ∷ 0x02 ∷ [])
-
 -- Leaving 7F out of the sum is ruled out by f*.
-others : List Case
-others =
+errors : List Case
+errors =
     -- the listing's example
     (reads (0x01 ∷ 0x20 ∷ 0x00 ∷ 0x81 ∷ 0x80 ∷ 0x02 ∷ 0x00 ∷ []) 20
     gives told 0 0 5 0 (1 ∷ 0 ∷ 6 ∷ 4 ∷ 4 ∷ 1 ∷ 3 ∷ 2 ∷ 3 ∷ 3 ∷ 4 ∷ 3 ∷ 3 ∷ 4 ∷ 5 ∷ 4 ∷ 0 ∷ 6 ∷ 7 ∷ 5 ∷ [])) ∷
@@ -185,6 +172,27 @@ others =
     -- the table holds the rows when steps run out, and is unchanged when reading refuses
     (fills version-form 17 0 gives told 16 0 0 0 (1 ∷ 0 ∷ 6 ∷ 4 ∷ 4 ∷ 1 ∷ 3 ∷ 2 ∷ 3 ∷ 3 ∷ 4 ∷ 3 ∷ 3 ∷ 4 ∷ 5 ∷ 4 ∷ 238 ∷ [])) ∷
     (fills (0x02 ∷ []) 4 9 gives refusal 3 0 4) ∷
+    []
+
+errors-ruled-out : answers errors ≡ map expected errors
+unfolding answers expected errors refusal result-is version-form ns-form define-85 define-89 word-28-01 N
+errors-ruled-out = refl
+
+-- n forms one inside another, and their bytes around some others
+form-in : ℕ → Exprs
+form-in zero = none
+form-in (suc n) = only (form (form-in n))
+
+nested : ℕ → List ℕ → List ℕ
+nested n s = replicate n 0x01 ++ s ++ replicate n 0x02
+
+-- functions 28 00 to 28 n: the first gives 85, each other calls the one before
+chain : ℕ → List ℕ
+chain zero = 0x01 ∷ 0x20 ∷ 0x09 ∷ 0x28 ∷ 0x00 ∷ 0x01 ∷ 0x20 ∷ 0x0B ∷ 0x85 ∷ 0x02 ∷ 0x02 ∷ []
+chain (suc n) = chain n ++ (0x01 ∷ 0x20 ∷ 0x09 ∷ 0x28 ∷ suc n ∷ 0x01 ∷ 0x20 ∷ 0x0B ∷ 0x01 ∷ 0x28 ∷ n ∷ 0x02 ∷ 0x02 ∷ 0x02 ∷ [])
+
+refusals : List Case
+refusals =
     -- 1: a byte too many. 6: 64 forms and one more; nine bytes 03; a value 65 deep. 7: a marker of 65,662. 8: a table of one row
     (reads (replicate 65537 0x00) 4 gives refusal 1 0 4) ∷
     (means (nested 64 []) gives meaning (form-in 64)) ∷
@@ -220,6 +228,6 @@ others =
     (evaluates (version-form ++ ns-form ++ chain 32 ++ (0x01 ∷ 0x28 ∷ 0x20 ∷ 0x02 ∷ [])) 65536 15 999 gives refusal 19 33 15) ∷
     []
 
-others-hold : answers others ≡ map expected others
-unfolding answers expected others refusal result-is version-form ns-form define-85 define-89 word-28-01 N form-in nested chain
-others-hold = refl
+refusals-hold : answers refusals ≡ map expected refusals
+unfolding answers expected refusals refusal result-is version-form ns-form word-28-01 form-in nested chain
+refusals-hold = refl
