@@ -1,7 +1,7 @@
--- Laws of the calls: the ways in which Write and Evaluate answer, and what follows from an acceptance.
+-- Laws of the calls: the ways in which they answer, what they leave in the buffers, and what follows from an acceptance.
 use Prim.Native.Nat.{ℕ, _/_, _≤_, _<_, min}
 use mathlib.Core.Path.{_≡_, refl, ap, _∙_}
-use mathlib.Core.List.{List}
+use mathlib.Core.List.{List, []}
 use mathlib.Core.Bool.{Bool, true, false, not}
 use lib.ListN.{length, take, drop, length-append, length-drop}
 use lib.Seq.{take-append-seam}
@@ -12,7 +12,7 @@ use Rattle.spec.specs.Expr.{if_then_else_, same, Exprs, canonical}
 use Rattle.spec.specs.Reading.{tokens, Row, rows-of, numbers, Reading, refused, readable}
 use Rattle.spec.specs.Runs.{End, done, stopped, cut, steps-in}
 use Rattle.spec.specs.Evaluation.{run, result}
-use Rattle.spec.specs.Calls.{Answer, refusal, acceptance, over, filled, put-out, once-read, reading, Write, is-versioned, version-bytes, row-at, end-answer, run-answer, Evaluate}
+use Rattle.spec.specs.Calls.{Answer, refusal, acceptance, over, filled, put-out, once-read, reading, Read, Write, is-versioned, version-bytes, row-at, end-answer, run-answer, Evaluate}
 use Rattle.laws.specs.Demands.{Bytes, Kept, Lent, evaluation, result-bytes}
 use Rattle.laws.specs.Sanity.{RuleNumber}
 use Rattle.laws.proofs.Fits.{FitsAll}
@@ -69,26 +69,23 @@ filled-length s t rs es e =
 pub put-out-bytes : (bs : List ℕ) (k : ℕ) (t o : List ℕ) → result-bytes (acceptance (length bs) k t (over bs o)) ≡ bs
 put-out-bytes bs k t o = take-append-seam bs (drop (length bs) o)
 
--- Write
+-- Read and Write
 
-pub record Written (s t o : List ℕ) : Type 0 where
-  pub rows : List Row
-  pub meaning : Exprs
-  pub reads : reading s t ≡ readable rows meaning
-  pub is : Write s t o ≡ acceptance (length (canonical meaning)) 0 (filled rows t) (over (canonical meaning) o)
-
-pub written : (s t o : List ℕ) → Bytes s → Write s t o .number ≡ 0 → Written s t o
-unfolding Write
-written s t o b h = go (reading s t) refl h
+-- what holds of an answer that follows reading: the refusal, or what is done with the rows and the meaning
+pub once-read-cases : (P : Answer → Type 0) (s t o : List ℕ) (go : List Row → Exprs → Answer)
+    → ((w p : ℕ) → reading s t ≡ refused w p → P (refusal w p t o)) → ((rs : List Row) (es : Exprs) → reading s t ≡ readable rs es → P (go rs es))
+    → P (once-read t o go (reading s t))
+once-read-cases P s t o go f g = cases (reading s t) refl
   where
-    answer : Reading → Answer
-    answer = once-read t o (λ rs es. put-out (canonical es) 0 (filled rs t) o)
+    cases : (r : Reading) → reading s t ≡ r → P (once-read t o go r)
+    cases (refused w p) e = f w p e
+    cases (readable rs es) e = g rs es e
 
-    go : (r : Reading) → reading s t ≡ r → answer r .number ≡ 0 → Written s t o
-    go (refused w p) e h = absurd (omega (arith, read-refused s (length t / 4) w p b e .0))
-    go (readable rs es) e h =
-        let room = put-room (put-out-is (canonical es) 0 (filled rs t) o) h in
-        record { rows = rs; meaning = es; reads = e; is = ap answer e ∙ put-out-room (canonical es) 0 (filled rs t) o room }
+pub read-kept : (s t : List ℕ) → Kept t [] (Read s t)
+unfolding Read
+read-kept s t =
+    once-read-cases (Kept t []) s t [] (λ rs es. acceptance (length rs) 0 (filled rs t) []) (λ w p e. refusal-kept w p t [] t refl)
+    (λ rs es e. record { tables = filled-length s t rs es e; outputs = refl; refused = λ z. refl })
 
 module _ (s t o : List ℕ) (rs : List Row) (es : Exprs) (reads : reading s t ≡ readable rs es) where
   pub write-out : length (canonical es) ≤ length o → Write s t o ≡ acceptance (length (canonical es)) 0 (filled rs t) (over (canonical es) o)
@@ -99,13 +96,28 @@ module _ (s t o : List ℕ) (rs : List Row) (es : Exprs) (reads : reading s t �
   unfolding Write
   write-room h = put-room (put-out-is (canonical es) 0 (filled rs t) o) (rw reads at h)
 
-pub write-kept : (s t o : List ℕ) → Kept t o (Write s t o)
+pub write-cases : (P : Answer → Type 0) (s t o : List ℕ) → ((w p : ℕ) → reading s t ≡ refused w p → P (refusal w p t o))
+    → ((rs : List Row) (es : Exprs) → reading s t ≡ readable rs es → P (put-out (canonical es) 0 (filled rs t) o)) → P (Write s t o)
 unfolding Write
-write-kept s t o = go (reading s t) refl
-  where
-    go : (r : Reading) → reading s t ≡ r → Kept t o (once-read t o (λ rs es. put-out (canonical es) 0 (filled rs t) o) r)
-    go (refused w p) e = refusal-kept w p t o t refl
-    go (readable rs es) e = put-kept t (filled-length s t rs es e) (put-out-is (canonical es) 0 (filled rs t) o)
+write-cases P s t o f g = once-read-cases P s t o (λ rs es. put-out (canonical es) 0 (filled rs t) o) f g
+
+pub write-kept : (s t o : List ℕ) → Kept t o (Write s t o)
+write-kept s t o =
+    write-cases (Kept t o) s t o (λ w p e. refusal-kept w p t o t refl)
+    (λ rs es e. put-kept t (filled-length s t rs es e) (put-out-is (canonical es) 0 (filled rs t) o))
+
+-- an acceptance
+pub record Written (s t o : List ℕ) : Type 0 where
+  pub rows : List Row
+  pub meaning : Exprs
+  pub reads : reading s t ≡ readable rows meaning
+  pub is : Write s t o ≡ acceptance (length (canonical meaning)) 0 (filled rows t) (over (canonical meaning) o)
+
+pub written : (s t o : List ℕ) → Bytes s → Write s t o .number ≡ 0 → Written s t o
+written s t o b h =
+    write-cases (λ (a : Answer). a .number ≡ 0 → Written s t o) s t o
+    (λ w p e z. absurd (omega (arith, read-refused s (length t / 4) w p b e .0)))
+    (λ rs es e z. record { rows = rs; meaning = es; reads = e; is = write-out s t o rs es e (write-room s t o rs es e h) }) h
 
 -- Evaluate
 

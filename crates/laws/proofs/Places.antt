@@ -1,19 +1,19 @@
 -- Where rows and refusals are: rows in order and in the stream, and no place past the stream's end.
 use Prim.Native.Nat.{ℕ, _/_, _≤_, _<_, min}
-use mathlib.Core.Path.{_≡_, refl}
+use mathlib.Core.Path.{_≡_}
 use mathlib.Core.List.{List, []}
 use lib.ListN.{length}
 use native.Mathlib.Omega.{arith}
 use Rattle.spec.specs.Expr.{Exprs, canonical}
-use Rattle.spec.specs.Reading.{tokens, Row, Reading, refused, readable, read}
+use Rattle.spec.specs.Reading.{tokens, Row, readable, read}
 use Rattle.spec.specs.Runs.{End, done, stopped, cut, steps-in}
 use Rattle.spec.specs.Evaluation.{run, result}
-use Rattle.spec.specs.Calls.{acceptance, filled, put-out, once-read, reading, row-at, end-answer, Read, Write}
+use Rattle.spec.specs.Calls.{Answer, acceptance, filled, row-at, end-answer, Read, Write}
 use Rattle.laws.specs.Demands.{Bytes, Lent, evaluation}
 use Rattle.laws.specs.Sanity.{Inside}
 use Rattle.laws.proofs.Rows.{rows-ordered, rows-inside, ordered-starts, inside-start}
 use Rattle.laws.proofs.Reading.{stream-laid, Readable, read-readable, read-refused}
-use Rattle.laws.proofs.Calls.{put-out-is, put-place, Way, unread, unversioned, wrong-version, runs, way, answered, evaluation-answered}
+use Rattle.laws.proofs.Calls.{put-out-is, put-place, once-read-cases, write-cases, Way, unread, unversioned, wrong-version, runs, way, answered, evaluation-answered}
 
 -- Rows
 
@@ -33,19 +33,14 @@ module _ (s : List ℕ) (room : ℕ) (rs : List Row) (es : Exprs) (stream : Byte
 
 pub read-at-most : (s t : List ℕ) → Bytes s → Read s t .place ≤ length s
 unfolding Read
-read-at-most s t b = go (reading s t) refl
-  where
-    go : (r : Reading) → reading s t ≡ r → once-read t [] (λ rs es. acceptance (length rs) 0 (filled rs t) []) r .place ≤ length s
-    go (refused w p) e = read-refused s (length t / 4) w p b e .2
-    go (readable rs es) e = omega arith
+read-at-most s t b =
+    once-read-cases (λ (a : Answer). a .place ≤ length s) s t [] (λ rs es. acceptance (length rs) 0 (filled rs t) [])
+    (λ w p e. read-refused s (length t / 4) w p b e .2) (λ rs es e. omega arith)
 
 pub write-at-most : (s t o : List ℕ) → Bytes s → Write s t o .place ≤ length s
-unfolding Write
-write-at-most s t o b = go (reading s t) refl
-  where
-    go : (r : Reading) → reading s t ≡ r → once-read t o (λ rs es. put-out (canonical es) 0 (filled rs t) o) r .place ≤ length s
-    go (refused w p) e = read-refused s (length t / 4) w p b e .2
-    go (readable rs es) e = omega (arith, put-place (put-out-is (canonical es) 0 (filled rs t) o))
+write-at-most s t o b =
+    write-cases (λ (a : Answer). a .place ≤ length s) s t o (λ w p e. read-refused s (length t / 4) w p b e .2)
+    (λ rs es e. omega (arith, put-place (put-out-is (canonical es) 0 (filled rs t) o)))
 
 pub evaluation-at-most : (s : List ℕ) (l : Lent) → Bytes s → evaluation s l .place ≤ length s
 evaluation-at-most s l b = rw (evaluation-answered s l (way s t)) (go (way s t))

@@ -17,7 +17,7 @@ use Rattle.laws.proofs.Reading.{read-readable, read-refused-roomy, read
 use Rattle.laws.proofs.Parsing.{read-spells}
 use Rattle.laws.proofs.Items.{spelled-rows, item-spelled, item-past}
 use Rattle.laws.proofs.Values.{run-proper}
-use Rattle.laws.proofs.Calls.{put-out-bytes, write-out, write-room, write-kept, evaluation-kept}
+use Rattle.laws.proofs.Calls.{put-out-bytes, read-kept, write-out, write-room, write-kept, evaluation-kept}
 use Rattle.laws.proofs.Results.{meant, canonical-reads, same-canonical, written-same, writing, written-means, written-canonical, written-reads, written-stream, left-canonical, left-length, left-stream, left-reads, same-prefix}
 use Rattle.laws.proofs.Places.{read-order, read-inside, read-at-most, write-at-most, evaluation-at-most}
 use Rattle.laws.proofs.Retry.{evaluate-alike}
@@ -35,6 +35,9 @@ unreadable s l w p h = (rw h, rw h, rw h)
 pub read-table : (s t : List ℕ) (rs : List Row) (es : Exprs) → reading s t ≡ readable rs es → Read s t ≡ acceptance (length rs) 0 (filled rs t) []
 unfolding Read
 read-table s t rs es h = rw h
+
+pub read-keeps : (s t : List ℕ) → Kept t [] (Read s t)
+read-keeps = read-kept
 
 pub write-keeps : (s t o : List ℕ) → Kept t o (Write s t o)
 write-keeps = write-kept
