@@ -1,7 +1,7 @@
--- Document 01, "Streams to try": the starred ones, each call with its answer, in one table under one claim. And two more
+-- Document 01, "Streams to try": the starred ones, each call with its answer, in one table under one claim. And three more
 -- tables: for "Errors that come easily", whose answers a definition with such an error does not give, with Item and the table that Evaluate
--- leaves; and for the refusals that no starred stream is given.
-use Prim.Native.Nat.{ℕ, zero, suc}
+-- leaves; for the rules, at their bounds and as written wrongly; and for the refusals that no starred stream is given, with their limits.
+use Prim.Native.Nat.{ℕ, zero, suc, _+_}
 use mathlib.Core.Path.{_≡_, refl}
 use mathlib.Core.List.{List, [], _∷_, _++_, map}
 use lib.ListN.{length, replicate}
@@ -21,7 +21,7 @@ data Request : Type 0 where
   means : List ℕ → Request
   -- stream, table, output
   writes : List ℕ → ℕ → ℕ → Request
-  -- stream, workspace, output, steps; the table has 300 rows
+  -- stream, workspace, output, steps; the table has 1,050 rows
   evaluates : List ℕ → ℕ → ℕ → ℕ → Request
   -- stream, table, steps: the table that Evaluate leaves
   fills : List ℕ → ℕ → ℕ → Request
@@ -55,7 +55,7 @@ answer : Request → Told
 answer (reads s t) = with-table (Read s (before t))
 answer (means s) = meant (read s (length s))
 answer (writes s t o) = with-output (Write s (before t) (before o))
-answer (evaluates s w o n) = with-output (Evaluate s (before 1200) w (before o) n)
+answer (evaluates s w o n) = with-output (Evaluate s (before 4200) w (before o) n)
 answer (fills s t n) = with-table (Evaluate s (before t) 65536 [] n)
 answer (items s r b k) = item-is (Item s r b k)
 
@@ -191,6 +191,75 @@ chain : ℕ → List ℕ
 chain zero = 0x01 ∷ 0x20 ∷ 0x09 ∷ 0x28 ∷ 0x00 ∷ 0x01 ∷ 0x20 ∷ 0x0B ∷ 0x85 ∷ 0x02 ∷ 0x02 ∷ []
 chain (suc n) = chain n ++ (0x01 ∷ 0x20 ∷ 0x09 ∷ 0x28 ∷ suc n ∷ 0x01 ∷ 0x20 ∷ 0x0B ∷ 0x01 ∷ 0x28 ∷ n ∷ 0x02 ∷ 0x02 ∷ 0x02 ∷ [])
 
+-- an ns form with an id of n bytes
+named : ℕ → List ℕ
+named n = (0x01 ∷ 0x20 ∷ 0x06 ∷ 0x29 ∷ 0x00 ∷ 0x03 ∷ 0xC1 ∷ n ∷ []) ++ replicate n 0x41 ++ (0x02 ∷ [])
+
+-- some bytes n times
+again : ℕ → List ℕ → List ℕ
+again zero s = []
+again (suc n) s = s ++ again n s
+
+-- n ns forms
+spaces : ℕ → List ℕ
+spaces zero = []
+spaces (suc n) = spaces n ++ (0x01 ∷ 0x20 ∷ 0x06 ∷ (0x28 + n) ∷ 0x00 ∷ 0xC1 ∷ n ∷ 0x02 ∷ [])
+
+-- a function 28 02 that gives its first argument
+identity : List ℕ
+identity = 0x01 ∷ 0x20 ∷ 0x09 ∷ 0x28 ∷ 0x02 ∷ 0x01 ∷ 0x20 ∷ 0x0B ∷ 0x01 ∷ 0x20 ∷ 0x0C ∷ 0x80 ∷ 0x02 ∷ 0x02 ∷ 0x02 ∷ []
+
+rules : List Case
+rules =
+    -- the kinds of the four atoms and of a form
+    (reads (0x00 ∷ 0xC1 ∷ 0xAA ∷ 0x81 ∷ 0x28 ∷ 0x00 ∷ 0x01 ∷ 0x02 ∷ []) 20
+    gives told 0 0 5 0 (0 ∷ 0 ∷ 1 ∷ 1 ∷ 2 ∷ 1 ∷ 3 ∷ 2 ∷ 3 ∷ 3 ∷ 4 ∷ 3 ∷ 4 ∷ 4 ∷ 6 ∷ 4 ∷ 1 ∷ 6 ∷ 8 ∷ 5 ∷ [])) ∷
+    -- 11: too few and too many elements
+    (evaluates (version-form ++ ns-form ++ (0x01 ∷ 0x20 ∷ 0x0C ∷ 0x02 ∷ [])) 65536 9 99 gives refusal 11 14 9) ∷
+    (evaluates (version-form ++ ns-form ++ (0x01 ∷ 0x20 ∷ 0x0C ∷ 0x80 ∷ 0x80 ∷ 0x02 ∷ [])) 65536 9 99 gives refusal 11 14 9) ∷
+    (evaluates (version-form ++ ns-form ++ (0x01 ∷ 0x20 ∷ 0x0A ∷ 0x02 ∷ [])) 65536 9 99 gives refusal 11 14 9) ∷
+    (evaluates (version-form ++ ns-form ++ (0x01 ∷ 0x20 ∷ 0x0A ∷ 0xC0 ∷ 0xC0 ∷ 0xC0 ∷ 0x02 ∷ [])) 65536 9 99 gives refusal 11 14 9) ∷
+    -- 11: no reference to define, no array for an id, no small integer for n
+    (evaluates (version-form ++ ns-form ++ (0x01 ∷ 0x20 ∷ 0x09 ∷ 0x80 ∷ 0x80 ∷ 0x02 ∷ [])) 65536 9 99 gives refusal 11 14 9) ∷
+    (evaluates (version-form ++ ns-form ++ (0x01 ∷ 0x20 ∷ 0x09 ∷ 0x01 ∷ 0x02 ∷ 0x80 ∷ 0x02 ∷ [])) 65536 9 99 gives refusal 11 14 9) ∷
+    (evaluates (version-form ++ ns-form ++ (0x01 ∷ 0x20 ∷ 0x06 ∷ 0x29 ∷ 0x00 ∷ 0x80 ∷ 0x02 ∷ [])) 65536 9 99 gives refusal 11 14 9) ∷
+    (evaluates (version-form ++ ns-form ++ (0x01 ∷ 0x20 ∷ 0x06 ∷ 0x29 ∷ 0x00 ∷ 0x01 ∷ 0x02 ∷ 0x02 ∷ [])) 65536 9 99 gives refusal 11 14 9) ∷
+    (evaluates (version-form ++ ns-form ++ (0x01 ∷ 0x20 ∷ 0x0C ∷ 0x00 ∷ 0x02 ∷ [])) 65536 9 99 gives refusal 11 14 9) ∷
+    (evaluates (version-form ++ ns-form ++ (0x01 ∷ 0x20 ∷ 0x0C ∷ 0xC0 ∷ 0x02 ∷ [])) 65536 9 99 gives refusal 11 14 9) ∷
+    (evaluates (version-form ++ ns-form ++ (0x01 ∷ 0x20 ∷ 0x0C ∷ 0x28 ∷ 0x01 ∷ 0x02 ∷ [])) 65536 9 99 gives refusal 11 14 9) ∷
+    (evaluates (version-form ++ ns-form ++ (0x01 ∷ 0x20 ∷ 0x0C ∷ 0x01 ∷ 0x02 ∷ 0x02 ∷ [])) 65536 9 99 gives refusal 11 14 9) ∷
+    -- 11: an operand that is a rest form, one that is no array
+    (evaluates (version-form ++ ns-form ++ (0x01 ∷ 0x20 ∷ 0x0A ∷ 0x01 ∷ 0x20 ∷ 0x0D ∷ 0x80 ∷ 0x02 ∷ 0xC0 ∷ 0x02 ∷ [])) 65536 9 99
+    gives refusal 11 14 9) ∷
+    (evaluates (version-form ++ ns-form ++ (0x01 ∷ 0x20 ∷ 0x0A ∷ 0xC0 ∷ 0x01 ∷ 0x20 ∷ 0x0D ∷ 0x80 ∷ 0x02 ∷ 0x02 ∷ [])) 65536 9 99
+    gives refusal 11 14 9) ∷
+    (evaluates (version-form ++ ns-form ++ (0x01 ∷ 0x20 ∷ 0x0A ∷ 0xC0 ∷ 0x01 ∷ 0x02 ∷ 0x02 ∷ [])) 65536 9 99 gives refusal 11 14 9) ∷
+    -- ids of 0, 64 and 65 bytes
+    (evaluates (version-form ++ ns-form ++ (0x01 ∷ 0x20 ∷ 0x06 ∷ 0x29 ∷ 0x00 ∷ 0xC0 ∷ 0x02 ∷ [])) 65536 9 99 gives refusal 11 14 9) ∷
+    (evaluates (version-form ++ named 64) 65536 79 5 gives result-is (version-form ++ named 64) 5) ∷
+    (evaluates (version-form ++ named 65) 65536 80 5 gives refusal 11 6 80) ∷
+    -- 13: ns as an operand, define as an argument of a function and of a subst form
+    (evaluates (version-form ++ ns-form ++ (0x01 ∷ 0x20 ∷ 0x0A ∷ 0x01 ∷ 0x20 ∷ 0x06 ∷ 0x29 ∷ 0x00 ∷ 0xC1 ∷ 0x42 ∷ 0x02 ∷ 0xC0 ∷ 0x02 ∷ [])) 65536 9 99
+    gives refusal 13 17 9) ∷
+    (evaluates (version-form ++ ns-form ++ identity ++ (0x01 ∷ 0x28 ∷ 0x02 ∷ []) ++ define-85 ++ (0x02 ∷ [])) 65536 9 99
+    gives refusal 13 32 9) ∷
+    (evaluates (version-form ++ ns-form ++ (0x01 ∷ 0x01 ∷ 0x20 ∷ 0x0B ∷ 0x02 ∷ []) ++ define-85 ++ (0x02 ∷ [])) 65536 9 99
+    gives refusal 13 19 9) ∷
+    -- 12: a function where a value is wanted. A call gives its argument
+    (evaluates (version-form ++ ns-form ++ identity ++ (0x28 ∷ 0x02 ∷ [])) 65536 9 99 gives refusal 12 29 9) ∷
+    (evaluates (version-form ++ ns-form ++ identity ++ (0x01 ∷ 0x28 ∷ 0x02 ∷ 0x83 ∷ 0x02 ∷ [])) 65536 15 99
+    gives result-is (version-form ++ ns-form ++ (0x83 ∷ [])) 9) ∷
+    -- rest without as many arguments as there are, and without one more
+    (evaluates (version-form ++ (0x01 ∷ 0x01 ∷ 0x20 ∷ 0x0B ∷ 0x01 ∷ 0x20 ∷ 0x0D ∷ 0x81 ∷ 0x02 ∷ 0x02 ∷ 0x83 ∷ 0x02 ∷ [])) 65536 8 99
+    gives result-is (version-form ++ (0x01 ∷ 0x02 ∷ [])) 7) ∷
+    (evaluates (version-form ++ (0x01 ∷ 0x01 ∷ 0x20 ∷ 0x0B ∷ 0x01 ∷ 0x20 ∷ 0x0D ∷ 0x82 ∷ 0x02 ∷ 0x02 ∷ 0x83 ∷ 0x02 ∷ [])) 65536 8 99
+    gives refusal 15 10 8) ∷
+    []
+
+rules-hold : answers rules ≡ map expected rules
+unfolding answers expected rules refusal result-is version-form ns-form define-85 named identity
+rules-hold = refl
+
 refusals : List Case
 refusals =
     -- 1: a byte too many. 6: 64 forms and one more; nine bytes 03; a value 65 deep. 7: a marker of 65,662. 8: a table of one row
@@ -226,8 +295,14 @@ refusals =
     (evaluates (version-form ++ ns-form ++ chain 32 ++ (0x01 ∷ 0x28 ∷ 0x1F ∷ 0x02 ∷ [])) 65536 15 999
     gives result-is (version-form ++ ns-form ++ (0x85 ∷ [])) 71) ∷
     (evaluates (version-form ++ ns-form ++ chain 32 ++ (0x01 ∷ 0x28 ∷ 0x20 ∷ 0x02 ∷ [])) 65536 15 999 gives refusal 19 33 15) ∷
+    -- 19: 64 namespaces, and one more
+    (evaluates (version-form ++ spaces 64) 65536 518 999 gives result-is (version-form ++ spaces 64) 68) ∷
+    (evaluates (version-form ++ spaces 65) 65536 526 999 gives refusal 19 518 526) ∷
+    -- 19: 256 definitions, and one more
+    (evaluates (version-form ++ ns-form ++ again 256 define-85) 65536 14 999 gives result-is (version-form ++ ns-form) 517) ∷
+    (evaluates (version-form ++ ns-form ++ again 257 define-85) 65536 14 999 gives refusal 19 1806 14) ∷
     []
 
 refusals-hold : answers refusals ≡ map expected refusals
-unfolding answers expected refusals refusal result-is version-form ns-form word-28-01 form-in nested chain
+unfolding answers expected refusals refusal result-is version-form ns-form define-85 word-28-01 form-in nested chain again spaces
 refusals-hold = refl
