@@ -6,7 +6,7 @@ use mathlib.Core.Bool.{not}
 use lib.ListN.{length, take}
 use lib.Dec.{ltb}
 use Rattle.spec.specs.Expr.{if_then_else_, same, Exprs, size, first, canonical}
-use Rattle.spec.specs.Reading.{tokens, meaning, Reading, refused, readable}
+use Rattle.spec.specs.Reading.{tokens, meaning, rows-of, Reading, refused, readable, read}
 use Rattle.spec.specs.Runs.{Event, step, charge, End, done, stopped, steps-in}
 use Rattle.spec.specs.Evaluation.{run, result}
 use Rattle.spec.specs.Calls.{Answer, Evaluate, reading, is-versioned, version-bytes, row-at}
@@ -75,6 +75,10 @@ pub record Accepted (s : List ℕ) : Type 0 where
 -- the meaning that `read` gives, if it gives one
 abbrev pub meaning-of : List ℕ → Exprs
 meaning-of s = meaning (tokens 0 0 s)
+
+-- a stream that can be read, rows apart: there are no more rows than bytes
+abbrev pub CanRead : List ℕ → Type 0
+CanRead s = read s (length s) ≡ readable (rows-of (tokens 0 0 s)) (meaning-of s)
 
 -- "The first q top-level expressions of two streams are equal in meaning if each stream has at least q and the two lists of these q
 -- are equal"

@@ -1,0 +1,108 @@
+-- What a token that the code was given says of the stream from its place on: the law behind every loop over tokens.
+use Prim.Native.Nat.{ℕ, _+_, _-_, _≤_, _<_}
+use mathlib.Core.Path.{_≡_, refl, sym, ap, _∙_}
+use mathlib.Core.List.{List, [], _∷_, _++_, append-assoc}
+use native.Mathlib.Omega.{arith}
+use lib.ListN.{length, take, drop, length-append, length-take, length-drop, take-append-drop}
+use lib.Seq.{drop-drop, take-at, drop-at}
+use lib.Dec.{eqb}
+use Rattle.spec.specs.Expr.{if_then_else_, Atom, nil, array, int, ref, array-head, atom-bytes}
+use Rattle.spec.specs.Reading.{Token, opening, closing, whole, bad, atom-kind}
+use Rattle.laws.specs.Demands.{Bytes}
+use Rattle.laws.specs.Grammar.{SpellsArray, small, generic}
+use Rattle.laws.proofs.Steps.{tokens-from, WholeAt, StepAt, step-at}
+use Rattle.atoms.specs.Tokens.{token-at, body, shown}
+use Rattle.atoms.specs.declared.Token.{Token as Answer}
+use Rattle.atoms.specs.declared.Token.the-variants.{Opening, Closing, Whole, Bad}
+
+-- the head that the canonical bytes of an atom of that kind have before a body of n bytes
+abbrev pub head : ℕ → ℕ → List ℕ
+head kind n = if eqb kind 2 then array-head n else []
+
+-- an atom of that kind that goes from p to e, its body from b on
+pub record AtomAt (s : List ℕ) (p kind b e : ℕ) : Type 0 where
+  pub atom : Atom
+  pub is : tokens-from s p ≡ whole atom p e ∷ tokens-from s e
+  pub kind-is : kind ≡ atom-kind atom
+  pub begins : p ≤ b
+  pub ends : b ≤ e
+  pub forward : p < e
+  pub inside : e ≤ length s
+  -- an array has a head
+  pub headed : kind ≡ 2 → p < b
+  pub shorter : p + length (atom-bytes atom) ≤ e
+  pub written : atom-bytes atom ≡ head kind (e - b) ++ take (e - b) (drop b s)
+
+abbrev pub Next : List ℕ → ℕ → Answer → Type 0
+Next s p Opening = tokens-from s p ≡ opening p ∷ tokens-from s (p + 1)
+Next s p Closing = tokens-from s p ≡ closing p ∷ tokens-from s (p + 1)
+Next s p (Whole k b e) = AtomAt s p k b e
+Next s p (Bad w q) = (ts : List Token) × (tokens-from s p ≡ bad w q ∷ ts)
+
+module _ (s : List ℕ) (p e : ℕ) where
+  -- an atom that is all body
+  all-body : (a : Atom) (k : ℕ) → k ≡ atom-kind a → (k ≡ 2 → ⊥) → WholeAt s p a e → atom-bytes a ≡ head k (e - p) ++ take (e - p) (drop p s) → AtomAt s p k p e
+  all-body a k h other w written = record {
+    atom = a;
+    is = w .is;
+    kind-is = h;
+    begins = omega arith;
+    ends = omega (arith, w .forward);
+    forward = w .forward;
+    inside = w .inside;
+    headed = λ z. absurd (other z);
+    shorter = w .shorter;
+    written = written;
+  }
+
+  -- an array's bytes are the last of those that spell it
+  array-split : (bs x : List ℕ) → SpellsArray bs x → (c : ℕ) × (h : List ℕ) × (x ≡ (c ∷ h) ++ bs)
+  array-split bs x (small l q) = (0xC0 + length bs, [], q)
+  array-split bs x (generic y l q) = (0x03, y, q)
+
+  array-body : (bs : List ℕ) → WholeAt s p (array bs) e → AtomAt s p 2 (e - length bs) e
+  unfolding atom-bytes
+  array-body bs w =
+      let x = take (e - p) (drop p s) in
+      let o = array-split bs x (w .spelled) in
+      let h : List ℕ = o .0 ∷ o .1 in
+      let b : ℕ = e - length bs in
+      let forward = w .forward in
+      let inside = w .inside in
+      let left = length-drop p s in
+      let x-size : length x ≡ e - p = length-take (e - p) (drop p s) ∙ omega arith in
+      let size : length h + length bs ≡ e - p = sym (length-append h bs) ∙ sym (ap length (o .2)) ∙ x-size in
+      let rest = drop (e - p) (drop p s) in
+      let split : drop p s ≡ h ++ (bs ++ rest) = sym (take-append-drop (e - p) (drop p s)) ∙ ap (λ (y : List ℕ). y ++ rest) (o .2) ∙ append-assoc h bs rest in
+      let place : p + length h ≡ b = omega arith in
+      let from-body : drop b s ≡ bs ++ rest =
+      ap (λ (k : ℕ). drop k s) (sym place) ∙ sym (drop-drop (length h) p s) ∙ ap (drop (length h)) split ∙ drop-at h (bs ++ rest) (length h) refl in
+      let count : e - b ≡ length bs = omega arith in
+      record {
+        atom = array bs;
+        is = w .is;
+        kind-is = refl;
+        begins = omega arith;
+        ends = omega arith;
+        forward = forward;
+        inside = inside;
+        headed = λ z. omega arith;
+        shorter = w .shorter;
+        written = rw (count, from-body, take-at bs rest (length bs) refl);
+      }
+
+  atom-at : (a : Atom) → WholeAt s p a e → AtomAt s p (atom-kind a) (body a p e) e
+  unfolding atom-bytes
+  atom-at nil w = all-body nil 0 refl (λ z. omega arith) w (sym (w .spelled))
+  atom-at (array bs) w = array-body bs w
+  atom-at (int v) w = all-body (int v) 3 refl (λ z. omega arith) w (sym (w .spelled .1))
+  atom-at (ref m n) w = all-body (ref m n) 4 refl (λ z. omega arith) w (sym (w .spelled .2))
+
+pub next : (s : List ℕ) (p : ℕ) (r : Answer) → Bytes s → p < length s → r ≡ shown (token-at s p) → Next s p r
+next s p r stream inside told = rw told (go (token-at s p) (step-at s p stream inside))
+  where
+    go : (t : Token) → StepAt s p t → Next s p (shown t)
+    go (opening q) h = h
+    go (closing q) h = h
+    go (whole a q e) h = rw (h .0) (atom-at s p e a (h .1))
+    go (bad w q) h = h

@@ -1,0 +1,411 @@
+-- Bytes left and places: what `measured` and `shown` give of bytes that are left from a place on. And lengths as the code takes them: the
+-- bytes 03 first, then the innermost length, then outwards; and held at 65,537. And markers, byte by byte.
+use Prim.Native.Nat.{ℕ, zero, suc, _+_, _-_, _*_, _≤_, _<_, min}
+use mathlib.Core.Path.{_≡_, refl, sym, ap, _∙_}
+use mathlib.Core.List.{List, [], _∷_}
+use mathlib.Core.Bool.{Bool, true, false}
+use mathlib.Core.Logic.{_⊎_, inl, inr}
+use native.Mathlib.Omega.{arith}
+use native.Mathlib.Nat.{le-refl, eq-or-lt-of-le}
+use native.Mathlib.Numerals.{add-one}
+use lib.ListN.{length, take, drop, getD, length-take, length-drop}
+use lib.Seq.{drop-cons, drop-drop}
+use lib.Dec.{ltb, leb, eqb}
+use borrow.Author.Tests.{leb-true, lt-ltb, le-ltb, le-leb, lt-leb, ne-eqb}
+use Rattle.spec.specs.Expr.{if_then_else_}
+use Rattle.spec.specs.Reading.{Taken, taken, failed, and-then, take-bytes, natural, as-length, plain-length, length-expr, marker, name, as-array}
+use Rattle.laws.proofs.Basics.{impossible}
+use Rattle.atoms.specs.Tokens.{measured, leading-threes, plain, around, shown-atom}
+use Rattle.atoms.specs.declared.Length.{Length}
+use Rattle.atoms.specs.declared.Length.the-variants.{Is, Wrong}
+use Rattle.atoms.specs.declared.Token.the-variants.{Whole, Bad}
+
+-- Places
+
+-- where the bytes begin that are left
+pub left-at : (s : List ℕ) (p : ℕ) → p ≤ length s → length s - length (drop p s) ≡ p
+left-at s p h = rw (length-drop p s) (omega arith)
+
+pub none-left : (s : List ℕ) (p : ℕ) → p ≡ length s → drop p s ≡ []
+none-left s p h = go (drop p s) (length-drop p s ∙ omega arith)
+  where
+    go : (l : List ℕ) → length l ≡ 0 → l ≡ []
+    go [] e = refl
+    go (b ∷ l) e = absurd (omega arith)
+
+-- the first of the bytes that are left
+pub first-left : (s : List ℕ) (p : ℕ) → p < length s → drop p s ≡ getD s p 0 ∷ drop (p + 1) s
+first-left s p h = rw (add-one p) (drop-cons s p 0 h)
+
+pub measured-is : (s : List ℕ) (n p : ℕ) → p ≤ length s → measured (length s) (taken n (drop p s)) ≡ Is (min n 65537) p
+measured-is s n p h = ap (Is (min n 65537)) (left-at s p h)
+
+pub measured-wrong : (s : List ℕ) (w p : ℕ) → p ≤ length s → measured (length s) (failed w (drop p s)) ≡ Wrong w p
+measured-wrong s w p h = ap (Wrong w) (left-at s p h)
+
+pub measured-short : (s : List ℕ) → measured (length s) (failed 2 []) ≡ Wrong 2 (length s)
+measured-short s = ap (Wrong 2) (omega arith)
+
+-- Numbers, held at 65,537
+
+natural-grows : (n : ℕ) (s : List ℕ) → n ≤ natural n s
+unfolding natural
+natural-grows n [] = le-refl n
+natural-grows n (b ∷ s) = omega (arith, natural-grows (n * 256 + b) s)
+
+-- the bytes from a place up to another: the first, and the others
+pub bytes-step : (s : List ℕ) (i to : ℕ) → i < to → to ≤ length s → take (to - i) (drop i s) ≡ getD s i 0 ∷ take (to - (i + 1)) (drop (i + 1) s)
+bytes-step s i to h l = let more : to - i ≡ suc (to - (i + 1)) = omega arith in rw (more, first-left s i (omega arith))
+
+pub natural-step : (s : List ℕ) (n i to : ℕ) → i < to → to ≤ length s
+    → natural n (take (to - i) (drop i s)) ≡ natural (n * 256 + getD s i 0) (take (to - (i + 1)) (drop (i + 1) s))
+unfolding natural
+natural-step s n i to h l = rw (bytes-step s i to h l)
+
+pub natural-end : (s : List ℕ) (n i to : ℕ) → i ≡ to → natural n (take (to - i) (drop i s)) ≡ n
+unfolding natural
+natural-end s n i to h = let none : to - i ≡ 0 = omega arith in rw none
+
+-- what holds of a number that is held, by whether it is
+by-held : (P : ℕ → Type 0) (n : ℕ) → (65537 ≤ n → P 65537) → (n < 65537 → P n) → P (min n 65537)
+by-held P n large small = go (eq-or-lt-of-le held)
+  where
+    held : min n 65537 ≤ 65537
+    held = omega arith
+
+    go : (min n 65537 ≡ 65537) ⊎ (min n 65537 < 65537) → P (min n 65537)
+    go (inl e) = rw e (large (omega arith))
+    go (inr h) = let e : min n 65537 ≡ n = omega arith in rw e (small (omega arith))
+
+pub natural-held : (n : ℕ) (s : List ℕ) → min (natural n s) 65537 ≡ min (natural (min n 65537) s) 65537
+natural-held n s =
+    by-held (λ k. min (natural n s) 65537 ≡ min (natural k s) 65537) n (λ h. omega (arith, natural-grows n s, natural-grows 65537 s)) (λ h. refl)
+
+-- no stream is long enough for the difference
+pub take-held : (n : ℕ) (s : List ℕ) → length s ≤ 65536 → take-bytes n s ≡ take-bytes (min n 65537) s
+unfolding take-bytes
+take-held n s h =
+    by-held (λ k. take-bytes n s ≡ take-bytes k s) n
+    (λ g. rw (lt-leb n (length s) (omega arith), lt-leb 65537 (length s) (omega arith)))
+    (λ g. refl)
+
+-- Lengths from the inside out
+
+pub around-failed : (k w : ℕ) (s : List ℕ) → around k (failed w s) ≡ failed w s
+unfolding around
+around-failed zero w s = refl
+around-failed (suc k) w s = rw (around-failed k w s)
+
+-- the innermost array first
+pub around-inner : (k n : ℕ) (s : List ℕ) → around (suc k) (taken n s) ≡ around k (and-then (take-bytes n s) as-length)
+unfolding around
+around-inner zero n s = refl
+around-inner (suc k) n s = ap (λ x. and-then (and-then x take-bytes) as-length) (around-inner k n s)
+
+pub around-held : (k n : ℕ) (s : List ℕ) (end : ℕ) → length s ≤ 65536
+    → measured end (around k (taken n s)) ≡ measured end (around k (taken (min n 65537) s))
+unfolding around
+around-held zero n s end h = ap (λ m. Is m (end - length s)) (omega arith)
+around-held (suc k) n s end h =
+    ap (measured end) (around-inner k n s ∙ ap (λ x. around k (and-then x as-length)) (take-held n s h) ∙ sym (around-inner k (min n 65537) s))
+
+-- one array, which is there or in which the stream ends
+module _ (s : List ℕ) (k v p : ℕ) (short : length s ≤ 65536) (inside : p ≤ length s) where
+  pub around-whole : 0 < k → v ≤ length s - p
+      → measured (length s) (around k (taken v (drop p s)))
+      ≡ measured (length s) (around (k - 1) (taken (min (natural 0 (take v (drop p s))) 65537) (drop (p + v) s)))
+  unfolding take-bytes
+  around-whole h l =
+      let more : k ≡ suc (k - 1) = omega arith in
+      let left = length-drop p s in
+      let behind : drop v (drop p s) ≡ drop (p + v) s = drop-drop v p s in
+      let behind-size = length-drop (p + v) s in
+      ap (λ (j : ℕ). measured (length s) (around j (taken v (drop p s)))) more
+      ∙ ap (measured (length s)) (around-inner (k - 1) v (drop p s))
+      ∙ rw (le-leb v (length (drop p s)) (omega arith), behind) (around-held (k - 1) (natural 0 (take v (drop p s))) (drop (p + v) s) (length s) (omega arith))
+
+  pub around-short : 0 < k → length s - p < v → measured (length s) (around k (taken v (drop p s))) ≡ Wrong 2 (length s)
+  unfolding take-bytes
+  around-short h l =
+      let more : k ≡ suc (k - 1) = omega arith in
+      let left = length-drop p s in
+      ap (λ (j : ℕ). measured (length s) (around j (taken v (drop p s)))) more
+      ∙ ap (measured (length s)) (around-inner (k - 1) v (drop p s))
+      ∙ rw (lt-leb v (length (drop p s)) (omega arith), around-failed (k - 1) 2 []) (measured-short s)
+
+  pub around-none : k ≡ 0 → v ≤ 65537 → measured (length s) (around k (taken v (drop p s))) ≡ Is v p
+  unfolding around
+  around-none h l = let held : min v 65537 ≡ v = omega arith in rw (h, held) (ap (Is v) (left-at s p inside))
+
+-- a plain length, by its first byte
+module _ (s : List ℕ) (p : ℕ) where
+  pub plain-end : p ≡ length s → measured (length s) (plain (drop p s)) ≡ Wrong 2 p
+  plain-end h = rw (none-left s p h) (measured-short s ∙ ap (Wrong 2) (sym h))
+
+  module _ (inside : p < length s) where
+    at-byte : (x : Length) → measured (length s) (plain-length (getD s p 0) (drop (p + 1) s)) ≡ x → measured (length s) (plain (drop p s)) ≡ x
+    at-byte x e = rw (first-left s p inside) e
+
+    pub plain-wrong : getD s p 0 < 0x80 → measured (length s) (plain (drop p s)) ≡ Wrong 5 p
+    unfolding plain-length
+    plain-wrong h =
+        let left = length-drop (p + 1) s in
+        let place : length s - suc (length (drop (p + 1) s)) ≡ p = omega arith in
+        at-byte (Wrong 5 p) (rw (lt-ltb (getD s p 0) 0x80 h) (ap (Wrong 5) place))
+
+    pub plain-int : 0x80 ≤ getD s p 0 → getD s p 0 < 0xC0 → measured (length s) (plain (drop p s)) ≡ Is (getD s p 0 - 0x80) (p + 1)
+    unfolding plain-length
+    plain-int h l =
+        let held : min (getD s p 0 - 0x80) 65537 ≡ getD s p 0 - 0x80 = omega arith in
+        at-byte (Is (getD s p 0 - 0x80) (p + 1))
+        (rw (le-ltb (getD s p 0) 0x80 h, lt-ltb (getD s p 0) 0xC0 l, held) (ap (Is (getD s p 0 - 0x80)) (left-at s (p + 1) (omega arith))))
+
+    module _ (array-byte : 0xC0 ≤ getD s p 0) where
+      pub plain-short : length s - (p + 1) < getD s p 0 - 0xC0 → measured (length s) (plain (drop p s)) ≡ Wrong 2 (length s)
+      unfolding plain-length take-bytes
+      plain-short l =
+          let left = length-drop (p + 1) s in
+          at-byte (Wrong 2 (length s))
+          (rw (
+            le-ltb (getD s p 0) 0x80 (omega arith),
+            le-ltb (getD s p 0) 0xC0 array-byte,
+            lt-leb (getD s p 0 - 0xC0) (length (drop (p + 1) s)) (omega arith),
+          ) (measured-short s))
+
+      pub plain-array : (e : ℕ) → e ≡ p + 1 + (getD s p 0 - 0xC0) → e ≤ length s
+          → measured (length s) (plain (drop p s)) ≡ Is (min (natural 0 (take (e - (p + 1)) (drop (p + 1) s))) 65537) e
+      unfolding plain-length take-bytes
+      plain-array e h l =
+          let left = length-drop (p + 1) s in
+          let size : getD s p 0 - 0xC0 ≡ e - (p + 1) = omega arith in
+          let end : p + 1 + (e - (p + 1)) ≡ e = omega arith in
+          let behind : drop (e - (p + 1)) (drop (p + 1) s) ≡ drop e s = drop-drop (e - (p + 1)) (p + 1) s ∙ ap (λ (k : ℕ). drop k s) end in
+          at-byte (Is (min (natural 0 (take (e - (p + 1)) (drop (p + 1) s))) 65537) e)
+          (rw (
+            le-ltb (getD s p 0) 0x80 (omega arith),
+            le-ltb (getD s p 0) 0xC0 array-byte,
+            size,
+            le-leb (e - (p + 1)) (length (drop (p + 1) s)) (omega arith),
+            behind,
+          ) (measured-is s (natural 0 (take (e - (p + 1)) (drop (p + 1) s))) e l))
+
+-- bytes 03 in a row, from place to place
+module _ (s : List ℕ) (p k : ℕ) where
+  pub threes-end : p ≡ length s → leading-threes k (drop p s) ≡ 0
+  unfolding leading-threes
+  threes-end h = rw (none-left s p h) (go k)
+    where
+      go : (k : ℕ) → leading-threes k [] ≡ 0
+      go zero = refl
+      go (suc k) = refl
+
+  pub threes-other : p < length s → (getD s p 0 ≡ 0x03 → ⊥) → leading-threes k (drop p s) ≡ 0
+  unfolding leading-threes
+  threes-other h o = rw (first-left s p h) (go k)
+    where
+      go : (k : ℕ) → leading-threes k (getD s p 0 ∷ drop (p + 1) s) ≡ 0
+      go zero = refl
+      go (suc k) = rw (ne-eqb (getD s p 0) 0x03 o)
+
+  pub threes-more : p < length s → getD s p 0 ≡ 0x03 → 0 < k → leading-threes k (drop p s) ≡ 1 + leading-threes (k - 1) (drop (p + 1) s)
+  unfolding leading-threes
+  threes-more h o l = let more : k ≡ suc (k - 1) = omega arith in
+      rw (first-left s p h, o) (ap (λ (j : ℕ). leading-threes j (0x03 ∷ drop (p + 1) s)) more ∙ omega arith)
+
+pub threes-none : (s : List ℕ) → leading-threes 0 s ≡ 0
+unfolding leading-threes
+threes-none s = refl
+
+-- bytes 03, and then no 03
+pub length-threes : (k : ℕ) (s : List ℕ) → leading-threes (suc k) s < suc k
+    → length-expr k s ≡ around (leading-threes (suc k) s) (plain (drop (leading-threes (suc k) s) s))
+unfolding length-expr leading-threes around
+length-threes zero [] h = refl
+length-threes (suc k) [] h = refl
+length-threes zero (b ∷ s) h = go (eqb b 0x03) h
+  where
+    go : (c : Bool) → (if c then 1 else 0) < 1
+        → (if c then failed 6 (b ∷ s) else plain-length b s) ≡ around (if c then 1 else 0) (plain (drop (if c then 1 else 0) (b ∷ s)))
+    go true h = absurd (omega arith)
+    go false h = refl
+length-threes (suc k) (b ∷ s) h = go (eqb b 0x03) (leading-threes (suc k) s) (λ l. length-threes k s l) h
+  where
+    go : (c : Bool) (j : ℕ) → (j < suc k → length-expr k s ≡ around j (plain (drop j s))) → (if c then suc j else 0) < suc (suc k)
+        → (if c then and-then (and-then (length-expr k s) take-bytes) as-length else plain-length b s)
+        ≡ around (if c then suc j else 0) (plain (drop (if c then suc j else 0) (b ∷ s)))
+    go true j inner h = ap (λ x. and-then (and-then x take-bytes) as-length) (inner (omega arith))
+    go false j inner h = refl
+
+-- one too many
+pub length-many : (k : ℕ) (s : List ℕ) → leading-threes (suc k) s ≡ suc k → length-expr k s ≡ failed 6 (drop k s)
+unfolding length-expr leading-threes
+length-many zero [] h = absurd (omega arith)
+length-many (suc k) [] h = absurd (omega arith)
+length-many zero (b ∷ s) h = go (eqb b 0x03) h
+  where
+    go : (c : Bool) → _≡_ {A = ℕ} (if c then 1 else 0) 1 → (if c then failed 6 (b ∷ s) else plain-length b s) ≡ failed 6 (b ∷ s)
+    go true h = refl
+    go false h = absurd (omega arith)
+length-many (suc k) (b ∷ s) h = go (eqb b 0x03) (leading-threes (suc k) s) (λ l. length-many k s l) h
+  where
+    go : (c : Bool) (j : ℕ) → (j ≡ suc k → length-expr k s ≡ failed 6 (drop k s)) → (if c then suc j else 0) ≡ suc (suc k)
+        → (if c then and-then (and-then (length-expr k s) take-bytes) as-length else plain-length b s) ≡ failed 6 (drop k s)
+    go true j inner h = rw (inner (omega arith))
+    go false j inner h = absurd (omega arith)
+
+pub threes-few : (k : ℕ) (s : List ℕ) → (leading-threes k s ≤ k) × (leading-threes k s ≤ length s)
+unfolding leading-threes
+threes-few zero s = (omega arith, omega arith)
+threes-few (suc k) [] = (omega arith, omega arith)
+threes-few (suc k) (b ∷ s) = go (eqb b 0x03) (leading-threes k s) (threes-few k s)
+  where
+    go : (c : Bool) (j : ℕ) → (j ≤ k) × (j ≤ length s) → ((if c then suc j else 0) ≤ suc k) × ((if c then suc j else 0) ≤ suc (length s))
+    go true j h = (omega arith, omega arith)
+    go false j h = (omega arith, omega arith)
+
+-- What a length expression leaves is the stream from some place on.
+
+Behind : List ℕ → List ℕ → Type 0
+Behind s t = (e : ℕ) × (e ≤ length s) × (t ≡ drop e s)
+
+abbrev Left : {A : Type 0} → List ℕ → Taken A → Type 0
+Left s (taken a t) = Behind s t
+Left s (failed w t) = Unit {0}
+
+behind-tail : (s t : List ℕ) (b : ℕ) → Behind s (b ∷ t) → Behind s t
+unfolding Behind
+behind-tail s t b (e, l, h) =
+    let size : suc (length t) ≡ length s - e = ap length h ∙ length-drop e s in
+    let both : b ∷ t ≡ getD s e 0 ∷ drop (e + 1) s = h ∙ first-left s e (omega arith) in
+    (e + 1, omega arith, cc)
+
+take-left : (s t : List ℕ) (n : ℕ) → Behind s t → Left s (take-bytes n t)
+unfolding take-bytes Behind
+take-left s t n (e, l, h) = go (leb n (length t)) refl
+  where
+    go : (c : Bool) → leb n (length t) ≡ c → Left s (if c then taken (take n t) (drop n t) else failed 2 [])
+    go true c =
+        let size : length t ≡ length s - e = ap length h ∙ length-drop e s in
+        let fits = leb-true n (length t) c in
+        (e + n, omega arith, ap (drop n) h ∙ drop-drop n e s)
+    go false c = tt
+
+length-left : (s : List ℕ) {A B : Type 0} (x : Taken A) (f : A → B) → Left s x → Left s (and-then x (λ a t. taken (f a) t))
+length-left s (taken a t) f h = h
+length-left s (failed w t) f h = tt
+
+plain-left : (s t : List ℕ) (b : ℕ) → Behind s t → Left s (plain-length b t)
+unfolding plain-length
+plain-left s t b h = go (ltb b 0x80) (ltb b 0xC0)
+  where
+    go : (c d : Bool) → Left s (if c then failed 5 (b ∷ t) else if d then taken (b - 0x80) t else and-then (take-bytes (b - 0xC0) t) as-length)
+    go true d = tt
+    go false true = h
+    go false false = length-left s (take-bytes (b - 0xC0) t) (natural 0) (take-left s t (b - 0xC0) h)
+
+expr-left : (s : List ℕ) (k : ℕ) (t : List ℕ) → Behind s t → Left s (length-expr k t)
+unfolding length-expr
+expr-left s zero [] h = tt
+expr-left s (suc k) [] h = tt
+expr-left s zero (b ∷ t) h = go (eqb b 0x03)
+  where
+    go : (c : Bool) → Left s (if c then failed 6 (b ∷ t) else plain-length b t)
+    go true = tt
+    go false = plain-left s t b (behind-tail s t b h)
+expr-left s (suc k) (b ∷ t) h = go (eqb b 0x03) (length-expr k t) (expr-left s k t (behind-tail s t b h))
+  where
+    inner : (x : Taken ℕ) → Left s x → Left s (and-then x take-bytes)
+    inner (taken n u) l = take-left s u n l
+    inner (failed w u) l = tt
+
+    go : (c : Bool) (x : Taken ℕ) → Left s x → Left s (if c then and-then (and-then x take-bytes) as-length else plain-length b t)
+    go true x l = length-left s (and-then x take-bytes) (natural 0) (inner x l)
+    go false x l = plain-left s t b (behind-tail s t b h)
+
+-- what the code was told of a length
+pub record ToldLength (s : List ℕ) (x : Taken ℕ) (v e : ℕ) : Type 0 where
+  pub exact : ℕ
+  pub is : x ≡ taken exact (drop e s)
+  pub held : v ≡ min exact 65537
+  pub inside : e ≤ length s
+
+told : (s : List ℕ) (x : Taken ℕ) (v e : ℕ) → Left s x → measured (length s) x ≡ Is v e → ToldLength s x v e
+unfolding Behind
+told s (taken n t) v e (q, l, h) m =
+    let place : length s - length t ≡ e = cc in
+    let size : length t ≡ length s - q = ap length h ∙ length-drop q s in
+    let same : q ≡ e = omega arith in
+    record { exact = n; is = ap (taken n) (h ∙ ap (λ (k : ℕ). drop k s) same); held = cc; inside = omega arith }
+told s (failed w t) v e h m = impossible (cc)
+
+pub told-plain : (s : List ℕ) (p v e : ℕ) → p ≤ length s → measured (length s) (plain (drop p s)) ≡ Is v e → ToldLength s (plain (drop p s)) v e
+unfolding Behind
+told-plain s p v e h m = told s (plain (drop p s)) v e (go (drop p s) (p, h, refl)) m
+  where
+    go : (t : List ℕ) → Behind s t → Left s (plain t)
+    go [] l = tt
+    go (b ∷ t) l = plain-left s t b (behind-tail s t b l)
+
+pub told-length : (s : List ℕ) (p v e : ℕ) → p ≤ length s → measured (length s) (length-expr 7 (drop p s)) ≡ Is v e
+    → ToldLength s (length-expr 7 (drop p s)) v e
+unfolding Behind
+told-length s p v e h m = told s (length-expr 7 (drop p s)) v e (expr-left s 7 (drop p s) (p, h, refl)) m
+
+-- a length that is wrong is wrong for what stands around it
+pub around-wrong : (end k : ℕ) (x : Taken ℕ) (w p : ℕ) → measured end x ≡ Wrong w p → measured end (around k x) ≡ Wrong w p
+around-wrong end k (taken n t) w p m = impossible (cc)
+around-wrong end k (failed v t) w p m = ap (measured end) (around-failed k v t) ∙ m
+
+pub array-wrong : (q end : ℕ) (x : Taken ℕ) (w p : ℕ) → measured end x ≡ Wrong w p
+    → shown-atom q end (and-then (and-then x take-bytes) as-array) ≡ Bad w p
+array-wrong q end (taken n t) w p m = impossible (cc)
+array-wrong q end (failed v t) w p m = let number : v ≡ w = cc in let place : end - length t ≡ p = cc in rw (number, place)
+
+-- Markers, from place to place
+
+module _ (s : List ℕ) (p m : ℕ) where
+  pub marker-end : p ≡ length s → marker m (drop p s) ≡ failed 2 []
+  unfolding marker
+  marker-end h = rw (none-left s p h)
+
+  pub marker-more : p < length s → getD s p 0 ≡ 0xFF → marker m (drop p s) ≡ marker (m + getD s p 0) (drop (p + 1) s)
+  unfolding marker
+  marker-more h e = rw (first-left s p h, e)
+
+  pub marker-last : p < length s → (getD s p 0 ≡ 0xFF → ⊥) → marker m (drop p s) ≡ taken (m + getD s p 0) (drop (p + 1) s)
+  unfolding marker
+  marker-last h e = rw (first-left s p h, ne-eqb (getD s p 0) 0xFF e)
+
+-- Atoms as the code gives them
+
+module _ (s : List ℕ) (p : ℕ) where
+  -- an array whose bytes begin at a place
+  pub shown-array : (body size : ℕ) → body ≤ length s → size ≤ length s - body
+      → shown-atom p (length s) (and-then (take-bytes size (drop body s)) as-array) ≡ Whole 2 body (body + size)
+  unfolding take-bytes
+  shown-array body size h k =
+      let left = length-drop body s in
+      let last : length s - length (drop size (drop body s)) ≡ body + size = simp length-drop (omega arith) in
+      let whole-size : length (take size (drop body s)) ≡ size = simp (length-take, length-drop) (omega arith) in
+      let first : body + size - size ≡ body = omega arith in
+      rw (le-leb size (length (drop body s)) (omega arith), last, whole-size, first)
+
+  pub shown-short : (body size : ℕ) → body ≤ length s → length s - body < size
+      → shown-atom p (length s) (and-then (take-bytes size (drop body s)) as-array) ≡ Bad 2 (length s)
+  unfolding take-bytes
+  shown-short body size h k =
+      let left = length-drop body s in rw (lt-leb size (length (drop body s)) (omega arith)) (ap (Bad 2) (omega arith))
+
+  -- a reference at p whose marker is m, with the name byte at q
+  module _ (m q : ℕ) where
+    pub shown-nameless : q ≡ length s → shown-atom p (length s) (name (drop p s) m (drop q s)) ≡ Bad 2 q
+    unfolding name
+    shown-nameless h = rw (none-left s q h) (ap (Bad 2) (omega arith))
+
+    pub shown-above : p ≤ length s → q < length s → 65535 < m → shown-atom p (length s) (name (drop p s) m (drop q s)) ≡ Bad 7 p
+    unfolding name
+    shown-above h k l = rw (first-left s q k, lt-ltb 65535 m l) (ap (Bad 7) (left-at s p h))
+
+    pub shown-reference : q < length s → m ≤ 65535 → shown-atom p (length s) (name (drop p s) m (drop q s)) ≡ Whole 4 p (q + 1)
+    unfolding name
+    shown-reference k l = rw (first-left s q k, le-ltb 65535 m l) (ap (Whole 4 p) (left-at s (q + 1) (omega arith)))

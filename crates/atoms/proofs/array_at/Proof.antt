@@ -1,0 +1,72 @@
+-- `atoms::array_at` meets its contract: a length that is wrong, or the array of that many bytes.
+-- Assumes nothing.
+use borrow.Author.Needs.{needs}
+use Prim.Native.Nat.{ℕ, suc, _+_, _≤_, _<_}
+use mathlib.Core.Path.{_≡_, sym, ap, _∙_}
+use mathlib.Core.List.{List}
+use native.Mathlib.Omega.{arith}
+use native.Mathlib.Numerals.{add-one}
+use lib.ListN.{length, drop, length-drop}
+use Rattle.spec.specs.Reading.{Taken, and-then, take-bytes, length-expr, as-array}
+use Rattle.atoms.specs.Tokens.{shown-atom, measured}
+use Rattle.atoms.specs.declared.Length.{Length}
+use Rattle.atoms.specs.declared.Length.the-variants.{Is}
+use Rattle.atoms.proofs.Places.{take-held, ToldLength, told-length, array-wrong}
+use Rattle.atoms.proofs.array_at.Statement.{statement}
+use Rattle.atoms.proofs.array_at.Tie as tie
+
+add-length-at : tie.Need-add-length-at
+add-length-at c = search needs
+
+length-at-requires : tie.Need-length-at-requires
+length-at-requires c κs = search needs
+
+enum-known-number : tie.Need-enum-known-number
+enum-known-number c = search needs
+
+enum-known-value : tie.Need-enum-known-value
+enum-known-value c = search needs
+
+-- what was told of the length
+told-at : (s : List ℕ) (at v e : ℕ) (r : Length) → at < length s → r ≡ measured (length s) (length-expr 7 (drop (at + 1) s)) → r ≡ Is v e
+    → ToldLength s (length-expr 7 (drop (suc at) s)) v e
+told-at s at v e r h m k = told-length s (suc at) v e h (rw (← add-one at) (sym m ∙ k))
+
+bytes-at-requires : tie.Need-bytes-at-requires
+bytes-at-requires c κs =
+    let a = c .before .before .before .before .before .args in
+    told-at (a .s .now) (a .at) _ _ _ (omega arith) (c .before .before .before .length-at .ensures) (c .before .value .given .1) .inside
+
+returns : tie.Need-returns
+returns c =
+    let a = c .before .before .before .before .before .args in
+    let s = a .s .now in
+    sym (array-wrong (a .at) (length s) (length-expr 7 (drop (suc (a .at)) s)) _ _ (rw (← add-one (a .at)) (sym (c .before .before .before .length-at .ensures) ∙ c .before .number .given .1)))
+
+-- the bytes of a length that was told are those of the exact one
+told-bytes : (s : List ℕ) (v e : ℕ) (x : Taken ℕ) → length s ≤ 65536 → ToldLength s x v e → take-bytes v (drop e s) ≡ and-then x take-bytes
+told-bytes s v e x h t =
+    let size = length-drop e s in
+    ap (λ (n : ℕ). take-bytes n (drop e s)) (t .held)
+    ∙ sym (take-held (t .exact) (drop e s) (omega arith))
+    ∙ sym (ap (λ (y : Taken ℕ). and-then y take-bytes) (t .is))
+
+returns-2 : tie.Need-returns-2
+returns-2 c =
+    let a = c .before .before .before .before .before .before .args in
+    let s = a .s .now in
+    let t = told-at s (a .at) _ _ _ (omega arith) (c .before .before .before .before .length-at .ensures) (c .before .before .value .given .1) in
+    c .bytes-at .ensures (a .at)
+    ∙ ap (λ (y : Taken (List ℕ)). shown-atom (a .at) (length s) (and-then y as-array)) (told-bytes s _ _ _ (omega arith) t)
+
+pub array-at-spec : {M : Type 1} → statement M
+array-at-spec =
+    tie.close
+    (tie.spec
+    add-length-at
+    length-at-requires
+    enum-known-number
+    enum-known-value
+    bytes-at-requires
+    returns
+    returns-2)

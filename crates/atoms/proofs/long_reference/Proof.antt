@@ -1,0 +1,90 @@
+-- `atoms::long_reference` meets its contract. The invariant: the sum so far, with the bytes left, gives the marker.
+-- Assumes nothing.
+use Prim.Native.Nat.{ℕ, suc, _+_, _*_, _-_, _≤_}
+use mathlib.Core.Path.{_≡_, sym, ap, _∙_}
+use native.Mathlib.Omega.{arith}
+use native.Mathlib.Numerals.{add-one}
+use mathlib.Core.List.{List}
+use lib.ListN.{length, drop}
+use Rattle.spec.specs.Reading.{Taken, and-then, marker, name}
+use Rattle.atoms.specs.Tokens.{shown-atom}
+use Rattle.atoms.specs.declared.Token.the-variants.{Bad}
+use Rattle.atoms.proofs.Places.{marker-end, marker-more, marker-last}
+use Rattle.atoms.proofs.long_reference.Statement.{statement}
+use Rattle.atoms.proofs.long_reference.Tie as tie
+
+abbrev Inv-loop : tie.InvT-loop
+Inv-loop s at sum₀ p₀ sum p = (p ≤ length s) × (sum ≤ 127 + 255 * p) × (marker 0x7F (drop (suc at) s) ≡ marker sum (drop p s))
+
+abbrev μ-loop : tie.MeasureT-loop
+μ-loop s at sum₀ p₀ sum p = length s - p
+
+add-p : tie.Need-add-p Inv-loop μ-loop
+add-p c = omega arith
+
+loop-holds : tie.Need-loop-holds Inv-loop μ-loop
+loop-holds c = (omega arith, omega arith, ap (λ (p : ℕ). marker 0x7F (drop p (c .before .args .s .now))) (sym (add-one (c .before .args .at))))
+
+shared-slice-read-b : tie.Need-shared-slice-read-b Inv-loop μ-loop
+shared-slice-read-b c = omega arith
+
+cast-sum : tie.Need-cast-sum Inv-loop μ-loop
+cast-sum c = omega (arith, c .shared-slice-known2 .given (c .before .before .loop .p))
+
+add-sum : tie.Need-add-sum Inv-loop μ-loop
+add-sum c = omega (arith, c .shared-slice-known2 .given (c .before .before .loop .p))
+
+add-p-2 : tie.Need-add-p-2 Inv-loop μ-loop
+add-p-2 c = omega arith
+
+reference-requires : tie.Need-reference-requires Inv-loop μ-loop
+reference-requires c κs = omega arith
+
+-- the marker is told, so what follows is the name
+named : (s : List ℕ) (at : ℕ) (x : Taken ℕ) → marker 0x7F (drop (suc at) s) ≡ x
+    → shown-atom at (length s) (and-then (marker 0x7F (drop (suc at) s)) (name (drop at s))) ≡ shown-atom at (length s) (and-then x (name (drop at s)))
+named s at x e = ap (λ (y : Taken ℕ). shown-atom at (length s) (and-then y (name (drop at s)))) e
+
+returns : tie.Need-returns Inv-loop μ-loop
+returns c =
+    let a = c .before .before .before .before .before .before .args in
+    let l = c .before .before .before .before .loop in
+    let s = a .s .now in
+    c .reference .ensures ∙ sym (named s (a .at) _ (l .inv .2 ∙ marker-last s (l .p) (l .sum) (omega arith) (c .before .if1 .taken)))
+
+loop-less : tie.Need-loop-less Inv-loop μ-loop
+loop-less c = omega arith
+
+loop-again : tie.Need-loop-again Inv-loop μ-loop
+loop-again c =
+    let a = c .before .before .before .before .before .args in
+    let l = c .before .before .before .loop in (
+      omega arith,
+      omega (arith, c .before .shared-slice-known2 .given (l .p)),
+      l .inv .2 ∙ marker-more (a .s .now) (l .p) (l .sum) (omega arith) (c .if1 .left),
+    )
+
+returns-2 : tie.Need-returns-2 Inv-loop μ-loop
+returns-2 c =
+    let a = c .before .before .before .args in
+    let l = c .before .loop in
+    let s = a .s .now in
+    sym (named s (a .at) _ (l .inv .2 ∙ marker-end s (l .p) (l .sum) (omega arith)) ∙ ap (Bad 2) (omega arith))
+
+pub long-reference-spec : {M : Type 1} → statement M
+long-reference-spec =
+    tie.close
+    (tie.spec
+    Inv-loop
+    μ-loop
+    add-p
+    loop-holds
+    shared-slice-read-b
+    cast-sum
+    add-sum
+    add-p-2
+    reference-requires
+    returns
+    loop-less
+    loop-again
+    returns-2)

@@ -1,0 +1,76 @@
+-- `atoms::nested_length` meets its contract. The invariant: as many arrays as are still to be read stand around the length so far.
+-- Assumes nothing.
+use Prim.Native.Nat.{ℕ, _+_, _-_, _≤_}
+use mathlib.Core.Path.{_≡_, refl, sym, ap, _∙_}
+use native.Mathlib.Omega.{arith}
+use lib.ListN.{length, drop}
+use Rattle.spec.specs.Reading.{taken}
+use Rattle.atoms.specs.Tokens.{measured, around}
+use Rattle.atoms.proofs.Places.{around-whole, around-short, around-none}
+use Rattle.atoms.proofs.nested_length.Statement.{statement}
+use Rattle.atoms.proofs.nested_length.Tie as tie
+
+abbrev Inv-loop : tie.InvT-loop
+Inv-loop s value from depth v₀ at₀ k₀ v at k =
+    (at ≤ length s) × (v ≤ 65537)
+    × (measured (length s) (around depth (taken value (drop from s))) ≡ measured (length s) (around k (taken v (drop at s))))
+
+abbrev μ-loop : tie.MeasureT-loop
+μ-loop s value from depth v₀ at₀ k₀ v at k = k
+
+loop-holds : tie.Need-loop-holds Inv-loop μ-loop
+loop-holds c = (omega arith, omega arith, refl)
+
+sub-if1 : tie.Need-sub-if1 Inv-loop μ-loop
+sub-if1 c = omega arith
+
+returns : tie.Need-returns Inv-loop μ-loop
+returns c =
+    let l = c .before .before .loop in
+    sym (l .inv .2 ∙ around-short (c .before .before .before .before .args .s .now) (l .k) (l .v) (l .at) (omega arith) (omega arith) (omega arith) (c .if1 .taken))
+
+add-end : tie.Need-add-end Inv-loop μ-loop
+add-end c = omega arith
+
+number-requires : tie.Need-number-requires Inv-loop μ-loop
+number-requires c κs = omega arith
+
+sub-k : tie.Need-sub-k Inv-loop μ-loop
+sub-k c = omega arith
+
+loop-less : tie.Need-loop-less Inv-loop μ-loop
+loop-less c = omega arith
+
+loop-again : tie.Need-loop-again Inv-loop μ-loop
+loop-again c =
+    let s = c .before .before .before .before .before .args .s .now in
+    let l = c .before .before .before .loop in
+    let size : l .at + l .v - l .at ≡ l .v = omega arith in
+    let number = rw size at (c .number .ensures) in (
+      omega arith,
+      omega (arith, number),
+      l .inv .2
+          ∙ around-whole s (l .k) (l .v) (l .at) (omega arith) (omega arith) (omega arith) (c .before .if1 .left)
+          ∙ ap (λ (n : ℕ). measured (length s) (around (l .k - 1) (taken n (drop (l .at + l .v) s)))) (sym number),
+    )
+
+returns-2 : tie.Need-returns-2 Inv-loop μ-loop
+returns-2 c =
+    let l = c .before .loop in
+    sym (l .inv .2 ∙ around-none (c .before .before .before .args .s .now) (l .k) (l .v) (l .at) (omega arith) (omega arith) (omega arith) (omega arith))
+
+pub nested-length-spec : {M : Type 1} → statement M
+nested-length-spec =
+    tie.close
+    (tie.spec
+    Inv-loop
+    μ-loop
+    loop-holds
+    sub-if1
+    returns
+    add-end
+    number-requires
+    sub-k
+    loop-less
+    loop-again
+    returns-2)

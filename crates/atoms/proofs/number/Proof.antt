@@ -1,0 +1,81 @@
+-- `atoms::number` meets its contract. The invariant: the number so far, with the bytes left, is the whole number, held at 65,537.
+-- Assumes nothing.
+use Prim.Native.Nat.{ℕ, _+_, _*_, _-_, _≤_, min}
+use mathlib.Core.Path.{_≡_, refl, sym, ap, _∙_}
+use mathlib.Core.Logic.{⊎-elim}
+use native.Mathlib.Omega.{arith}
+use lib.ListN.{take, drop, getD}
+use Rattle.spec.specs.Reading.{natural}
+use Rattle.atoms.proofs.Places.{natural-held, natural-step, natural-end}
+use Rattle.atoms.proofs.number.Statement.{statement}
+use Rattle.atoms.proofs.number.Tie as tie
+
+abbrev Inv-loop : tie.InvT-loop
+Inv-loop s from to v₀ i₀ v i =
+    (from ≤ i) × (i ≤ to) × (v ≤ 65537)
+    × (min (natural 0 (take (to - from) (drop from s))) 65537 ≡ min (natural v (take (to - i) (drop i s))) 65537)
+
+abbrev μ-loop : tie.MeasureT-loop
+μ-loop s from to v₀ i₀ v i = to - i
+
+loop-holds : tie.Need-loop-holds Inv-loop μ-loop
+loop-holds c = (omega arith, omega arith, omega arith, refl)
+
+mul-v : tie.Need-mul-v Inv-loop μ-loop
+mul-v c = omega arith
+
+shared-slice-read-v : tie.Need-shared-slice-read-v Inv-loop μ-loop
+shared-slice-read-v c = omega arith
+
+cast-v : tie.Need-cast-v Inv-loop μ-loop
+cast-v c = omega (arith, c .shared-slice-known .given (c .before .before .loop .i))
+
+add-v : tie.Need-add-v Inv-loop μ-loop
+add-v c = omega (arith, c .shared-slice-known .given (c .before .before .loop .i))
+
+add-i : tie.Need-add-i Inv-loop μ-loop
+add-i c = omega arith
+
+loop-less : tie.Need-loop-less Inv-loop μ-loop
+loop-less c = omega arith
+
+-- where the arms meet, `v` is the next number, held
+held : (c : tie.Joined1 Inv-loop μ-loop)
+    → c .if1 .v ≡ min (c .before .before .before .loop .v * 256 + getD (c .before .before .before .before .args .s .now) (c .before .before .before .loop .i) 0) 65537
+held c = ⊎-elim (λ w. omega arith) (λ w. omega arith) (c .if1 .came)
+
+loop-again : tie.Need-loop-again Inv-loop μ-loop
+loop-again c =
+    let a = c .before .before .before .before .args in
+    let l = c .before .before .before .loop in
+    let rest = take (a .to - (l .i + 1)) (drop (l .i + 1) (a .s .now)) in (
+      omega arith,
+      omega arith,
+      omega (arith, held c),
+      l .inv .3
+          ∙ ap (λ (n : ℕ). min n 65537) (natural-step (a .s .now) (l .v) (l .i) (a .to) (omega arith) (omega arith))
+          ∙ natural-held (l .v * 256 + getD (a .s .now) (l .i) 0) rest
+          ∙ ap (λ (n : ℕ). min (natural n rest) 65537) (sym (held c)),
+    )
+
+returns : tie.Need-returns Inv-loop μ-loop
+returns c =
+    let a = c .before .before .args in
+    let l = c .before .loop in
+    omega (arith, natural-end (a .s .now) (l .v) (l .i) (a .to) (omega arith))
+
+pub number-spec : {M : Type 1} → statement M
+number-spec =
+    tie.close
+    (tie.spec
+    Inv-loop
+    μ-loop
+    loop-holds
+    mul-v
+    shared-slice-read-v
+    cast-v
+    add-v
+    add-i
+    loop-less
+    loop-again
+    returns)

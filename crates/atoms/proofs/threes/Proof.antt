@@ -1,0 +1,82 @@
+-- `atoms::threes` meets its contract. The invariant: those passed and those that follow are all.
+-- Assumes nothing.
+use Prim.Native.Nat.{_+_, _-_, _≤_}
+use mathlib.Core.Path.{_≡_}
+use native.Mathlib.Omega.{arith}
+use lib.ListN.{length, drop}
+use Rattle.atoms.specs.Tokens.{leading-threes}
+use Rattle.atoms.proofs.Places.{threes-end, threes-other, threes-more, threes-none}
+use Rattle.atoms.proofs.threes.Statement.{statement}
+use Rattle.atoms.proofs.threes.Tie as tie
+
+abbrev Inv-loop : tie.InvT-loop
+Inv-loop s at k₀ k = (k ≤ 8) × (at + k ≤ length s) × (leading-threes 8 (drop at s) ≡ k + leading-threes (8 - k) (drop (at + k) s))
+
+abbrev μ-loop : tie.MeasureT-loop
+μ-loop s at k₀ k = 8 - k
+
+loop-holds : tie.Need-loop-holds Inv-loop μ-loop
+loop-holds c =
+    let a = c .args in
+    let here : a .at + 0 ≡ a .at = omega arith in
+    (omega arith, omega arith, rw here (omega arith))
+
+add-if1 : tie.Need-add-if1 Inv-loop μ-loop
+add-if1 c = omega arith
+
+returns : tie.Need-returns Inv-loop μ-loop
+returns c =
+    let a = c .before .before .before .args in
+    let l = c .before .before .loop in
+    omega (arith, threes-end (a .s .now) (a .at + l .k) (8 - l .k) (omega arith))
+
+add-if2 : tie.Need-add-if2 Inv-loop μ-loop
+add-if2 c = omega arith
+
+shared-slice-read-if2 : tie.Need-shared-slice-read-if2 Inv-loop μ-loop
+shared-slice-read-if2 c = omega arith
+
+returns-2 : tie.Need-returns-2 Inv-loop μ-loop
+returns-2 c =
+    let a = c .before .before .before .before .before .args in
+    let l = c .before .before .before .before .loop in
+    omega (arith, threes-other (a .s .now) (a .at + l .k) (8 - l .k) (omega arith) (c .if2 .taken))
+
+add-k : tie.Need-add-k Inv-loop μ-loop
+add-k c = omega arith
+
+loop-less : tie.Need-loop-less Inv-loop μ-loop
+loop-less c = omega arith
+
+loop-again : tie.Need-loop-again Inv-loop μ-loop
+loop-again c =
+    let a = c .before .before .before .before .before .args in
+    let l = c .before .before .before .before .loop in
+    let left : 8 - l .k - 1 ≡ 8 - (l .k + 1) = omega arith in
+    let past : a .at + l .k + 1 ≡ a .at + (l .k + 1) = omega arith in
+    let more = threes-more (a .s .now) (a .at + l .k) (8 - l .k) (omega arith) (c .if2 .left) (omega arith) in
+    (omega arith, omega arith, omega (arith, l .inv .2, rw (left, past) at more))
+
+returns-3 : tie.Need-returns-3 Inv-loop μ-loop
+returns-3 c =
+    let a = c .before .before .args in
+    let l = c .before .loop in
+    let none : 8 - l .k ≡ 0 = omega arith in
+    omega (arith, rw none at (l .inv .2), threes-none (drop (a .at + l .k) (a .s .now)))
+
+pub threes-spec : {M : Type 1} → statement M
+threes-spec =
+    tie.close
+    (tie.spec
+    Inv-loop
+    μ-loop
+    loop-holds
+    add-if1
+    returns
+    add-if2
+    shared-slice-read-if2
+    returns-2
+    add-k
+    loop-less
+    loop-again
+    returns-3)

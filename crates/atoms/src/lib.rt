@@ -1,0 +1,239 @@
+// What stands at a place of a stream: a form's 01 or 02, a whole atom, or a refusal.
+ghost use mathlib.Core.Path.{_≡_};
+ghost use Prim.Native.Nat.{ℕ, suc, _-_, _≤_, _<_, min};
+ghost use lib.ListN.{length, take, drop};
+ghost use Rattle.spec.specs.Reading.{taken, and-then, take-bytes, natural, length-expr, marker, name, as-array};
+ghost use Rattle.atoms.specs.Tokens.{token-at, shown, shown-atom, measured, leading-threes, plain, around};
+
+pub enum Token {
+    Opening,
+    Closing,
+    // An atom of that kind. `body` is where an array's bytes begin; any other atom is all body.
+    Whole { kind: u32, body: usize, end: usize },
+    Bad { number: u32, place: usize },
+}
+
+// A length expression's number, 65,537 if it is larger, and where the expression ends.
+enum Length {
+    Is { value: usize, end: usize },
+    Wrong { number: u32, place: usize },
+}
+
+// The big-endian number of the bytes from `from` up to `to`, 65,537 if it is larger.
+fn number(s: &[u8], from: usize, to: usize) -> usize
+    requires { ⌜ (from ≤ to) × (to ≤ length (now s)) ⌝ }
+    ensures { λ r. ⌜ r ≡ min (natural 0 (take (to - from) (drop from (now (s .entry))))) 65537 ⌝ }
+{
+    let mut v: usize = 0;
+    let mut i = from;
+    while i < to {
+        v = v * 256 + (s[i] as usize);
+        if v > 65537 {
+            v = 65537;
+        }
+        i += 1;
+    }
+    v
+}
+
+// How many bytes 03 stand in a row at a place; 8 where there are more.
+fn threes(s: &[u8], at: usize) -> usize
+    requires { ⌜ at ≤ length (now s) ⌝ }
+    ensures { λ r. ⌜ r ≡ leading-threes 8 (drop at (now (s .entry))) ⌝ }
+{
+    let mut k: usize = 0;
+    while k < 8 {
+        if at + k == s.len() {
+            return k;
+        }
+        if s[at + k] != 3 {
+            return k;
+        }
+        k += 1;
+    }
+    k
+}
+
+// A length expression that is no generic array.
+fn plain_length(s: &[u8], at: usize) -> Length
+    requires { ⌜ at ≤ length (now s) ⌝ }
+    ensures { λ r. ⌜ r ≡ measured (length (now (s .entry))) (plain (drop at (now (s .entry)))) ⌝ }
+{
+    if at == s.len() {
+        return Length::Wrong {
+            number: 2,
+            place: at,
+        };
+    }
+    let b = s[at] as usize;
+    let body = at + 1;
+    if b < 0x80 {
+        return Length::Wrong {
+            number: 5,
+            place: at,
+        };
+    }
+    if b < 0xC0 {
+        return Length::Is {
+            value: b - 0x80,
+            end: body,
+        };
+    }
+    let n = b - 0xC0;
+    if s.len() - body < n {
+        return Length::Wrong {
+            number: 2,
+            place: s.len(),
+        };
+    }
+    let end = body + n;
+    Length::Is {
+        value: number(s, body, end),
+        end,
+    }
+}
+
+// A length that is the length of the next, `depth` times: the innermost is `value` and ends at `from`.
+fn nested_length(s: &[u8], value: usize, from: usize, depth: usize) -> Length
+    requires { ⌜ (length (now s) ≤ 65536) × (from ≤ length (now s)) × (value ≤ 65537) ⌝ }
+    ensures { λ r. ⌜ r ≡ measured (length (now (s .entry))) (around depth (taken value (drop from (now (s .entry))))) ⌝ }
+{
+    let mut v = value;
+    let mut at = from;
+    let mut k = depth;
+    while 0 < k {
+        if s.len() - at < v {
+            return Length::Wrong {
+                number: 2,
+                place: s.len(),
+            };
+        }
+        let end = at + v;
+        v = number(s, at, end);
+        at = end;
+        k -= 1;
+    }
+    Length::Is { value: v, end: at }
+}
+
+// The length expression at a place, behind an array's own 03.
+fn length_at(s: &[u8], at: usize) -> Length
+    requires { ⌜ (length (now s) ≤ 65536) × (at ≤ length (now s)) ⌝ }
+    ensures { λ r. ⌜ r ≡ measured (length (now (s .entry))) (length-expr 7 (drop at (now (s .entry)))) ⌝ }
+{
+    let depth = threes(s, at);
+    if depth == 8 {
+        return Length::Wrong {
+            number: 6,
+            place: at + 7,
+        };
+    }
+    match plain_length(s, at + depth) {
+        Length::Wrong { number, place } => Length::Wrong { number, place },
+        Length::Is { value, end } => nested_length(s, value, end, depth),
+    }
+}
+
+// The generic array whose 03 is at a place.
+fn array_at(s: &[u8], at: usize) -> Token
+    requires { ⌜ (length (now s) ≤ 65536) × (at < length (now s)) ⌝ }
+    ensures { λ r. ⌜ r ≡ shown-atom at (length (now (s .entry))) (and-then (and-then (length-expr 7 (drop (suc at) (now (s .entry)))) take-bytes) as-array) ⌝ }
+{
+    match length_at(s, at + 1) {
+        Length::Wrong { number, place } => Token::Bad { number, place },
+        Length::Is { value, end } => bytes_at(s, end, value),
+    }
+}
+
+// The array of `size` bytes that begin at `body`.
+fn bytes_at(s: &[u8], body: usize, size: usize) -> Token
+    requires { ⌜ body ≤ length (now s) ⌝ }
+    ensures { λ r. ⌜ ((p : ℕ) → r ≡ shown-atom p (length (now (s .entry))) (and-then (take-bytes size (drop body (now (s .entry)))) as-array)) ⌝ }
+{
+    if s.len() - body < size {
+        return Token::Bad {
+            number: 2,
+            place: s.len(),
+        };
+    }
+    Token::Whole {
+        kind: 2,
+        body,
+        end: body + size,
+    }
+}
+
+// The reference at `at` whose marker is `sum` and ends at `past`, where its name byte is.
+fn reference(s: &[u8], at: usize, sum: usize, past: usize) -> Token
+    requires { ⌜ (at ≤ length (now s)) × (past ≤ length (now s)) ⌝ }
+    ensures { λ r. ⌜ r ≡ shown-atom at (length (now (s .entry))) (name (drop at (now (s .entry))) sum (drop past (now (s .entry)))) ⌝ }
+{
+    if past == s.len() {
+        return Token::Bad {
+            number: 2,
+            place: past,
+        };
+    }
+    if 65535 < sum {
+        return Token::Bad {
+            number: 7,
+            place: at,
+        };
+    }
+    Token::Whole {
+        kind: 4,
+        body: at,
+        end: past + 1,
+    }
+}
+
+// The reference whose 7F is at a place.
+fn long_reference(s: &[u8], at: usize) -> Token
+    requires { ⌜ (length (now s) ≤ 65536) × (at < length (now s)) ⌝ }
+    ensures { λ r. ⌜ r ≡ shown-atom at (length (now (s .entry))) (and-then (marker 0x7F (drop (suc at) (now (s .entry)))) (name (drop at (now (s .entry))))) ⌝ }
+{
+    let mut sum: usize = 0x7F;
+    let mut p = at + 1;
+    while p < s.len() {
+        let b = s[p];
+        sum += b as usize;
+        p += 1;
+        if b != 0xFF {
+            return reference(s, at, sum, p);
+        }
+    }
+    Token::Bad {
+        number: 2,
+        place: p,
+    }
+}
+
+// The token at a place of a stream.
+pub fn token_at(s: &[u8], at: usize) -> Token
+    requires { ⌜ (length (now s) ≤ 65536) × (at < length (now s)) ⌝ }
+    ensures { λ r. ⌜ r ≡ shown (token-at (now (s .entry)) at) ⌝ }
+{
+    let b = s[at];
+    match b {
+        0x00 => Token::Whole {
+            kind: 0,
+            body: at,
+            end: at + 1,
+        },
+        0x01 => Token::Opening,
+        0x02 => Token::Closing,
+        0x03 => array_at(s, at),
+        0x04..=0x0F => Token::Bad {
+            number: 4,
+            place: at,
+        },
+        0x10..=0x7E => reference(s, at, b as usize, at + 1),
+        0x7F => long_reference(s, at),
+        0x80..=0xBF => Token::Whole {
+            kind: 3,
+            body: at,
+            end: at + 1,
+        },
+        0xC0..=0xFF => bytes_at(s, at + 1, (b - 0xC0) as usize),
+    }
+}

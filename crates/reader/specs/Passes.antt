@@ -1,0 +1,29 @@
+-- What this crate's functions answer and leave in the table, as `Reading` and `Calls` of the crate `spec` define it.
+use Prim.Native.Nat.{ℕ, _+_, _*_}
+use mathlib.Core.List.{List}
+use lib.ListN.{length, set}
+use Rattle.spec.specs.Expr.{canonical}
+use Rattle.spec.specs.Reading.{Reading, refused, readable, row-width}
+use Rattle.spec.specs.Calls.{Buffer}
+use Rattle.spec.specs.Calls.{Part as Named, part, no-part}
+use Rattle.reader.specs.declared.Checked.{Checked}
+use Rattle.reader.specs.declared.Checked.the-variants.{Right, Wrong}
+use Rattle.reader.specs.declared.Part.{Part}
+use Rattle.reader.specs.declared.Part.the-variants.{Of, Empty}
+
+-- what is counted of a stream that can be read, or its refusal
+abbrev pub checked : Reading → Checked
+checked (refused w p) = Wrong w p
+checked (readable rs es) = Right (length rs) (length (canonical es))
+
+-- a table after the first two numbers of a row are written, and after the last two are
+abbrev pub row-started : List ℕ → ℕ → ℕ → ℕ → List ℕ
+row-started t r kind start = set (set t (row-width * r) kind) (row-width * r + 1) start
+
+abbrev pub row-ended : List ℕ → ℕ → ℕ → ℕ → List ℕ
+row-ended t r end next = set (set t (row-width * r + 2) end) (row-width * r + 3) next
+
+-- a part, of the buffer that was asked for
+abbrev pub of-buffer : Buffer → Part → Named
+of-buffer b (Of start end) = part b start end
+of-buffer b Empty = no-part

@@ -1,0 +1,199 @@
+// Two passes over a stream: the first checks it and counts, the second writes its rows.
+use atoms::Token;
+
+// The numbers of a row.
+pub const ROW_WIDTH: usize = 4;
+
+pub enum Checked {
+    // How many rows the stream has, and the length of its canonical bytes.
+    Right { rows: usize, length: usize },
+    Wrong { number: u32, place: usize },
+}
+
+// How many bytes an array's head takes.
+fn head_size(n: usize) -> usize {
+    if n < 64 {
+        return 1;
+    }
+    if n < 256 {
+        return 3;
+    }
+    4
+}
+
+// The canonical length of an atom that was read.
+fn canonical_size(kind: u32, body: usize, end: usize) -> usize {
+    let n = end - body;
+    if kind == 2 { head_size(n) + n } else { n }
+}
+
+// The first pass, with room for so many rows.
+pub fn check(s: &[u8], room: usize) -> Checked {
+    if 65536 < s.len() {
+        return Checked::Wrong {
+            number: 1,
+            place: 0,
+        };
+    }
+    let mut at: usize = 0;
+    let mut open: usize = 0;
+    let mut rows: usize = 0;
+    let mut length: usize = 0;
+    while at < s.len() {
+        match atoms::token_at(s, at) {
+            Token::Opening => {
+                if 64 <= open {
+                    return Checked::Wrong {
+                        number: 6,
+                        place: at,
+                    };
+                }
+                if room <= rows {
+                    return Checked::Wrong {
+                        number: 8,
+                        place: at,
+                    };
+                }
+                open += 1;
+                rows += 1;
+                length += 1;
+                at += 1;
+            }
+            Token::Closing => {
+                if open == 0 {
+                    return Checked::Wrong {
+                        number: 3,
+                        place: at,
+                    };
+                }
+                open -= 1;
+                length += 1;
+                at += 1;
+            }
+            Token::Whole { kind, body, end } => {
+                if room <= rows {
+                    return Checked::Wrong {
+                        number: 8,
+                        place: at,
+                    };
+                }
+                rows += 1;
+                length += canonical_size(kind, body, end);
+                at = end;
+            }
+            Token::Bad { number, place } => {
+                return Checked::Wrong { number, place };
+            }
+        }
+    }
+    if open == 0 {
+        return Checked::Right { rows, length };
+    }
+    Checked::Wrong {
+        number: 2,
+        place: at,
+    }
+}
+
+// The first two numbers of a row.
+fn start_row(table: &mut [u32], row: usize, kind: u32, start: u32) {
+    table[ROW_WIDTH * row] = kind;
+    table[ROW_WIDTH * row + 1] = start;
+}
+
+// The last two numbers of a row.
+fn end_row(table: &mut [u32], row: usize, end: u32, next: u32) {
+    table[ROW_WIDTH * row + 2] = end;
+    table[ROW_WIDTH * row + 3] = next;
+}
+
+// The second pass: the rows of a stream that can be read.
+pub fn fill(s: &[u8], table: &mut [u32]) {
+    let mut forms = [0u32; 64];
+    let mut at: usize = 0;
+    let mut open: usize = 0;
+    let mut rows: usize = 0;
+    while at < s.len() {
+        match atoms::token_at(s, at) {
+            Token::Opening => {
+                forms[open] = rows as u32;
+                start_row(table, rows, 1, at as u32);
+                open += 1;
+                rows += 1;
+                at += 1;
+            }
+            Token::Closing => {
+                open -= 1;
+                at += 1;
+                end_row(table, forms[open] as usize, at as u32, rows as u32);
+            }
+            Token::Whole { kind, body: _, end } => {
+                start_row(table, rows, kind, at as u32);
+                end_row(table, rows, end as u32, (rows + 1) as u32);
+                rows += 1;
+                at = end;
+            }
+            Token::Bad {
+                number: _,
+                place: _,
+            } => {
+                return;
+            }
+        }
+    }
+}
+
+// Where the expression at a place of a stream that can be read ends.
+fn expression_end(s: &[u8], start: usize) -> usize {
+    let mut at = start;
+    let mut open: usize = 0;
+    while at < s.len() {
+        match atoms::token_at(s, at) {
+            Token::Opening => {
+                open += 1;
+                at += 1;
+            }
+            Token::Closing => {
+                open -= 1;
+                at += 1;
+            }
+            Token::Whole {
+                kind: _,
+                body: _,
+                end,
+            } => {
+                at = end;
+            }
+            Token::Bad {
+                number: _,
+                place: _,
+            } => {
+                return at;
+            }
+        }
+        if open == 0 {
+            return at;
+        }
+    }
+    at
+}
+
+pub enum Part {
+    Of { start: usize, end: usize },
+    Empty,
+}
+
+// Top-level expression k of a stream that can be read.
+pub fn find(s: &[u8], k: usize) -> Part {
+    let mut at: usize = 0;
+    let mut n = k;
+    while at < s.len() {
+        let end = expression_end(s, at);
+        if n == 0 {
+            return Part::Of { start: at, end };
+        }
+        n -= 1;
+        at = end;
+    }
+    Part::Empty
+}
