@@ -5,19 +5,14 @@ use mathlib.Core.List.{List, [], _∷_, _++_, append-assoc}
 use native.Mathlib.Omega.{arith}
 use lib.ListN.{length, take, drop, length-append, length-take, length-drop, take-append-drop}
 use lib.Seq.{drop-drop, take-at, drop-at}
-use lib.Dec.{eqb}
-use Rattle.spec.specs.Expr.{if_then_else_, Atom, nil, array, int, ref, array-head, atom-bytes}
+use Rattle.spec.specs.Expr.{Atom, nil, array, int, ref, atom-bytes}
 use Rattle.spec.specs.Reading.{Token, opening, closing, whole, bad, atom-kind}
 use Rattle.laws.specs.Demands.{Bytes}
 use Rattle.laws.specs.Grammar.{SpellsArray, small, generic}
 use Rattle.laws.proofs.Steps.{tokens-from, WholeAt, StepAt, step-at}
-use Rattle.atoms.specs.Tokens.{token-at, body, shown}
+use Rattle.atoms.specs.Tokens.{token-at, body, shown, atom-head}
 use Rattle.atoms.specs.declared.Token.{Token as Answer}
 use Rattle.atoms.specs.declared.Token.the-variants.{Opening, Closing, Whole, Bad}
-
--- the head that the canonical bytes of an atom of that kind have before a body of n bytes
-abbrev pub head : ℕ → ℕ → List ℕ
-head kind n = if eqb kind 2 then array-head n else []
 
 -- an atom of that kind that goes from p to e, its body from b on
 pub record AtomAt (s : List ℕ) (p kind b e : ℕ) : Type 0 where
@@ -31,7 +26,7 @@ pub record AtomAt (s : List ℕ) (p kind b e : ℕ) : Type 0 where
   -- an array has a head
   pub headed : kind ≡ 2 → p < b
   pub shorter : p + length (atom-bytes atom) ≤ e
-  pub written : atom-bytes atom ≡ head kind (e - b) ++ take (e - b) (drop b s)
+  pub written : atom-bytes atom ≡ atom-head kind (e - b) ++ take (e - b) (drop b s)
 
 abbrev pub Next : List ℕ → ℕ → Answer → Type 0
 Next s p Opening = tokens-from s p ≡ opening p ∷ tokens-from s (p + 1)
@@ -41,7 +36,7 @@ Next s p (Bad w q) = (ts : List Token) × (tokens-from s p ≡ bad w q ∷ ts)
 
 module _ (s : List ℕ) (p e : ℕ) where
   -- an atom that is all body
-  all-body : (a : Atom) (k : ℕ) → k ≡ atom-kind a → (k ≡ 2 → ⊥) → WholeAt s p a e → atom-bytes a ≡ head k (e - p) ++ take (e - p) (drop p s) → AtomAt s p k p e
+  all-body : (a : Atom) (k : ℕ) → k ≡ atom-kind a → (k ≡ 2 → ⊥) → WholeAt s p a e → atom-bytes a ≡ atom-head k (e - p) ++ take (e - p) (drop p s) → AtomAt s p k p e
   all-body a k h other w written = record {
     atom = a;
     is = w .is;
@@ -97,6 +92,14 @@ module _ (s : List ℕ) (p e : ℕ) where
   atom-at (array bs) w = array-body bs w
   atom-at (int v) w = all-body (int v) 3 refl (λ z. omega arith) w (sym (w .spelled .1))
   atom-at (ref m n) w = all-body (ref m n) 4 refl (λ z. omega arith) w (sym (w .spelled .2))
+
+-- how many bytes an atom is written with
+pub written-size : (s : List ℕ) (p kind b e : ℕ) (w : AtomAt s p kind b e) → length (atom-bytes (w .atom)) ≡ length (atom-head kind (e - b)) + (e - b)
+written-size s p kind b e w =
+    let inside = w .inside in
+    let left = length-drop b s in
+    let size : length (take (e - b) (drop b s)) ≡ e - b = length-take (e - b) (drop b s) ∙ omega arith in
+    ap length (w .written) ∙ length-append (atom-head kind (e - b)) (take (e - b) (drop b s)) ∙ omega arith
 
 pub next : (s : List ℕ) (p : ℕ) (r : Answer) → Bytes s → p < length s → r ≡ shown (token-at s p) → Next s p r
 next s p r stream inside told = rw told (go (token-at s p) (step-at s p stream inside))

@@ -3,7 +3,7 @@ use Prim.Native.Nat.{ℕ, zero, suc, _-_, min}
 use mathlib.Core.List.{List, [], _∷_}
 use lib.ListN.{length, drop, getD}
 use lib.Dec.{eqb}
-use Rattle.spec.specs.Expr.{if_then_else_, Atom, if-array}
+use Rattle.spec.specs.Expr.{if_then_else_, Atom, if-array, array-head}
 use Rattle.spec.specs.Reading.{Taken, taken, failed, and-then, take-bytes, as-length, plain-length, Token, opening, closing, whole, bad, atom-kind, atom-token, token}
 use Rattle.atoms.specs.declared.Length.{Length}
 use Rattle.atoms.specs.declared.Length.the-variants.{Is, Wrong}
@@ -24,6 +24,10 @@ shown (opening p) = Opening
 shown (closing p) = Closing
 shown (whole a p e) = Whole (atom-kind a) (body a p e) e
 shown (bad w p) = Bad w p
+
+-- the head that the canonical bytes of an atom of that kind have before a body of n bytes
+abbrev pub atom-head : ℕ → ℕ → List ℕ
+atom-head kind n = if eqb kind 2 then array-head n else []
 
 -- Lengths
 

@@ -1,5 +1,14 @@
 // Two passes over a stream: the first checks it and counts, the second writes its rows.
 use atoms::Token;
+ghost use mathlib.Core.Path.{_≡_};
+ghost use Prim.Native.Nat.{_+_, _-_, _*_, _≤_};
+ghost use lib.ListN.{length};
+ghost use Rattle.spec.specs.Expr.{array-head};
+ghost use Rattle.spec.specs.Reading.{tokens, rows-of, row-width, read};
+ghost use Rattle.spec.specs.Calls.{filled};
+ghost use Rattle.laws.specs.Demands.{CanRead};
+ghost use Rattle.atoms.specs.Tokens.{atom-head};
+ghost use Rattle.reader.specs.Passes.{checked, row-started, row-ended};
 
 // The numbers of a row.
 pub const ROW_WIDTH: usize = 4;
@@ -11,7 +20,9 @@ pub enum Checked {
 }
 
 // How many bytes an array's head takes.
-fn head_size(n: usize) -> usize {
+fn head_size(n: usize) -> usize
+    ensures { λ r. ⌜ r ≡ length (array-head n) ⌝ }
+{
     if n < 64 {
         return 1;
     }
@@ -22,13 +33,18 @@ fn head_size(n: usize) -> usize {
 }
 
 // The canonical length of an atom that was read.
-fn canonical_size(kind: u32, body: usize, end: usize) -> usize {
+fn canonical_size(kind: u32, body: usize, end: usize) -> usize
+    requires { ⌜ (body ≤ end) × (end ≤ 65536) ⌝ }
+    ensures { λ r. ⌜ r ≡ length (atom-head kind (end - body)) + (end - body) ⌝ }
+{
     let n = end - body;
     if kind == 2 { head_size(n) + n } else { n }
 }
 
 // The first pass, with room for so many rows.
-pub fn check(s: &[u8], room: usize) -> Checked {
+pub fn check(s: &[u8], room: usize) -> Checked
+    ensures { λ r. ⌜ r ≡ checked (read (now (s .entry)) room) ⌝ }
+{
     if 65536 < s.len() {
         return Checked::Wrong {
             number: 1,
@@ -36,13 +52,13 @@ pub fn check(s: &[u8], room: usize) -> Checked {
         };
     }
     let mut at: usize = 0;
-    let mut open: usize = 0;
+    let mut depth: usize = 0;
     let mut rows: usize = 0;
     let mut length: usize = 0;
     while at < s.len() {
         match atoms::token_at(s, at) {
             Token::Opening => {
-                if 64 <= open {
+                if 64 <= depth {
                     return Checked::Wrong {
                         number: 6,
                         place: at,
@@ -54,19 +70,19 @@ pub fn check(s: &[u8], room: usize) -> Checked {
                         place: at,
                     };
                 }
-                open += 1;
+                depth += 1;
                 rows += 1;
                 length += 1;
                 at += 1;
             }
             Token::Closing => {
-                if open == 0 {
+                if depth == 0 {
                     return Checked::Wrong {
                         number: 3,
                         place: at,
                     };
                 }
-                open -= 1;
+                depth -= 1;
                 length += 1;
                 at += 1;
             }
@@ -86,7 +102,7 @@ pub fn check(s: &[u8], room: usize) -> Checked {
             }
         }
     }
-    if open == 0 {
+    if depth == 0 {
         return Checked::Right { rows, length };
     }
     Checked::Wrong {
@@ -96,36 +112,45 @@ pub fn check(s: &[u8], room: usize) -> Checked {
 }
 
 // The first two numbers of a row.
-fn start_row(table: &mut [u32], row: usize, kind: u32, start: u32) {
+fn start_row(table: &mut [u32], row: usize, kind: u32, start: u32)
+    requires { ⌜ row-width * row + row-width ≤ length (now table) ⌝ }
+    ensures { λ _. ⌜ now (table .exit) ≡ row-started (now (table .entry)) row kind start ⌝ }
+{
     table[ROW_WIDTH * row] = kind;
     table[ROW_WIDTH * row + 1] = start;
 }
 
 // The last two numbers of a row.
-fn end_row(table: &mut [u32], row: usize, end: u32, next: u32) {
+fn end_row(table: &mut [u32], row: usize, end: u32, next: u32)
+    requires { ⌜ row-width * row + row-width ≤ length (now table) ⌝ }
+    ensures { λ _. ⌜ now (table .exit) ≡ row-ended (now (table .entry)) row end next ⌝ }
+{
     table[ROW_WIDTH * row + 2] = end;
     table[ROW_WIDTH * row + 3] = next;
 }
 
 // The second pass: the rows of a stream that can be read.
-pub fn fill(s: &[u8], table: &mut [u32]) {
+pub fn fill(s: &[u8], table: &mut [u32])
+    requires { ⌜ CanRead (now s) × (row-width * length (rows-of (tokens 0 0 (now s))) ≤ length (now table)) ⌝ }
+    ensures { λ _. ⌜ now (table .exit) ≡ filled (rows-of (tokens 0 0 (now (s .entry)))) (now (table .entry)) ⌝ }
+{
     let mut forms = [0u32; 64];
     let mut at: usize = 0;
-    let mut open: usize = 0;
+    let mut depth: usize = 0;
     let mut rows: usize = 0;
     while at < s.len() {
         match atoms::token_at(s, at) {
             Token::Opening => {
-                forms[open] = rows as u32;
+                forms[depth] = rows as u32;
                 start_row(table, rows, 1, at as u32);
-                open += 1;
+                depth += 1;
                 rows += 1;
                 at += 1;
             }
             Token::Closing => {
-                open -= 1;
+                depth -= 1;
                 at += 1;
-                end_row(table, forms[open] as usize, at as u32, rows as u32);
+                end_row(table, forms[depth] as usize, at as u32, rows as u32);
             }
             Token::Whole { kind, body: _, end } => {
                 start_row(table, rows, kind, at as u32);
@@ -146,15 +171,15 @@ pub fn fill(s: &[u8], table: &mut [u32]) {
 // Where the expression at a place of a stream that can be read ends.
 fn expression_end(s: &[u8], start: usize) -> usize {
     let mut at = start;
-    let mut open: usize = 0;
+    let mut depth: usize = 0;
     while at < s.len() {
         match atoms::token_at(s, at) {
             Token::Opening => {
-                open += 1;
+                depth += 1;
                 at += 1;
             }
             Token::Closing => {
-                open -= 1;
+                depth -= 1;
                 at += 1;
             }
             Token::Whole {
@@ -171,7 +196,7 @@ fn expression_end(s: &[u8], start: usize) -> usize {
                 return at;
             }
         }
-        if open == 0 {
+        if depth == 0 {
             return at;
         }
     }
