@@ -36,7 +36,7 @@ mutual
 mutual
   unfolding expr-rows rows
 
-  expr-rows-count : (e : Expr) (x : List ℕ) (sp : Spells e x) (p : ℕ) → length (expr-rows e x sp p) ≡ rows e
+  pub expr-rows-count : (e : Expr) (x : List ℕ) (sp : Spells e x) (p : ℕ) → length (expr-rows e x sp p) ≡ rows e
   expr-rows-count (atom a) x sp p = refl
   expr-rows-count (form es) x sp p = omega (arith, all-rows-count es (sp .0) (sp .2) (p + 1))
 
@@ -53,7 +53,7 @@ form-row p e rs = record { kind = 1; start = p; end = e } ∷ rs
 mutual
   unfolding rows-of expr-rows ends
 
-  rows-expr : (e : Expr) (x : List ℕ) (sp : Spells e x) (p : ℕ) (s : List ℕ)
+  pub rows-expr : (e : Expr) (x : List ℕ) (sp : Spells e x) (p : ℕ) (s : List ℕ)
       → rows-of (tokens p 0 (x ++ s)) ≡ expr-rows e x sp p ++ rows-of (tokens (p + length x) 0 s)
   rows-expr (atom a) x sp p s = ap rows-of (tokens-atom a x sp p s)
   rows-expr (form es) x sp p s =
@@ -95,7 +95,7 @@ spelled-rows es s sp =
 
 -- Item
 
-expr-first : (e : Expr) (x : List ℕ) (sp : Spells e x) (p : ℕ) (rs : List Row)
+pub expr-first : (e : Expr) (x : List ℕ) (sp : Spells e x) (p : ℕ) (rs : List Row)
     → (row-at (expr-rows e x sp p ++ rs) 0 .start ≡ p) × (row-at (expr-rows e x sp p ++ rs) 0 .end ≡ p + length x)
 unfolding expr-rows
 expr-first (atom a) x sp p rs = (refl, refl)

@@ -255,7 +255,7 @@ module _ (end room : ℕ) where
           form-end y p,
         )
 
-    check-all : (es : Exprs) (x : List ℕ) → SpellsAll es x → (p d n : ℕ) (s : List ℕ) → deepest es + d ≤ 64 → n + rows-all es ≤ room
+    pub check-all : (es : Exprs) (x : List ℕ) → SpellsAll es x → (p d n : ℕ) (s : List ℕ) → deepest es + d ≤ 64 → n + rows-all es ≤ room
         → check end room (tokens p 0 (x ++ s)) d n ≡ check end room (tokens (p + length x) 0 s) d (n + rows-all es)
     check-all none x sp p d n s h k =
         let place : p + 0 ≡ p = omega arith in

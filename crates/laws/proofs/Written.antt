@@ -4,7 +4,7 @@ use mathlib.Core.Path.{_≡_, refl, sym, ap, _∙_}
 use mathlib.Core.List.{List, [], _∷_, _++_, append-assoc, append-nil}
 use lib.ListN.{length, getD}
 use native.Mathlib.Omega.{arith}
-use Rattle.spec.specs.Expr.{Expr, atom, form, Exprs, none, atom-bytes, bytes, canonical}
+use Rattle.spec.specs.Expr.{Expr, atom, Exprs, none, atom-bytes, bytes, canonical}
 use Rattle.spec.specs.Reading.{Token, opening, closing, whole, bad, tokens, right, check, put, wrap, lists}
 use Rattle.laws.specs.Demands.{meaning-of, CanRead}
 use Rattle.laws.proofs.Tokens.{right-opening, right-closing, right-whole, right-bad}

@@ -1,3 +1,4 @@
 pub mod Checking
 pub mod Table
 pub mod Filling
+pub mod Finding

@@ -1,9 +1,10 @@
 -- What this crate's functions answer and leave in the table, as `Reading` and `Calls` of the crate `spec` define it.
 use Prim.Native.Nat.{ℕ, _+_, _*_}
+use mathlib.Core.Path.{_≡_}
 use mathlib.Core.List.{List}
-use lib.ListN.{length, set}
+use lib.ListN.{length, set, drop}
 use Rattle.spec.specs.Expr.{canonical}
-use Rattle.spec.specs.Reading.{Reading, refused, readable, row-width}
+use Rattle.spec.specs.Reading.{tokens, right, check, Reading, refused, readable, row-width}
 use Rattle.spec.specs.Calls.{Buffer}
 use Rattle.spec.specs.Calls.{Part as Named, part, no-part}
 use Rattle.reader.specs.declared.Checked.{Checked}
@@ -22,6 +23,10 @@ row-started t r kind start = set (set t (row-width * r) kind) (row-width * r + 1
 
 abbrev pub row-ended : List ℕ → ℕ → ℕ → ℕ → List ℕ
 row-ended t r end next = set (set t (row-width * r + 2) end) (row-width * r + 3) next
+
+-- d forms are open at place p of a stream, and what follows is right
+abbrev pub RightFrom : List ℕ → ℕ → ℕ → Type 0
+RightFrom s p d = (n : ℕ) × (check (length s) (length s) (tokens p 0 (drop p s)) d n ≡ right)
 
 -- a part, of the buffer that was asked for
 abbrev pub of-buffer : Buffer → Part → Named

@@ -1,14 +1,14 @@
 // Two passes over a stream: the first checks it and counts, the second writes its rows.
 use atoms::Token;
 ghost use mathlib.Core.Path.{_≡_};
-ghost use Prim.Native.Nat.{_+_, _-_, _*_, _≤_};
-ghost use lib.ListN.{length};
+ghost use Prim.Native.Nat.{_+_, _-_, _*_, _≤_, _<_};
+ghost use lib.ListN.{length, drop, getD};
 ghost use Rattle.spec.specs.Expr.{array-head};
-ghost use Rattle.spec.specs.Reading.{tokens, rows-of, row-width, read};
-ghost use Rattle.spec.specs.Calls.{filled};
-ghost use Rattle.laws.specs.Demands.{CanRead};
+ghost use Rattle.spec.specs.Reading.{tokens, ends, rows-of, row-width, read};
+ghost use Rattle.spec.specs.Calls.{filled, row-at, Buffer, item};
+ghost use Rattle.laws.specs.Demands.{meaning-of, CanRead};
 ghost use Rattle.atoms.specs.Tokens.{atom-head};
-ghost use Rattle.reader.specs.Passes.{checked, row-started, row-ended};
+ghost use Rattle.reader.specs.Passes.{checked, row-started, row-ended, RightFrom, of-buffer};
 
 // The numbers of a row.
 pub const ROW_WIDTH: usize = 4;
@@ -168,8 +168,11 @@ pub fn fill(s: &[u8], table: &mut [u32])
     }
 }
 
-// Where the expression at a place of a stream that can be read ends.
-fn expression_end(s: &[u8], start: usize) -> usize {
+// Where the form ends whose 01 is before a place.
+fn form_end(s: &[u8], start: usize) -> usize
+    requires { ⌜ (length (now s) ≤ 65536) × (start ≤ length (now s)) × RightFrom (now s) start 1 ⌝ }
+    ensures { λ r. ⌜ r ≡ getD (ends (tokens start 0 (drop start (now (s .entry))))) 0 0 ⌝ }
+{
     let mut at = start;
     let mut depth: usize = 0;
     while at < s.len() {
@@ -179,8 +182,11 @@ fn expression_end(s: &[u8], start: usize) -> usize {
                 at += 1;
             }
             Token::Closing => {
-                depth -= 1;
                 at += 1;
+                if depth == 0 {
+                    return at;
+                }
+                depth -= 1;
             }
             Token::Whole {
                 kind: _,
@@ -196,11 +202,28 @@ fn expression_end(s: &[u8], start: usize) -> usize {
                 return at;
             }
         }
-        if depth == 0 {
-            return at;
-        }
     }
     at
+}
+
+// Where the top-level expression at a place ends.
+fn expression_end(s: &[u8], at: usize) -> usize
+    requires { ⌜ (length (now s) ≤ 65536) × (at < length (now s)) × RightFrom (now s) at 0 ⌝ }
+    ensures { λ r. ⌜ r ≡ row-at (rows-of (tokens at 0 (drop at (now (s .entry))))) 0 .end ⌝ }
+{
+    match atoms::token_at(s, at) {
+        Token::Opening => form_end(s, at + 1),
+        Token::Whole {
+            kind: _,
+            body: _,
+            end,
+        } => end,
+        Token::Closing => at,
+        Token::Bad {
+            number: _,
+            place: _,
+        } => at,
+    }
 }
 
 pub enum Part {
@@ -209,7 +232,10 @@ pub enum Part {
 }
 
 // Top-level expression k of a stream that can be read.
-pub fn find(s: &[u8], k: usize) -> Part {
+pub fn find(s: &[u8], k: usize) -> Part
+    requires { ⌜ CanRead (now s) ⌝ }
+    ensures { λ r. ⌜ ((b : Buffer) → of-buffer b r ≡ item b (rows-of (tokens 0 0 (now (s .entry)))) k (meaning-of (now (s .entry)))) ⌝ }
+{
     let mut at: usize = 0;
     let mut n = k;
     while at < s.len() {

@@ -1,40 +1,58 @@
 // The canonical stream: of each token of a stream in turn, its canonical bytes.
 use atoms::Token;
+ghost use Prim.Native.Nat.{_+_, _≤_, _<_};
+ghost use mathlib.Core.Path.{_≡_};
+ghost use lib.ListN.{length};
+ghost use Rattle.spec.specs.Expr.{array-head, canonical};
+ghost use Rattle.spec.specs.Calls.{over};
+ghost use Rattle.laws.specs.Demands.{meaning-of, CanRead};
+ghost use Rattle.writer.specs.Bytes.{Put, with-head};
 
-// Writes the head of an array of n bytes; gives where its bytes go.
-fn put_head(out: &mut [u8], to: usize, n: usize) -> usize {
-    if n < 64 {
-        out[to] = 0xC0 + (n as u8);
-        return to + 1;
-    }
-    out[to] = 0x03;
-    if n < 256 {
-        out[to + 1] = 0xC1;
-        out[to + 2] = n as u8;
-        return to + 3;
-    }
-    out[to + 1] = 0xC2;
-    out[to + 2] = (n / 256 % 256) as u8;
-    out[to + 3] = (n % 256) as u8;
-    to + 4
-}
-
-// Writes the bytes of an atom; gives where the next token goes.
-fn put_body(part: &[u8], out: &mut [u8], to: usize) -> usize {
+// Writes bytes; gives the place behind them.
+fn put_bytes(part: &[u8], out: &mut [u8], to: usize) -> usize
+    requires { ⌜ to + length (now part) ≤ length (now out) ⌝ }
+    ensures { λ r. ⌜ Put (now (out .entry)) to (now (part .entry)) (now (out .exit)) r ⌝ }
+{
     to + bytes::copy(part, &mut out[to..])
 }
 
-// Writes an atom that was read; gives where the next token goes.
-fn put_atom(s: &[u8], kind: u32, body: usize, end: usize, out: &mut [u8], to: usize) -> usize {
-    if kind == 2 {
-        let past = put_head(out, to, end - body);
-        return put_body(&s[body..end], out, past);
+// Writes the head of an array of n bytes.
+fn put_head(n: usize, out: &mut [u8], to: usize) -> usize
+    requires { ⌜ n < 65536 ⌝ }
+    requires { ⌜ to + length (array-head n) ≤ length (now out) ⌝ }
+    ensures { λ r. ⌜ Put (now (out .entry)) to (array-head n) (now (out .exit)) r ⌝ }
+{
+    if n < 64 {
+        let head = [0xC0 + (n as u8)];
+        return put_bytes(&head, out, to);
     }
-    put_body(&s[body..end], out, to)
+    if n < 256 {
+        let head = [0x03, 0xC1, n as u8];
+        return put_bytes(&head, out, to);
+    }
+    let head = [0x03, 0xC2, (n / 256) as u8, (n % 256) as u8];
+    put_bytes(&head, out, to)
+}
+
+// Writes an atom of that kind and body.
+fn put_atom(kind: u32, body: &[u8], out: &mut [u8], to: usize) -> usize
+    requires { ⌜ length (with-head kind (now body)) ≤ 65536 ⌝ }
+    requires { ⌜ to + length (with-head kind (now body)) ≤ length (now out) ⌝ }
+    ensures { λ r. ⌜ Put (now (out .entry)) to (with-head kind (now (body .entry))) (now (out .exit)) r ⌝ }
+{
+    if kind == 2 {
+        let past = put_head(body.len(), out, to);
+        return put_bytes(body, out, past);
+    }
+    put_bytes(body, out, to)
 }
 
 // Writes the canonical bytes of a stream that can be read.
-pub fn emit(s: &[u8], out: &mut [u8]) {
+pub fn emit(s: &[u8], out: &mut [u8])
+    requires { ⌜ CanRead (now s) ⌝ }
+    requires { ⌜ length (canonical (meaning-of (now s))) ≤ length (now out) ⌝ }
+    ensures { λ _. ⌜ now (out .exit) ≡ over (canonical (meaning-of (now (s .entry)))) (now (out .entry)) ⌝ }
+{
     let mut at: usize = 0;
     let mut to: usize = 0;
     while at < s.len() {
@@ -50,7 +68,7 @@ pub fn emit(s: &[u8], out: &mut [u8]) {
                 at += 1;
             }
             Token::Whole { kind, body, end } => {
-                to = put_atom(s, kind, body, end, out, to);
+                to = put_atom(kind, &s[body..end], out, to);
                 at = end;
             }
             Token::Bad {

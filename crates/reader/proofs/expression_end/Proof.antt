@@ -1,93 +1,71 @@
+-- `reader::expression_end` meets its contract: a form's end is sought, an atom's was told, and no other token stands at the top level.
+-- Assumes nothing.
+use borrow.Author.Needs.{needs}
+use mathlib.Core.Path.{_≡_, sym, _∙_}
+use native.Mathlib.Omega.{arith}
+use lib.ListN.{length}
+use Rattle.laws.proofs.Steps.{all-bytes}
+use Rattle.laws.specs.Demands.{Bytes}
+use Rattle.atoms.specs.declared.Token.{Token as Answer}
+use Rattle.atoms.specs.declared.Token.the-variants.{Opening, Closing}
+use Rattle.reader.proofs.Finding.{TopTurn, top-turn}
 use Rattle.reader.proofs.expression_end.Statement.{statement}
 use Rattle.reader.proofs.expression_end.Tie as tie
 use Rattle.reader.proofs.expression_end.Reads as reads
 use Rattle.reader.proofs.expression_end.Lts as lts
-use Rattle.atoms.proofs.token_at.Reads as token-at-reads
 
-abbrev Inv-loop : tie.InvT-loop
-Inv-loop s start at₀ depth₀ at depth = ?
+token-at-requires : tie.Need-token-at-requires
+token-at-requires c κs = search needs
 
-abbrev μ-loop : tie.MeasureT-loop
-μ-loop s start at₀ depth₀ at depth = ?
+-- what is known where the token is this one
+at-token : (c : tie.After-token-at) (r : Answer) → c .token-at .result ≡ r → TopTurn (c .before .before .args .s .now) (c .before .before .args .at) r
+at-token c r e =
+    let start = c .before .before in
+    let stream = all-bytes (start .args .s .now) (λ i. c .before .shared-slice-known .given i .fits) in
+    top-turn _ _ stream (start .pre .1) (start .pre .2) r (sym e ∙ c .token-at .ensures)
 
--- src/lib.rt:164:5
-loop-holds : tie.Need-loop-holds Inv-loop μ-loop
-loop-holds c = ?
+enum-told : tie.Need-enum-told
+enum-told c = search needs
 
--- src/lib.rt:165:15
-token-at-requires : tie.Need-token-at-requires Inv-loop μ-loop
-token-at-requires c κs = ?
+add-form-end : tie.Need-add-form-end
+add-form-end c = search needs
 
--- src/lib.rt:167:17
-enum-told : tie.Need-enum-told Inv-loop μ-loop
-enum-told c = ?
+form-end-requires : tie.Need-form-end-requires
+form-end-requires c κs = (omega arith, omega arith, at-token (c .before .before) Opening (c .enum-told .given .1) .0)
 
--- src/lib.rt:167:17
-add-depth : tie.Need-add-depth Inv-loop μ-loop
-add-depth c = ?
+enum-known-end : tie.Need-enum-known-end
+enum-known-end c = search needs
 
--- src/lib.rt:168:17
-add-at : tie.Need-add-at Inv-loop μ-loop
-add-at c = ?
+enum-told-2 : tie.Need-enum-told-2
+enum-told-2 c = search needs
 
--- src/lib.rt:171:17
-enum-told-2 : tie.Need-enum-told-2 Inv-loop μ-loop
-enum-told-2 c = ?
+enum-told-3 : tie.Need-enum-told-3
+enum-told-3 c = search needs
 
--- src/lib.rt:171:17
-sub-depth : tie.Need-sub-depth Inv-loop μ-loop
-sub-depth c = ?
+returns : tie.Need-returns
+returns c = c .form-end .ensures ∙ sym (at-token (c .before .before .before) Opening (c .before .enum-told .given .1) .1)
 
--- src/lib.rt:172:17
-add-at-2 : tie.Need-add-at-2 Inv-loop μ-loop
-add-at-2 c = ?
+returns-2 : tie.Need-returns-2
+returns-2 c = sym (at-token (c .before .before .before) _ (c .before .end .given .1))
 
--- src/lib.rt:177:17
-enum-known-end : tie.Need-enum-known-end Inv-loop μ-loop
-enum-known-end c = ?
+returns-3 : tie.Need-returns-3
+returns-3 c = absurd (at-token (c .before .before) Closing (c .enum-told2 .given .1))
 
--- src/lib.rt:185:17
-enum-told-3 : tie.Need-enum-told-3 Inv-loop μ-loop
-enum-told-3 c = ?
-
--- src/lib.rt:185:17
-returns : tie.Need-returns Inv-loop μ-loop
-returns c = ?
-
--- src/lib.rt:189:13
-returns-2 : tie.Need-returns-2 Inv-loop μ-loop
-returns-2 c = ?
-
--- src/lib.rt:164:5
-loop-less : tie.Need-loop-less Inv-loop μ-loop
-loop-less c = ?
-
--- src/lib.rt:164:5
-loop-again : tie.Need-loop-again Inv-loop μ-loop
-loop-again c = ?
-
--- src/lib.rt:161:1
-returns-3 : tie.Need-returns-3 Inv-loop μ-loop
-returns-3 c = ?
+returns-4 : tie.Need-returns-4
+returns-4 c = absurd (at-token (c .before .before) _ (c .enum-told3 .given .1))
 
 pub expression-end-spec : {M : Type 1} → statement M
 expression-end-spec =
     tie.close
     (tie.spec
-    Inv-loop
-    μ-loop
-    loop-holds
     token-at-requires
     enum-told
-    add-depth
-    add-at
-    enum-told-2
-    sub-depth
-    add-at-2
+    add-form-end
+    form-end-requires
     enum-known-end
+    enum-told-2
     enum-told-3
     returns
     returns-2
-    loop-less
-    loop-again
-    returns-3)
+    returns-3
+    returns-4)

@@ -1,0 +1,206 @@
+-- Walking over expressions without a table: where a form ends, where an expression ends, and which of the top level is asked for.
+use Prim.Native.Nat.{ℕ, zero, suc, _+_, _-_, _≤_, _<_}
+use mathlib.Core.Path.{_≡_, refl, sym, ap, _∙_, subst}
+use mathlib.Core.List.{List, [], _∷_, _++_, append-nil}
+use native.Mathlib.Omega.{arith}
+use native.Mathlib.Decide.{decLe}
+use lib.ListN.{length, drop, getD, length-append, length-drop}
+use lib.Seq.{drop-drop, drop-at, getD-drop}
+use Rattle.spec.specs.Expr.{Expr, atom, form, Exprs, none, more, size, rows, rows-all, deepest}
+use Rattle.spec.specs.Reading.{Token, tokens, right, check, Row, ends, rows-of}
+use Rattle.spec.specs.Calls.{Buffer, part, no-part, row-at, item}
+use Rattle.laws.specs.Demands.{Bytes, meaning-of, CanRead}
+use Rattle.laws.specs.Grammar.{Spells, SpellsAll, expr-rows}
+use Rattle.laws.proofs.Spelling.{front}
+use Rattle.laws.proofs.Tokens.{right-end, right-opening, right-closing, right-whole, right-bad}
+use Rattle.laws.proofs.Reading.{read-readable, read-meant, check-all}
+use Rattle.laws.proofs.Parsing.{read-spells}
+use Rattle.laws.proofs.Steps.{tokens-from, tokens-end}
+use Rattle.laws.proofs.Items.{rows-expr, expr-rows-count, expr-first, item-past}
+use Rattle.atoms.specs.Tokens.{token-at, shown}
+use Rattle.atoms.specs.declared.Token.{Token as Answer}
+use Rattle.atoms.specs.declared.Token.the-variants.{Opening, Closing, Whole, Bad}
+use Rattle.atoms.proofs.Next.{AtomAt, Next, next}
+use Rattle.reader.specs.Passes.{RightFrom}
+
+-- The end of a form
+
+-- At place p, d forms are open in the one whose end is sought.
+pub record Ending (s : List ℕ) (start p d : ℕ) : Type 0 where
+  pub stream : Bytes s
+  pub short : length s ≤ 65536
+  pub inside : p ≤ length s
+  pub shallow : d ≤ p
+  pub passes : RightFrom s p (d + 1)
+  pub same : getD (ends (tokens-from s start)) 0 0 ≡ getD (ends (tokens-from s p)) d 0
+
+-- what holds after each kind of token
+abbrev pub EndingTurn : (s : List ℕ) (start p d : ℕ) → Answer → Type 0
+EndingTurn s start p d Opening = Ending s start (p + 1) (d + 1)
+EndingTurn s start p d Closing = (d ≡ 0 → getD (ends (tokens-from s start)) 0 0 ≡ p + 1) × ((d ≡ 0 → ⊥) → Ending s start (p + 1) (d - 1))
+EndingTurn s start p d (Whole k b e) = (p < e) × Ending s start e d
+EndingTurn s start p d (Bad w q) = ⊥
+
+module _ (s : List ℕ) (start p d : ℕ) (f : Ending s start p d) where
+  -- a form that is open ends in the stream
+  pub ending-inside : p < length s
+  ending-inside = go (decLe (length s) p)
+    where
+      go : Dec (length s ≤ p) → p < length s
+      go (yes h) = absurd (omega (arith, right-end (length s) (length s) (d + 1) (f .passes .0) (rw (tokens-end s p h) at (f .passes .1))))
+      go (no h) = omega (arith, h)
+
+  pub ending-turn : (r : Answer) → r ≡ shown (token-at s p) → EndingTurn s start p d r
+  unfolding ends
+  ending-turn r told = go r (next s p r (f .stream) ending-inside told)
+    where
+      n : ℕ
+      n = f .passes .0
+
+      go : (r : Answer) → Next s p r → EndingTurn s start p d r
+      go Opening is = record {
+        stream = f .stream;
+        short = f .short;
+        inside = omega (arith, ending-inside);
+        shallow = omega (arith, f .shallow);
+        passes = (n + 1, right-opening (length s) (length s) (tokens-from s (p + 1)) p (d + 1) n (rw is at (f .passes .1)) .2);
+        same = f .same ∙ rw is (getD-drop 1 (ends (tokens-from s (p + 1))) d 0 ∙ ap (λ (j : ℕ). getD (ends (tokens-from s (p + 1))) j 0) (omega arith));
+      }
+      go Closing is = (λ z. f .same ∙ rw (is, z), λ z. record {
+        stream = f .stream;
+        short = f .short;
+        inside = omega (arith, ending-inside);
+        shallow = omega (arith, f .shallow);
+        passes =
+            let less : d + 1 - 1 ≡ d - 1 + 1 = omega (arith, z) in
+            (n, rw less at (right-closing (length s) (length s) (tokens-from s (p + 1)) p (d + 1) n (rw is at (f .passes .1)) .1));
+        same =
+            let more : d ≡ suc (d - 1) = omega (arith, z) in
+            f .same ∙ rw is (ap (λ (j : ℕ). getD ((p + 1) ∷ ends (tokens-from s (p + 1))) j 0) more);
+      })
+      go (Whole k b e) w = (w .forward, record {
+        stream = f .stream;
+        short = f .short;
+        inside = w .inside;
+        shallow = omega (arith, f .shallow, w .forward);
+        passes = (n + 1, right-whole (length s) (length s) (tokens-from s e) (w .atom) p e (d + 1) n (rw (w .is) at (f .passes .1)) .1);
+        same = f .same ∙ rw (w .is);
+      })
+      go (Bad w q) x = right-bad (length s) (length s) (x .0) w q (d + 1) n (rw (x .1) at (f .passes .1))
+
+-- The end of an expression
+
+-- what the code has to know at each kind of token of the top level, and where the expression ends
+abbrev pub TopTurn : List ℕ → ℕ → Answer → Type 0
+TopTurn s p Opening = RightFrom s (p + 1) 1 × (row-at (rows-of (tokens-from s p)) 0 .end ≡ getD (ends (tokens-from s (p + 1))) 0 0)
+TopTurn s p Closing = ⊥
+TopTurn s p (Whole k b e) = row-at (rows-of (tokens-from s p)) 0 .end ≡ e
+TopTurn s p (Bad w q) = ⊥
+
+pub top-turn : (s : List ℕ) (p : ℕ) → Bytes s → p < length s → RightFrom s p 0 → (r : Answer) → r ≡ shown (token-at s p) → TopTurn s p r
+unfolding rows-of
+top-turn s p stream inside passes r told = go r (next s p r stream inside told)
+  where
+    n : ℕ
+    n = passes .0
+
+    go : (r : Answer) → Next s p r → TopTurn s p r
+    go Opening is = ((n + 1, right-opening (length s) (length s) (tokens-from s (p + 1)) p 0 n (rw is at (passes .1)) .2), rw is)
+    go Closing is = omega (arith, right-closing (length s) (length s) (tokens-from s (p + 1)) p 0 n (rw is at (passes .1)) .0)
+    go (Whole k b e) w = rw (w .is)
+    go (Bad w q) x = right-bad (length s) (length s) (x .0) w q 0 n (rw (x .1) at (passes .1))
+
+-- The expression asked for
+
+spelled-some : (e : Expr) (x : List ℕ) → Spells e x → 0 < length x
+spelled-some (atom a) x sp = omega (arith, ap length (front a x sp .is))
+spelled-some (form es) x sp = omega (arith, ap length (sp .1))
+
+-- At place p the expressions `left` are left, of which number n is the one asked for.
+pub record Finding (s : List ℕ) (k p n : ℕ) : Type 0 where
+  pub stream : Bytes s
+  pub short : length s ≤ 65536
+  pub inside : p ≤ length s
+  pub left : Exprs
+  pub spells : SpellsAll left (drop p s)
+  pub shallow : deepest left ≤ 64
+  pub few : rows-all left ≤ length s
+  pub same : (b : Buffer) → item b (rows-of (tokens 0 0 s)) k (meaning-of s) ≡ item b (rows-of (tokens-from s p)) n left
+
+pub finding-start : (s : List ℕ) (k : ℕ) → Bytes s → CanRead s → Finding s k 0 k
+finding-start s k bs can =
+    let r = read-readable s (length s) _ _ can in
+    let m = read-meant s (length s) _ _ bs r in
+    record {
+      stream = bs;
+      short = r .short;
+      inside = omega arith;
+      left = meaning-of s;
+      spells = read-spells s (length s) _ _ bs can;
+      shallow = m .shallow;
+      few = m .roomy;
+      same = λ b. refl;
+    }
+
+-- one expression more, which ends at e
+pub record Found (s : List ℕ) (k p n e : ℕ) : Type 0 where
+  pub forward : p < e
+  pub inside : e ≤ length s
+  pub this : n ≡ 0 → (b : Buffer) → part b p e ≡ item b (rows-of (tokens 0 0 s)) k (meaning-of s)
+  pub later : (n ≡ 0 → ⊥) → Finding s k e (n - 1)
+
+module _ (s : List ℕ) (k p n : ℕ) (f : Finding s k p n) where
+  pub finding-right : RightFrom s p 0
+  unfolding check tokens
+  finding-right =
+      (0, ap (λ (x : List ℕ). check (length s) (length s) (tokens p 0 x) 0 0) (sym (append-nil (drop p s)))
+      ∙ check-all (length s) (length s) (f .left) (drop p s) (f .spells) p 0 0 [] (omega (arith, f .shallow)) (omega (arith, f .few)))
+
+  pub finding-end : length s ≤ p → (b : Buffer) → no-part ≡ item b (rows-of (tokens 0 0 s)) k (meaning-of s)
+  finding-end h b = sym (f .same b ∙ go (f .left) (f .spells))
+    where
+      go : (es : Exprs) → SpellsAll es (drop p s) → item b (rows-of (tokens-from s p)) n es ≡ no-part
+      go none sp = item-past b n none (rows-of (tokens-from s p)) (unfold size in omega arith)
+      go (more e es) sp =
+          let size : length (sp .0) + length (sp .1) ≡ length s - p = sym (length-append (sp .0) (sp .1)) ∙ ap length (sym (sp .2)) ∙ length-drop p s in
+          absurd (omega (arith, spelled-some e (sp .0) (sp .3)))
+
+  pub finding-turn : (e : ℕ) → p < length s → e ≡ row-at (rows-of (tokens-from s p)) 0 .end → Found s k p n e
+  unfolding rows deepest item
+  finding-turn e in-stream at-end = go (f .left) (f .spells) (f .shallow) (f .few) (f .same)
+    where
+      go : (es : Exprs) → SpellsAll es (drop p s) → deepest es ≤ 64 → rows-all es ≤ length s
+          → ((b : Buffer) → item b (rows-of (tokens 0 0 s)) k (meaning-of s) ≡ item b (rows-of (tokens-from s p)) n es) → Found s k p n e
+      go none sp shallow few same = absurd (omega (arith, ap length sp, length-drop p s))
+      go (more c es) sp shallow few same =
+          let x = sp .0 in
+          let y = sp .1 in
+          let q : ℕ = p + length x in
+          let size : length x + length y ≡ length s - p = sym (length-append x y) ∙ ap length (sym (sp .2)) ∙ length-drop p s in
+          let some = spelled-some c x (sp .3) in
+          let rest : y ≡ drop q s = sym (drop-at x y (length x) refl) ∙ ap (drop (length x)) (sym (sp .2)) ∙ drop-drop (length x) p s in
+          let own = expr-rows c x (sp .3) p in
+          let split : rows-of (tokens-from s p) ≡ own ++ rows-of (tokens-from s q) =
+          ap (λ (l : List ℕ). rows-of (tokens p 0 l)) (sp .2)
+          ∙ rows-expr c x (sp .3) p y
+          ∙ ap (λ (l : List ℕ). own ++ rows-of (tokens q 0 l)) rest in
+          let one = expr-first c x (sp .3) p (rows-of (tokens-from s q)) in
+          let start : row-at (rows-of (tokens-from s p)) 0 .start ≡ p = rw split (one .0) in
+          let end : e ≡ q = at-end ∙ rw split (one .1) in
+          let behind : drop (rows c) (rows-of (tokens-from s p)) ≡ rows-of (tokens-from s q) =
+          ap (drop (rows c)) split ∙ drop-at own (rows-of (tokens-from s q)) (rows c) (expr-rows-count c x (sp .3) p) in
+          record {
+            forward = omega arith;
+            inside = omega arith;
+            this = λ z b. sym (same b ∙ rw (z, start, ← at-end));
+            later = λ z. rw end (record {
+              stream = f .stream;
+              short = f .short;
+              inside = omega arith;
+              left = es;
+              spells = subst (SpellsAll es) rest (sp .4);
+              shallow = omega arith;
+              few = omega arith;
+              same = λ b. let more-left : n ≡ suc (n - 1) = omega (arith, z) in same b ∙ ap (λ (m : ℕ). item b (rows-of (tokens-from s p)) m (more c es)) more-left ∙ rw behind;
+            });
+          }
