@@ -1,8 +1,14 @@
-// The public calls. Each answers for every input.
+// The public calls. Each answers for every input, and asks nothing of its caller.
 use reader::Checked;
-use reader::Part;
+pub use reader::Part;
+ghost use mathlib.Core.Path.{_≡_};
+ghost use mathlib.Core.List.{List, []};
+ghost use Prim.Native.Nat.{ℕ};
+ghost use Rattle.spec.specs.Calls.{Read, Write, Item, Buffer as Chosen, chosen};
+ghost use Rattle.reader.specs.Passes.{of-buffer};
+ghost use Rattle.bulk.specs.Answers.{stated, asked, part-bytes};
 
-// What Read and Write answer: the rows or the length, or a refusal's number and place.
+// What Read and Write answer: the number of rows or the length, or a refusal's number and place.
 pub enum Answer {
     Accepted { given: usize },
     Refused { number: u32, place: usize },
@@ -14,8 +20,10 @@ pub enum Buffer {
     Result,
 }
 
-// Reads a stream into a table of four numbers a row; gives the number of rows.
-pub fn read(stream: &[u8], table: &mut [u32]) -> Answer {
+// Reads a stream into a table of four numbers a row: kind, start, end, next row. Gives the number of rows. A refusal leaves the table as it was.
+pub fn read(stream: &[u8], table: &mut [u32]) -> Answer
+    ensures { λ r. ⌜ stated r (now (table .exit)) [] ≡ Read (now (stream .entry)) (now (table .entry)) ⌝ }
+{
     match reader::check(stream, table.len() / reader::ROW_WIDTH) {
         Checked::Wrong { number, place } => Answer::Refused { number, place },
         Checked::Right { rows, length: _ } => {
@@ -25,8 +33,10 @@ pub fn read(stream: &[u8], table: &mut [u32]) -> Answer {
     }
 }
 
-// Reads a stream, then writes the canonical stream; gives its length.
-pub fn write(stream: &[u8], table: &mut [u32], output: &mut [u8]) -> Answer {
+// Reads a stream, then writes the canonical stream. Gives its length. A refusal leaves the output as it was.
+pub fn write(stream: &[u8], table: &mut [u32], output: &mut [u8]) -> Answer
+    ensures { λ r. ⌜ stated r (now (table .exit)) (now (output .exit)) ≡ Write (now (stream .entry)) (now (table .entry)) (now (output .entry)) ⌝ }
+{
     match reader::check(stream, table.len() / reader::ROW_WIDTH) {
         Checked::Wrong { number, place } => Answer::Refused { number, place },
         Checked::Right { rows: _, length } => {
@@ -43,8 +53,10 @@ pub fn write(stream: &[u8], table: &mut [u32], output: &mut [u8]) -> Answer {
     }
 }
 
-// Where top-level expression k of a buffer is, if it can be read and has one.
-pub fn item_part(buffer: &[u8], k: usize) -> Part {
+// Where item k of a buffer is.
+fn locate(buffer: &[u8], k: usize) -> Part
+    ensures { λ r. ⌜ ((b : Chosen) (stream result : List ℕ) → chosen b stream result ≡ now (buffer .entry) → of-buffer b r ≡ Item stream result b k) ⌝ }
+{
     match reader::check(buffer, buffer.len()) {
         Checked::Wrong {
             number: _,
@@ -54,17 +66,32 @@ pub fn item_part(buffer: &[u8], k: usize) -> Part {
     }
 }
 
-// Top-level expression k of one buffer or the other; the empty part if that can't be read or has none.
-pub fn item<'a>(stream: &'a [u8], result: &'a [u8], which: Buffer, k: usize) -> &'a [u8] {
-    match which {
-        Buffer::Stream => part_of(stream, k),
-        Buffer::Result => part_of(result, k),
+// The bytes of item k of a buffer.
+fn item_of<'a>(buffer: &'a [u8], k: usize) -> &'a [u8]
+    ensures { λ x. ⌜ ((b : Chosen) (stream result : List ℕ) → chosen b stream result ≡ now (buffer .entry) → now x ≡ part-bytes (Item stream result b k) stream result) ⌝ }
+{
+    match locate(buffer, k) {
+        Part::Of { start, end } => &buffer[start..end],
+        Part::Empty => &buffer[..0],
     }
 }
 
-fn part_of<'a>(buffer: &'a [u8], k: usize) -> &'a [u8] {
-    match item_part(buffer, k) {
-        Part::Of { start, end } => &buffer[start..end],
-        Part::Empty => &buffer[..0],
+// Top-level expression k of the stream or of the result, counted from 0, as the part itself. It is empty if that buffer can't be read or has no such expression.
+pub fn item<'a>(stream: &'a [u8], result: &'a [u8], which: Buffer, k: usize) -> &'a [u8]
+    ensures { λ x. ⌜ now x ≡ part-bytes (Item (now (stream .entry)) (now (result .entry)) (asked which) k) (now (stream .entry)) (now (result .entry)) ⌝ }
+{
+    match which {
+        Buffer::Stream => item_of(stream, k),
+        Buffer::Result => item_of(result, k),
+    }
+}
+
+// Where in its buffer the part is that `item` gives.
+pub fn item_part(stream: &[u8], result: &[u8], which: Buffer, k: usize) -> Part
+    ensures { λ r. ⌜ of-buffer (asked which) r ≡ Item (now (stream .entry)) (now (result .entry)) (asked which) k ⌝ }
+{
+    match which {
+        Buffer::Stream => locate(stream, k),
+        Buffer::Result => locate(result, k),
     }
 }

@@ -64,6 +64,14 @@ rising-but-first : (lo : ℕ) (es : List ℕ) (hi : ℕ) → Rising lo es hi →
 rising-but-first lo [] hi o = o
 rising-but-first lo (e ∷ es) hi o = rising-from-lower lo e es hi (omega arith) (o .1)
 
+pub rows-few : (ts : List Token) → length (rows-of ts) ≤ length ts
+unfolding rows-of
+rows-few [] = omega arith
+rows-few (opening p ∷ ts) = omega (arith, rows-few ts)
+rows-few (closing p ∷ ts) = omega (arith, rows-few ts)
+rows-few (whole x p e ∷ ts) = omega (arith, rows-few ts)
+rows-few (bad w p ∷ ts) = omega (arith, rows-few ts)
+
 module _ (end room : ℕ) where
   pub rows-count : (ts : List Token) (d n : ℕ) → check end room ts d n ≡ right
       → (length (rows-of ts) ≡ rows-in (lists ts)) × (length (lists ts) ≡ d + 1)

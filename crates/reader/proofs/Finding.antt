@@ -66,26 +66,32 @@ module _ (s : List ℕ) (start p d : ℕ) (f : Ending s start p d) where
         passes = (n + 1, right-opening (length s) (length s) (tokens-from s (p + 1)) p (d + 1) n (rw is at (f .passes .1)) .2);
         same = f .same ∙ rw is (getD-drop 1 (ends (tokens-from s (p + 1))) d 0 ∙ ap (λ (j : ℕ). getD (ends (tokens-from s (p + 1))) j 0) (omega arith));
       }
-      go Closing is = (λ z. f .same ∙ rw (is, z), λ z. record {
-        stream = f .stream;
-        short = f .short;
-        inside = omega (arith, ending-inside);
-        shallow = omega (arith, f .shallow);
-        passes =
-            let less : d + 1 - 1 ≡ d - 1 + 1 = omega (arith, z) in
-            (n, rw less at (right-closing (length s) (length s) (tokens-from s (p + 1)) p (d + 1) n (rw is at (f .passes .1)) .1));
-        same =
-            let more : d ≡ suc (d - 1) = omega (arith, z) in
-            f .same ∙ rw is (ap (λ (j : ℕ). getD ((p + 1) ∷ ends (tokens-from s (p + 1))) j 0) more);
-      })
-      go (Whole k b e) w = (w .forward, record {
-        stream = f .stream;
-        short = f .short;
-        inside = w .inside;
-        shallow = omega (arith, f .shallow, w .forward);
-        passes = (n + 1, right-whole (length s) (length s) (tokens-from s e) (w .atom) p e (d + 1) n (rw (w .is) at (f .passes .1)) .1);
-        same = f .same ∙ rw (w .is);
-      })
+      go Closing is = (
+        λ z. f .same ∙ rw (is, z),
+        λ z. record {
+          stream = f .stream;
+          short = f .short;
+          inside = omega (arith, ending-inside);
+          shallow = omega (arith, f .shallow);
+          passes =
+              let less : d + 1 - 1 ≡ d - 1 + 1 = omega (arith, z) in
+              (n, rw less at (right-closing (length s) (length s) (tokens-from s (p + 1)) p (d + 1) n (rw is at (f .passes .1)) .1));
+          same =
+              let more : d ≡ suc (d - 1) = omega (arith, z) in
+              f .same ∙ rw is (ap (λ (j : ℕ). getD ((p + 1) ∷ ends (tokens-from s (p + 1))) j 0) more);
+        },
+      )
+      go (Whole k b e) w = (
+        w .forward,
+        record {
+          stream = f .stream;
+          short = f .short;
+          inside = w .inside;
+          shallow = omega (arith, f .shallow, w .forward);
+          passes = (n + 1, right-whole (length s) (length s) (tokens-from s e) (w .atom) p e (d + 1) n (rw (w .is) at (f .passes .1)) .1);
+          same = f .same ∙ rw (w .is);
+        },
+      )
       go (Bad w q) x = right-bad (length s) (length s) (x .0) w q (d + 1) n (rw (x .1) at (f .passes .1))
 
 -- The end of an expression
@@ -152,9 +158,11 @@ pub record Found (s : List ℕ) (k p n e : ℕ) : Type 0 where
 module _ (s : List ℕ) (k p n : ℕ) (f : Finding s k p n) where
   pub finding-right : RightFrom s p 0
   unfolding check tokens
-  finding-right =
-      (0, ap (λ (x : List ℕ). check (length s) (length s) (tokens p 0 x) 0 0) (sym (append-nil (drop p s)))
-      ∙ check-all (length s) (length s) (f .left) (drop p s) (f .spells) p 0 0 [] (omega (arith, f .shallow)) (omega (arith, f .few)))
+  finding-right = (
+    0,
+    ap (λ (x : List ℕ). check (length s) (length s) (tokens p 0 x) 0 0) (sym (append-nil (drop p s)))
+        ∙ check-all (length s) (length s) (f .left) (drop p s) (f .spells) p 0 0 [] (omega (arith, f .shallow)) (omega (arith, f .few)),
+  )
 
   pub finding-end : length s ≤ p → (b : Buffer) → no-part ≡ item b (rows-of (tokens 0 0 s)) k (meaning-of s)
   finding-end h b = sym (f .same b ∙ go (f .left) (f .spells))

@@ -1,0 +1,123 @@
+-- What the first pass told, and what Read, Write and Item then answer.
+use Prim.Native.Nat.{ℕ, _+_, _*_, _/_, _≤_, _<_}
+use mathlib.Core.Path.{_≡_, refl, sym, ap, _∙_}
+use mathlib.Core.List.{List, [], _++_}
+use native.Mathlib.Omega.{arith}
+use native.Mathlib.Decide.{decLe}
+use lib.ListN.{length, length-append}
+use borrow.Author.Tests.{lt-ltb, le-ltb}
+use Rattle.spec.specs.Expr.{Exprs, size, canonical}
+use Rattle.spec.specs.Reading.{tokens, Row, rows-of, row-width, Reading, refused, readable, read}
+use Rattle.spec.specs.Calls.{over, filled, put-out, Read, Write, Buffer, Part, part, no-part, chosen, item, item-read, Item}
+use Rattle.laws.specs.Demands.{Bytes, meaning-of, CanRead}
+use Rattle.laws.specs.Grammar.{item-reading, SpellsItem}
+use Rattle.laws.proofs.Basics.{impossible}
+use Rattle.laws.proofs.Reading.{read-readable, read-enough}
+use Rattle.laws.proofs.Tokens.{tokens-few}
+use Rattle.laws.proofs.Rows.{rows-few, rows-room}
+use Rattle.laws.proofs.Theorems.{item-given, item-absent, item-unread}
+use Rattle.reader.specs.Passes.{checked}
+use Rattle.reader.specs.declared.Checked.{Checked}
+use Rattle.reader.specs.declared.Checked.the-variants.{Right, Wrong}
+use Rattle.bulk.specs.Answers.{stated}
+use Rattle.bulk.specs.declared.Answer.the-variants.{Accepted, Refused}
+
+-- a stream that can be read, with its rows and its canonical length counted
+pub record ToldRight (s : List ℕ) (room rows size : ℕ) : Type 0 where
+  pub can : CanRead s
+  pub is : read s room ≡ readable (rows-of (tokens 0 0 s)) (meaning-of s)
+  pub counted : rows ≡ length (rows-of (tokens 0 0 s))
+  pub fits : rows ≤ room
+  pub sized : size ≡ length (canonical (meaning-of s))
+
+abbrev pub Told : List ℕ → ℕ → Checked → Type 0
+Told s room (Right rows size) = ToldRight s room rows size
+Told s room (Wrong w p) = read s room ≡ refused w p
+
+pub told : (s : List ℕ) (room : ℕ) (v : Checked) → v ≡ checked (read s room) → Told s room v
+told s room v e = rw e (go (read s room) refl)
+  where
+    go : (x : Reading) → read s room ≡ x → Told s room (checked x)
+    go (refused w p) h = h
+    go (readable rs es) h =
+        let r = read-readable s room rs es h in
+        let count : length rs ≡ length (rows-of (tokens 0 0 s)) = ap length (r .rows-are) in
+        let few : length rs ≤ length s = omega (arith, rows-few (tokens 0 0 s), tokens-few s 0 0) in
+        let as-told : readable rs es ≡ readable (rows-of (tokens 0 0 s)) (meaning-of s) = rw (r .rows-are, r .means) in
+        record {
+          can = read-enough s room rs es h (length s) few ∙ as-told;
+          is = h ∙ as-told;
+          counted = count;
+          fits = omega (arith, rows-room (length s) room (tokens 0 0 s) 0 0 (r .passes) (omega arith));
+          sized = ap (λ (x : Exprs). length (canonical x)) (r .means);
+        }
+
+module _ (s t : List ℕ) where
+  pub read-refusal : (w p : ℕ) → read s (length t / row-width) ≡ refused w p → stated (Refused w p) t [] ≡ Read s t
+  unfolding Read
+  read-refusal w p h = rw h
+
+  pub write-refusal : (out : List ℕ) (w p : ℕ) → read s (length t / row-width) ≡ refused w p → stated (Refused w p) t out ≡ Write s t out
+  unfolding Write
+  write-refusal out w p h = rw h
+
+  module _ (rows size : ℕ) (r : ToldRight s (length t / row-width) rows size) where
+    pub table-room : row-width * length (rows-of (tokens 0 0 s)) ≤ length t
+    table-room = omega (arith, r .counted, r .fits)
+
+    pub read-acceptance : (t′ : List ℕ) → t′ ≡ filled (rows-of (tokens 0 0 s)) t → stated (Accepted rows) t′ [] ≡ Read s t
+    unfolding Read
+    read-acceptance t′ h = rw (r .is, h, r .counted)
+
+    pub write-short : (t′ out : List ℕ) → t′ ≡ filled (rows-of (tokens 0 0 s)) t → length out < size → stated (Refused 18 0) t′ out ≡ Write s t out
+    unfolding Write put-out
+    write-short t′ out h l = rw (r .is, h, lt-ltb (length out) (length (canonical (meaning-of s))) (omega (arith, r .sized)))
+
+    pub write-acceptance : (t′ out out′ : List ℕ) → t′ ≡ filled (rows-of (tokens 0 0 s)) t → size ≤ length out → out′ ≡ over (canonical (meaning-of s)) out
+        → stated (Accepted size) t′ out′ ≡ Write s t out
+    unfolding Write put-out
+    write-acceptance t′ out out′ h l k = rw (r .is, h, k, le-ltb (length out) (length (canonical (meaning-of s))) (omega (arith, r .sized)), r .sized)
+
+-- Item
+
+-- the part of a buffer that can't be read, or that was found in it
+module _ (b : Buffer) (stream result : List ℕ) (k : ℕ) where
+  pub item-none : (s : List ℕ) → chosen b stream result ≡ s → (w p : ℕ) → read s (length s) ≡ refused w p → no-part ≡ Item stream result b k
+  unfolding Item
+  item-none s e w p h = rw (e, h)
+
+  pub item-found : (s : List ℕ) → chosen b stream result ≡ s → CanRead s → (it : Part) → it ≡ item b (rows-of (tokens 0 0 s)) k (meaning-of s)
+      → it ≡ Item stream result b k
+  unfolding Item
+  item-found s e can it h = h ∙ sym (rw (e, can))
+
+  -- a part lies in its buffer
+  pub item-inside : (start end : ℕ) → Bytes (chosen b stream result) → part b start end ≡ Item stream result b k
+      → (start ≤ end) × (end ≤ length (chosen b stream result))
+  item-inside start end bytes h = go (item-reading stream result b) refl
+    where
+      s : List ℕ
+      s = chosen b stream result
+
+      -- a part is not the empty part
+      not-empty : Item stream result b k ≡ no-part → (start ≤ end) × (end ≤ length s)
+      not-empty e = impossible (cc)
+
+      spelled : {es : Exprs} → SpellsItem b s es k (Item stream result b k) → (start ≤ end) × (end ≤ length s)
+      spelled i =
+          let piece = i .piece in
+          let from : start ≡ i .from = cc (i .is) in
+          let to : end ≡ i .to = cc (i .is) in
+          let size : length s ≡ length (piece .before) + (length (i .bytes) + length (piece .behind)) =
+          ap length (piece .is) ∙ length-append (piece .before) (i .bytes ++ piece .behind) ∙ ap (λ (n : ℕ). length (piece .before) + n) (length-append (i .bytes) (piece .behind)) in
+          let first = piece .start in
+          let last = piece .end in
+          (omega arith, omega arith)
+
+      go : (x : Reading) → item-reading stream result b ≡ x → (start ≤ end) × (end ≤ length s)
+      go (refused w p) r = not-empty (item-unread stream result b k w p r)
+      go (readable rs es) r = by-size (decLe (size es) k)
+        where
+          by-size : Dec (size es ≤ k) → (start ≤ end) × (end ≤ length s)
+          by-size (yes l) = not-empty (item-absent stream result b k rs es r l)
+          by-size (no l) = spelled (item-given stream result b k rs es bytes r (omega (arith, l)))

@@ -1,0 +1,31 @@
+-- `bulk::item_part` meets its contract: the place of the item, in the buffer that was asked for.
+-- Assumes nothing.
+use borrow.Author.Needs.{needs}
+use mathlib.Core.Path.{refl}
+use Rattle.spec.specs.Calls.{of-stream, of-result}
+use Rattle.bulk.proofs.item_part.Statement.{statement}
+use Rattle.bulk.proofs.item_part.Tie as tie
+use Rattle.bulk.proofs.item_part.Reads as reads
+use Rattle.bulk.proofs.item_part.Lts as lts
+
+enum-told : tie.Need-enum-told
+enum-told c = search needs
+
+locate-requires : tie.Need-locate-requires
+locate-requires c κs = search needs
+
+enum-told-2 : tie.Need-enum-told-2
+enum-told-2 c = search needs
+
+locate-requires-2 : tie.Need-locate-requires-2
+locate-requires-2 c κs = search needs
+
+returns : tie.Need-returns
+returns c = let a = c .before .before .before .before .before .args in rw (c .before .enum-told .given .1) (c .locate .ensures of-stream (a .stream .now) (a .result .now) refl)
+
+returns-2 : tie.Need-returns-2
+returns-2 c = let a = c .before .before .before .before .before .args in rw (c .before .enum-told2 .given .1) (c .locate2 .ensures of-result (a .stream .now) (a .result .now) refl)
+
+pub item-part-spec : {M : Type 1} → statement M
+item-part-spec =
+    tie.close (tie.spec enum-told locate-requires enum-told-2 locate-requires-2 returns returns-2)

@@ -1,0 +1,25 @@
+-- What the public calls answer: document 01's number and values for each case of an answer that is an enum.
+use Prim.Native.Nat.{ℕ, _-_}
+use mathlib.Core.List.{List, []}
+use lib.ListN.{take, drop}
+use Rattle.spec.specs.Calls.{Answer, refusal, acceptance, Buffer, of-stream, of-result, Part, part, no-part, chosen}
+use Rattle.bulk.specs.declared.Answer.{Answer as Given}
+use Rattle.bulk.specs.declared.Answer.the-variants.{Accepted, Refused}
+use Rattle.bulk.specs.declared.Buffer.{Buffer as Which}
+use Rattle.bulk.specs.declared.Buffer.the-variants.{Stream, Result}
+
+-- What Read and Write answer, with the table and the output afterwards. "Acceptance gives number 0 and place 0"; "A refusal gives number and
+-- place, counts zero." Neither takes a step.
+abbrev pub stated : Given → List ℕ → List ℕ → Answer
+stated (Accepted given) table output = acceptance given 0 table output
+stated (Refused number place) table output = refusal number place table output
+
+-- "which of the two"
+abbrev pub asked : Which → Buffer
+asked Stream = of-stream
+asked Result = of-result
+
+-- the bytes of "the part itself, of one lent buffer or the other"
+abbrev pub part-bytes : Part → List ℕ → List ℕ → List ℕ
+part-bytes (part b start end) stream result = take (end - start) (drop start (chosen b stream result))
+part-bytes no-part stream result = []
