@@ -24,7 +24,8 @@ module _ (s : List ℕ) (p : ℕ) (inside : p < length s) where
   first-closing h = rw h
 
   -- any other byte begins an atom
-  as-atom : (getD s p 0 ≡ 0x01 → ⊥) → (getD s p 0 ≡ 0x02 → ⊥) → shown (token-at s p) ≡ shown-atom p (length s) (read-atom (getD s p 0) (drop (suc p) s))
+  as-atom : (getD s p 0 ≡ 0x01 → ⊥) → (getD s p 0 ≡ 0x02 → ⊥)
+      → shown (token-at s p) ≡ shown-atom p (length s) (read-atom (getD s p 0) (drop (suc p) s))
   unfolding token
   as-atom m n =
       let size = length-drop (suc p) s in

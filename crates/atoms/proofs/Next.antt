@@ -36,7 +36,8 @@ Next s p (Bad w q) = (ts : List Token) × (tokens-from s p ≡ bad w q ∷ ts)
 
 module _ (s : List ℕ) (p e : ℕ) where
   -- an atom that is all body
-  all-body : (a : Atom) (k : ℕ) → k ≡ atom-kind a → (k ≡ 2 → ⊥) → WholeAt s p a e → atom-bytes a ≡ atom-head k (e - p) ++ take (e - p) (drop p s) → AtomAt s p k p e
+  all-body : (a : Atom) (k : ℕ) → k ≡ atom-kind a → (k ≡ 2 → ⊥) → WholeAt s p a e → atom-bytes a ≡ atom-head k (e - p) ++ take (e - p) (drop p s)
+      → AtomAt s p k p e
   all-body a k h other w written = record {
     atom = a;
     is = w .is;

@@ -137,7 +137,9 @@ fn length_at(s: &[u8], at: usize) -> Length
 // The generic array whose 03 is at a place.
 fn array_at(s: &[u8], at: usize) -> Token
     requires { ⌜ (length (now s) ≤ 65536) × (at < length (now s)) ⌝ }
-    ensures { λ r. ⌜ r ≡ shown-atom at (length (now (s .entry))) (and-then (and-then (length-expr 7 (drop (suc at) (now (s .entry)))) take-bytes) as-array) ⌝ }
+    ensures { λ r.
+        ⌜ r ≡ shown-atom at (length (now (s .entry)))
+        (and-then (and-then (length-expr 7 (drop (suc at) (now (s .entry)))) take-bytes) as-array) ⌝ }
 {
     match length_at(s, at + 1) {
         Length::Wrong { number, place } => Token::Bad { number, place },

@@ -73,7 +73,8 @@ module _ (s t : List ℕ) where
     unfolding Write put-out
     write-short t′ out h l = rw (r .is, h, lt-ltb (length out) (length (canonical (meaning-of s))) (omega (arith, r .sized)))
 
-    pub write-acceptance : (t′ out out′ : List ℕ) → t′ ≡ filled (rows-of (tokens 0 0 s)) t → size ≤ length out → out′ ≡ over (canonical (meaning-of s)) out
+    pub write-acceptance : (t′ out out′ : List ℕ) → t′ ≡ filled (rows-of (tokens 0 0 s)) t → size ≤ length out
+        → out′ ≡ over (canonical (meaning-of s)) out
         → stated (Accepted size) t′ out′ ≡ Write s t out
     unfolding Write put-out
     write-acceptance t′ out out′ h l k = rw (r .is, h, k, le-ltb (length out) (length (canonical (meaning-of s))) (omega (arith, r .sized)), r .sized)

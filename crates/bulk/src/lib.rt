@@ -3,7 +3,9 @@ use reader::Checked;
 pub use reader::Part;
 ghost use mathlib.Core.Path.{_≡_};
 ghost use mathlib.Core.List.{List, []};
-ghost use Prim.Native.Nat.{ℕ};
+ghost use Prim.Native.Nat.{ℕ, _/_};
+ghost use lib.ListN.{length};
+ghost use Rattle.spec.specs.Reading.{row-width};
 ghost use Rattle.spec.specs.Calls.{Read, Write, Item, Buffer as Chosen, chosen};
 ghost use Rattle.reader.specs.Passes.{of-buffer};
 ghost use Rattle.bulk.specs.Answers.{stated, asked, part-bytes};
@@ -20,11 +22,18 @@ pub enum Buffer {
     Result,
 }
 
+// How many rows a table has room for.
+fn rows_available(table: &[u32]) -> usize
+    ensures { λ r. ⌜ r ≡ length (now (table .entry)) / row-width ⌝ }
+{
+    table.len() / reader::ROW_WIDTH
+}
+
 // Reads a stream into a table of four numbers a row: kind, start, end, next row. Gives the number of rows. A refusal leaves the table as it was.
 pub fn read(stream: &[u8], table: &mut [u32]) -> Answer
     ensures { λ r. ⌜ stated r (now (table .exit)) [] ≡ Read (now (stream .entry)) (now (table .entry)) ⌝ }
 {
-    match reader::check(stream, table.len() / reader::ROW_WIDTH) {
+    match reader::check(stream, rows_available(table)) {
         Checked::Wrong { number, place } => Answer::Refused { number, place },
         Checked::Right { rows, length: _ } => {
             reader::fill(stream, table);
@@ -37,7 +46,7 @@ pub fn read(stream: &[u8], table: &mut [u32]) -> Answer
 pub fn write(stream: &[u8], table: &mut [u32], output: &mut [u8]) -> Answer
     ensures { λ r. ⌜ stated r (now (table .exit)) (now (output .exit)) ≡ Write (now (stream .entry)) (now (table .entry)) (now (output .entry)) ⌝ }
 {
-    match reader::check(stream, table.len() / reader::ROW_WIDTH) {
+    match reader::check(stream, rows_available(table)) {
         Checked::Wrong { number, place } => Answer::Refused { number, place },
         Checked::Right { rows: _, length } => {
             reader::fill(stream, table);

@@ -1,135 +1,167 @@
--- The first pass, a turn of the loop at a time: what holds at the loop's head, that each kind of token keeps it, and what a refusal or the
--- stream's end then answers.
+-- The first pass as a loop over places: what holds before each turn, what a turn refuses or keeps, whatever token there is, and what the
+-- stream's end answers.
 use Prim.Native.Nat.{ℕ, _+_, _-_, _≤_, _<_}
-use mathlib.Core.Path.{_≡_, refl, sym, ap, _∙_}
-use mathlib.Core.List.{List, [], _∷_, _++_}
+use mathlib.Core.Path.{_≡_, refl, _∙_, sym}
+use mathlib.Core.List.{List, _∷_}
 use native.Mathlib.Omega.{arith}
 use lib.ListN.{length, length-append}
-use borrow.Author.Tests.{lt-ltb, le-ltb, le-leb, lt-leb, eq-eqb, ne-eqb}
-use Rattle.spec.specs.Expr.{Atom, atom-bytes, canonical}
-use Rattle.spec.specs.Reading.{Token, opening, closing, whole, bad, tokens, Verdict, right, wrong, check, rows-of, meaning, by-verdict, read}
+use borrow.Author.Tests.{lt-ltb, le-ltb, le-leb, lt-leb, ne-eqb}
+use Rattle.spec.specs.Reading.{Token, opening, closing, whole, tokens, right, wrong, check, rows-of, read}
+use Rattle.laws.specs.Demands.{Bytes}
 use Rattle.laws.proofs.Written.{bytes-of, token-bytes, canonical-tokens}
 use Rattle.laws.proofs.Steps.{tokens-from, tokens-end}
+use Rattle.atoms.specs.Tokens.{token-at, shown, atom-head}
+use Rattle.atoms.specs.declared.Token.{Token as Answer}
+use Rattle.atoms.specs.declared.Token.the-variants.{Opening, Closing, Whole, Bad}
+use Rattle.atoms.proofs.Next.{AtomAt, Next, next, written-size}
 use Rattle.reader.specs.Passes.{checked}
+use Rattle.reader.specs.declared.Checked.{Checked}
 use Rattle.reader.specs.declared.Checked.the-variants.{Right, Wrong}
 
-pub record Checking (s : List ℕ) (room at open-forms rows size : ℕ) : Type 0 where
-  pub inside : at ≤ length s
-  pub shallow : open-forms ≤ at
-  pub early : rows ≤ at
-  pub short : size ≤ at
-  pub verdict : check (length s) room (tokens 0 0 s) 0 0 ≡ check (length s) room (tokens-from s at) open-forms rows
-  pub counted : length (rows-of (tokens 0 0 s)) ≡ rows + length (rows-of (tokens-from s at))
-  pub sized : length (token-bytes (tokens 0 0 s)) ≡ size + length (token-bytes (tokens-from s at))
+-- Answers
 
-pub checking-start : (s : List ℕ) (room : ℕ) → Checking s room 0 0 0 0
-checking-start s room = record {
+-- this is what the pass is to answer
+abbrev pub Answers : List ℕ → ℕ → Checked → Type 0
+Answers s room v = v ≡ checked (read s room)
+
+pub too-long : (s : List ℕ) (room : ℕ) → 65536 < length s → Answers s room (Wrong 1 0)
+unfolding read
+too-long s room h = rw (lt-ltb 65536 (length s) h)
+
+module _ (s : List ℕ) (room : ℕ) (short : length s ≤ 65536) where
+  answer-wrong : (w p : ℕ) → check (length s) room (tokens 0 0 s) 0 0 ≡ wrong w p → Answers s room (Wrong w p)
+  unfolding read
+  answer-wrong w p h = rw (le-ltb 65536 (length s) short, h)
+
+  answer-right : (n size : ℕ) → check (length s) room (tokens 0 0 s) 0 0 ≡ right → length (rows-of (tokens 0 0 s)) ≡ n
+      → length (token-bytes (tokens 0 0 s)) ≡ size → Answers s room (Right n size)
+  unfolding read
+  answer-right n size h rows bytes = rw (le-ltb 65536 (length s) short, h, ← canonical-tokens (length s) room (tokens 0 0 s) 0 h, rows, bytes)
+
+-- Before a turn
+
+-- At place p, d forms are open, n rows are taken, and the tokens so far have so many canonical bytes.
+pub record Checking (s : List ℕ) (room p d n size : ℕ) : Type 0 where
+  pub stream : Bytes s
+  pub short : length s ≤ 65536
+  pub inside : p ≤ length s
+  pub shallow : d ≤ p
+  pub early : n ≤ p
+  pub shorter : size ≤ p
+  pub verdict : check (length s) room (tokens 0 0 s) 0 0 ≡ check (length s) room (tokens-from s p) d n
+  pub counted : length (rows-of (tokens 0 0 s)) ≡ n + length (rows-of (tokens-from s p))
+  pub sized : length (token-bytes (tokens 0 0 s)) ≡ size + length (token-bytes (tokens-from s p))
+
+pub checking-start : (s : List ℕ) (room : ℕ) → Bytes s → length s ≤ 65536 → Checking s room 0 0 0 0
+checking-start s room stream short = record {
+  stream = stream;
+  short = short;
   inside = omega arith;
   shallow = omega arith;
   early = omega arith;
-  short = omega arith;
+  shorter = omega arith;
   verdict = refl;
   counted = omega arith;
   sized = omega arith;
 }
 
--- more tokens
+-- A turn
+
+-- what is refused at a token, and what holds after it
+abbrev pub CheckTurn : (s : List ℕ) (room p d n size : ℕ) → Answer → Type 0
+CheckTurn s room p d n size Opening =
+    (64 ≤ d → Answers s room (Wrong 6 p)) × (d < 64 → room ≤ n → Answers s room (Wrong 8 p))
+    × (d < 64 → n < room → Checking s room (p + 1) (d + 1) (n + 1) (size + 1))
+CheckTurn s room p d n size Closing = (d ≡ 0 → Answers s room (Wrong 3 p)) × ((d ≡ 0 → ⊥) → Checking s room (p + 1) (d - 1) n (size + 1))
+CheckTurn s room p d n size (Whole k b e) =
+    (b ≤ e) × (p < e) × (e ≤ length s) × (room ≤ n → Answers s room (Wrong 8 p))
+    × ((m : ℕ) → m ≡ length (atom-head k (e - b)) + (e - b) → (size + m ≤ e) × (n < room → Checking s room e d (n + 1) (size + m)))
+CheckTurn s room p d n size (Bad w q) = Answers s room (Wrong w q)
 
 bytes-more : (t : Token) (ts : List Token) → length (token-bytes (t ∷ ts)) ≡ length (bytes-of t) + length (token-bytes ts)
 unfolding token-bytes
 bytes-more t ts = length-append (bytes-of t) (token-bytes ts)
 
-module _ (s : List ℕ) (room at d n size : ℕ) (i : Checking s room at d n size) where
-  module _ (inside : at < length s) where
-    module _ (step : tokens-from s at ≡ opening at ∷ tokens-from s (at + 1)) where
-      pub checking-opening : d < 64 → n < room → Checking s room (at + 1) (d + 1) (n + 1) (size + 1)
-      unfolding check rows-of
-      checking-opening h l = record {
-        inside = omega arith;
-        shallow = omega (arith, i .shallow);
-        early = omega (arith, i .early);
-        short = omega (arith, i .short);
-        verdict = i .verdict ∙ rw (step, lt-leb 64 d h, lt-leb room n l);
-        counted = i .counted ∙ rw step (omega arith);
-        sized = i .sized ∙ rw step (omega (arith, bytes-more (opening at) (tokens-from s (at + 1))));
-      }
+module _ (s : List ℕ) (room p d n size : ℕ) (f : Checking s room p d n size) where
+  turn-opening : p < length s → Next s p Opening → CheckTurn s room p d n size Opening
+  unfolding check rows-of
+  turn-opening inside is = (
+    λ h. answer-wrong s room (f .short) 6 p (f .verdict ∙ rw (is, le-leb 64 d h)),
+    λ h l. answer-wrong s room (f .short) 8 p (f .verdict ∙ rw (is, lt-leb 64 d h, le-leb room n l)),
+    λ h l. record {
+      stream = f .stream;
+      short = f .short;
+      inside = omega arith;
+      shallow = omega arith;
+      early = omega arith;
+      shorter = omega arith;
+      verdict = f .verdict ∙ rw (is, lt-leb 64 d h, lt-leb room n l);
+      counted = f .counted ∙ rw is (omega arith);
+      sized = f .sized ∙ rw is (omega (arith, bytes-more (opening p) (tokens-from s (p + 1))));
+    },
+  )
 
-      pub too-deep : 64 ≤ d → check (length s) room (tokens 0 0 s) 0 0 ≡ wrong 6 at
-      unfolding check
-      too-deep h = i .verdict ∙ rw (step, le-leb 64 d h)
+  turn-closing : p < length s → Next s p Closing → CheckTurn s room p d n size Closing
+  unfolding check rows-of
+  turn-closing inside is = (
+    λ h. answer-wrong s room (f .short) 3 p (f .verdict ∙ rw (is, h)),
+    λ h. record {
+      stream = f .stream;
+      short = f .short;
+      inside = omega arith;
+      shallow = omega arith;
+      early = omega arith;
+      shorter = omega arith;
+      verdict = f .verdict ∙ rw (is, ne-eqb d 0 h);
+      counted = f .counted ∙ rw is;
+      sized = f .sized ∙ rw is (omega (arith, bytes-more (closing p) (tokens-from s (p + 1))));
+    },
+  )
 
-      pub no-row-form : d < 64 → room ≤ n → check (length s) room (tokens 0 0 s) 0 0 ≡ wrong 8 at
-      unfolding check
-      no-row-form h l = i .verdict ∙ rw (step, lt-leb 64 d h, le-leb room n l)
+  turn-whole : (k b e : ℕ) → AtomAt s p k b e → CheckTurn s room p d n size (Whole k b e)
+  unfolding check rows-of
+  turn-whole k b e w = (
+    w .ends,
+    w .forward,
+    w .inside,
+    λ l. answer-wrong s room (f .short) 8 p (f .verdict ∙ rw (w .is, le-leb room n l)),
+    λ m h.
+        let bytes = written-size s p k b e w in
+        let fits : size + m ≤ e = omega (arith, w .shorter) in (
+          fits,
+          λ l. record {
+            stream = f .stream;
+            short = f .short;
+            inside = w .inside;
+            shallow = omega (arith, w .forward);
+            early = omega (arith, w .forward);
+            shorter = fits;
+            verdict = f .verdict ∙ rw (w .is, lt-leb room n l);
+            counted = f .counted ∙ rw (w .is) (omega arith);
+            sized = f .sized ∙ rw (w .is) (omega (arith, bytes-more (whole (w .atom) p e) (tokens-from s e)));
+          },
+        ),
+  )
 
-    module _ (step : tokens-from s at ≡ closing at ∷ tokens-from s (at + 1)) where
-      pub checking-closing : (d ≡ 0 → ⊥) → Checking s room (at + 1) (d - 1) n (size + 1)
-      unfolding check rows-of
-      checking-closing h = record {
-        inside = omega arith;
-        shallow = omega (arith, i .shallow);
-        early = omega (arith, i .early);
-        short = omega (arith, i .short);
-        verdict = i .verdict ∙ rw (step, ne-eqb d 0 h);
-        counted = i .counted ∙ rw step;
-        sized = i .sized ∙ rw step (omega (arith, bytes-more (closing at) (tokens-from s (at + 1))));
-      }
+  pub check-turn : p < length s → (r : Answer) → r ≡ shown (token-at s p) → CheckTurn s room p d n size r
+  unfolding check
+  check-turn inside r told = go r (next s p r (f .stream) inside told)
+    where
+      go : (r : Answer) → Next s p r → CheckTurn s room p d n size r
+      go Opening is = turn-opening inside is
+      go Closing is = turn-closing inside is
+      go (Whole k b e) w = turn-whole k b e w
+      go (Bad w q) x = answer-wrong s room (f .short) w q (f .verdict ∙ rw (x .1))
 
-      pub at-top : d ≡ 0 → check (length s) room (tokens 0 0 s) 0 0 ≡ wrong 3 at
-      unfolding check
-      at-top h = i .verdict ∙ rw (step, h)
-
-    module _ (a : Atom) (e : ℕ) (step : tokens-from s at ≡ whole a at e ∷ tokens-from s e) where
-      pub checking-atom : (k : ℕ) → n < room → at < e → e ≤ length s → k ≡ length (atom-bytes a) → at + k ≤ e → Checking s room e d (n + 1) (size + k)
-      unfolding check rows-of
-      checking-atom k l h end bytes shorter = record {
-        inside = end;
-        shallow = omega (arith, i .shallow);
-        early = omega (arith, i .early);
-        short = omega (arith, i .short);
-        verdict = i .verdict ∙ rw (step, lt-leb room n l);
-        counted = i .counted ∙ rw step (omega arith);
-        sized = i .sized ∙ rw step (omega (arith, bytes-more (whole a at e) (tokens-from s e)));
-      }
-
-      pub no-row-atom : room ≤ n → check (length s) room (tokens 0 0 s) 0 0 ≡ wrong 8 at
-      unfolding check
-      no-row-atom l = i .verdict ∙ rw (step, le-leb room n l)
-
-    pub bad-token : (w p : ℕ) (ts : List Token) → tokens-from s at ≡ bad w p ∷ ts → check (length s) room (tokens 0 0 s) 0 0 ≡ wrong w p
+  module _ (end : length s ≤ p) where
+    pub left-open : (d ≡ 0 → ⊥) → Answers s room (Wrong 2 p)
     unfolding check
-    bad-token w p ts step = i .verdict ∙ rw step
+    left-open h =
+        let at-end : length s ≡ p = omega arith in
+        rw (← at-end) (answer-wrong s room (f .short) 2 (length s) (f .verdict ∙ rw (tokens-end s p end, ne-eqb d 0 h)))
 
-  module _ (end : length s ≤ at) where
-    pub left-open : (d ≡ 0 → ⊥) → check (length s) room (tokens 0 0 s) 0 0 ≡ wrong 2 (length s)
-    unfolding check
-    left-open h = i .verdict ∙ rw (tokens-end s at end, ne-eqb d 0 h)
-
-    pub all-right : d ≡ 0 → check (length s) room (tokens 0 0 s) 0 0 ≡ right
-    unfolding check
-    all-right h = i .verdict ∙ rw (tokens-end s at end, h)
-
-    pub all-counted : (length (rows-of (tokens 0 0 s)) ≡ n) × (length (token-bytes (tokens 0 0 s)) ≡ size)
-    unfolding rows-of token-bytes
-    all-counted =
-        let none = tokens-end s at end in
-        (i .counted ∙ rw none (omega arith), i .sized ∙ rw none (omega arith))
-
--- Answers
-
-module _ (s : List ℕ) (room : ℕ) where
-  pub answer-long : 65536 < length s → Wrong 1 0 ≡ checked (read s room)
-  unfolding read
-  answer-long h = rw (lt-ltb 65536 (length s) h)
-
-  module _ (short : length s ≤ 65536) where
-    pub answer-wrong : (w p : ℕ) → check (length s) room (tokens 0 0 s) 0 0 ≡ wrong w p → Wrong w p ≡ checked (read s room)
-    unfolding read
-    answer-wrong w p h = rw (le-ltb 65536 (length s) short, h)
-
-    pub answer-right : (n size : ℕ) → check (length s) room (tokens 0 0 s) 0 0 ≡ right
-        → (length (rows-of (tokens 0 0 s)) ≡ n) × (length (token-bytes (tokens 0 0 s)) ≡ size) → Right n size ≡ checked (read s room)
-    unfolding read
-    answer-right n size h c =
-        let bytes = canonical-tokens (length s) room (tokens 0 0 s) 0 h in
-        rw (le-ltb 65536 (length s) short, h, ← bytes, c .0, c .1)
+    pub all-right : d ≡ 0 → Answers s room (Right n size)
+    unfolding check rows-of token-bytes
+    all-right h =
+        let none = tokens-end s p end in
+        answer-right s room (f .short) n size (f .verdict ∙ rw (none, h)) (f .counted ∙ rw none (omega arith)) (f .sized ∙ rw none (omega arith))

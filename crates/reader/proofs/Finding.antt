@@ -64,7 +64,8 @@ module _ (s : List ℕ) (start p d : ℕ) (f : Ending s start p d) where
         inside = omega (arith, ending-inside);
         shallow = omega (arith, f .shallow);
         passes = (n + 1, right-opening (length s) (length s) (tokens-from s (p + 1)) p (d + 1) n (rw is at (f .passes .1)) .2);
-        same = f .same ∙ rw is (getD-drop 1 (ends (tokens-from s (p + 1))) d 0 ∙ ap (λ (j : ℕ). getD (ends (tokens-from s (p + 1))) j 0) (omega arith));
+        same =
+            f .same ∙ rw is (getD-drop 1 (ends (tokens-from s (p + 1))) d 0 ∙ ap (λ (j : ℕ). getD (ends (tokens-from s (p + 1))) j 0) (omega arith));
       }
       go Closing is = (
         λ z. f .same ∙ rw (is, z),
@@ -209,6 +210,9 @@ module _ (s : List ℕ) (k p n : ℕ) (f : Finding s k p n) where
               spells = subst (SpellsAll es) rest (sp .4);
               shallow = omega arith;
               few = omega arith;
-              same = λ b. let more-left : n ≡ suc (n - 1) = omega (arith, z) in same b ∙ ap (λ (m : ℕ). item b (rows-of (tokens-from s p)) m (more c es)) more-left ∙ rw behind;
+              same =
+                  λ b. let more-left : n ≡ suc (n - 1) = omega (arith, z) in same b
+                  ∙ ap (λ (m : ℕ). item b (rows-of (tokens-from s p)) m (more c es)) more-left
+                  ∙ rw behind;
             });
           }

@@ -49,10 +49,14 @@ counted s at depth h e n =
     }
 
 add-plain-length : tie.Need-add-plain-length
-add-plain-length c = let a = c .before .before .before .args in omega (arith, counted (a .s .now) (a .at) _ (omega arith) (c .before .threes .ensures) (c .if1 .left) .inside)
+add-plain-length c =
+    let a = c .before .before .before .args in
+    omega (arith, counted (a .s .now) (a .at) _ (omega arith) (c .before .threes .ensures) (c .if1 .left) .inside)
 
 plain-length-requires : tie.Need-plain-length-requires
-plain-length-requires c κs = let a = c .before .before .before .args in counted (a .s .now) (a .at) _ (omega arith) (c .before .threes .ensures) (c .if1 .left) .inside
+plain-length-requires c κs =
+    let a = c .before .before .before .args in
+    counted (a .s .now) (a .at) _ (omega arith) (c .before .threes .ensures) (c .if1 .left) .inside
 
 enum-known-number : tie.Need-enum-known-number
 enum-known-number c = search needs

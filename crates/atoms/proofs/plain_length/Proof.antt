@@ -26,13 +26,17 @@ returns-2 : tie.Need-returns-2
 returns-2 c = let a = c .before .before .before .before .args in sym (plain-wrong (a .s .now) (a .at) (omega arith) (c .if2 .taken))
 
 returns-3 : tie.Need-returns-3
-returns-3 c = let a = c .before .before .before .before .before .args in sym (plain-int (a .s .now) (a .at) (omega arith) (c .before .if2 .left) (c .if3 .taken))
+returns-3 c =
+    let a = c .before .before .before .before .before .args in
+    sym (plain-int (a .s .now) (a .at) (omega arith) (c .before .if2 .left) (c .if3 .taken))
 
 sub-if4 : tie.Need-sub-if4
 sub-if4 c = search needs
 
 returns-4 : tie.Need-returns-4
-returns-4 c = let a = c .before .before .before .before .before .before .args in sym (plain-short (a .s .now) (a .at) (omega arith) (c .before .if3 .left) (c .if4 .taken))
+returns-4 c =
+    let a = c .before .before .before .before .before .before .args in
+    sym (plain-short (a .s .now) (a .at) (omega arith) (c .before .if3 .left) (c .if4 .taken))
 
 add-end : tie.Need-add-end
 add-end c = search needs

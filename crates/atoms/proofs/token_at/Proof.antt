@@ -36,7 +36,8 @@ add-bytes-at : tie.Need-add-bytes-at
 add-bytes-at c = search needs
 
 cast-bytes-at : tie.Need-cast-bytes-at
-cast-bytes-at c = omega (arith, c .before .before .before .before .shared-slice-known2 .given (c .before .before .before .before .before .before .args .at))
+cast-bytes-at c =
+    omega (arith, c .before .before .before .before .shared-slice-known2 .given (c .before .before .before .before .before .before .args .at))
 
 bytes-at-requires : tie.Need-bytes-at-requires
 bytes-at-requires c κs = search needs
@@ -51,10 +52,14 @@ returns-3 : tie.Need-returns-3
 returns-3 c = let a = c .before .before .before .args in sym (first-closing (a .s .now) (a .at) (omega arith) (c .match .keys3))
 
 returns-4 : tie.Need-returns-4
-returns-4 c = let a = c .before .before .before .before .args in c .array-at .ensures ∙ sym (first-array (a .s .now) (a .at) (omega arith) (c .before .match .keys4))
+returns-4 c =
+    let a = c .before .before .before .before .args in
+    c .array-at .ensures ∙ sym (first-array (a .s .now) (a .at) (omega arith) (c .before .match .keys4))
 
 returns-5 : tie.Need-returns-5
-returns-5 c = let a = c .before .before .before .before .args in c .long-reference .ensures ∙ sym (first-long (a .s .now) (a .at) (omega arith) (c .before .match .keys5))
+returns-5 c =
+    let a = c .before .before .before .before .args in
+    c .long-reference .ensures ∙ sym (first-long (a .s .now) (a .at) (omega arith) (c .before .match .keys5))
 
 returns-6 : tie.Need-returns-6
 returns-6 c =

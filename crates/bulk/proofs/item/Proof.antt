@@ -21,10 +21,14 @@ item-of-requires-2 : tie.Need-item-of-requires-2
 item-of-requires-2 c κs = search needs
 
 returns : tie.Need-returns
-returns c = let a = c .before .before .before .before .before .args in rw (c .before .enum-told .given .1) (c .item-of .ensures of-stream (a .stream .now) (a .result .now) refl)
+returns c =
+    let a = c .before .before .before .before .before .args in
+    rw (c .before .enum-told .given .1) (c .item-of .ensures of-stream (a .stream .now) (a .result .now) refl)
 
 returns-2 : tie.Need-returns-2
-returns-2 c = let a = c .before .before .before .before .before .args in rw (c .before .enum-told2 .given .1) (c .item-of2 .ensures of-result (a .stream .now) (a .result .now) refl)
+returns-2 c =
+    let a = c .before .before .before .before .before .args in
+    rw (c .before .enum-told2 .given .1) (c .item-of2 .ensures of-result (a .stream .now) (a .result .now) refl)
 
 pub item-spec : {M : Type 1} → statement M
 item-spec =

@@ -24,7 +24,8 @@ enum-known-start : tie.Need-enum-known-start
 enum-known-start c = search needs
 
 -- the part lies in the buffer
-inside : (c : tie.After-start) → (c .start .given .0 .0 ≤ c .start .given .0 .1 .0) × (c .start .given .0 .1 .0 ≤ length (c .before .before .before .before .args .buffer .now))
+inside : (c : tie.After-start)
+    → (c .start .given .0 .0 ≤ c .start .given .0 .1 .0) × (c .start .given .0 .1 .0 ≤ length (c .before .before .before .before .args .buffer .now))
 inside c =
     let s = c .before .before .before .before .args .buffer .now in
     item-inside of-stream s s (c .before .before .before .before .args .k) _ _ (all-bytes s (λ i. c .before .before .before .shared-slice-known .given i .fits))
@@ -51,7 +52,8 @@ place-bytes (Of start end) s = take (end - start) (drop start s)
 place-bytes Empty s = []
 
 -- the bytes of the part that was told
-bytes-told : (r : Place) (s : List ℕ) (b : Buffer) (stream result : List ℕ) (k : ℕ) → chosen b stream result ≡ s → of-buffer b r ≡ Item stream result b k
+bytes-told : (r : Place) (s : List ℕ) (b : Buffer) (stream result : List ℕ) (k : ℕ) → chosen b stream result ≡ s
+    → of-buffer b r ≡ Item stream result b k
     → place-bytes r s ≡ part-bytes (Item stream result b k) stream result
 bytes-told r s b stream result k e h = go r ∙ ap (λ (it : Part). part-bytes it stream result) h
   where
@@ -60,10 +62,12 @@ bytes-told r s b stream result k e h = go r ∙ ap (λ (it : Part). part-bytes i
     go Empty = refl
 
 returns : tie.Need-returns
-returns c = λ b stream result e. bytes-told (Of _ _) _ b stream result (c .before .before .before .before .before .before .args .k) e (ap (of-buffer b) (sym (c .before .before .start .given .1)) ∙ c .before .before .before .before .locate .ensures b stream result e)
+returns c =
+    λ b stream result e. bytes-told (Of _ _) _ b stream result (c .before .before .before .before .before .before .args .k) e (ap (of-buffer b) (sym (c .before .before .start .given .1)) ∙ c .before .before .before .before .locate .ensures b stream result e)
 
 returns-2 : tie.Need-returns-2
-returns-2 c = λ b stream result e. bytes-told Empty _ b stream result (c .before .before .before .before .before .args .k) e (ap (of-buffer b) (sym (c .before .enum-told .given .1)) ∙ c .before .before .before .locate .ensures b stream result e)
+returns-2 c =
+    λ b stream result e. bytes-told Empty _ b stream result (c .before .before .before .before .before .args .k) e (ap (of-buffer b) (sym (c .before .enum-told .given .1)) ∙ c .before .before .before .locate .ensures b stream result e)
 
 pub item-of-spec : {M : Type 1} → statement M
 item-of-spec =

@@ -21,10 +21,14 @@ locate-requires-2 : tie.Need-locate-requires-2
 locate-requires-2 c κs = search needs
 
 returns : tie.Need-returns
-returns c = let a = c .before .before .before .before .before .args in rw (c .before .enum-told .given .1) (c .locate .ensures of-stream (a .stream .now) (a .result .now) refl)
+returns c =
+    let a = c .before .before .before .before .before .args in
+    rw (c .before .enum-told .given .1) (c .locate .ensures of-stream (a .stream .now) (a .result .now) refl)
 
 returns-2 : tie.Need-returns-2
-returns-2 c = let a = c .before .before .before .before .before .args in rw (c .before .enum-told2 .given .1) (c .locate2 .ensures of-result (a .stream .now) (a .result .now) refl)
+returns-2 c =
+    let a = c .before .before .before .before .before .args in
+    rw (c .before .enum-told2 .given .1) (c .locate2 .ensures of-result (a .stream .now) (a .result .now) refl)
 
 pub item-part-spec : {M : Type 1} → statement M
 item-part-spec =

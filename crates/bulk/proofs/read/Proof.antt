@@ -1,17 +1,21 @@
 -- `bulk::read` meets its contract: what the first pass told, and the table that the second leaves.
 -- Assumes nothing.
 use borrow.Author.Needs.{needs}
-use mathlib.Core.Path.{_≡_, refl, sym, _∙_}
-use Prim.Native.Nat.{_/_}
+use Prim.Native.Nat.{ℕ, _/_}
+use mathlib.Core.Path.{_≡_, sym, ap, _∙_}
 use native.Mathlib.Omega.{arith}
 use lib.ListN.{length}
-use Rattle.spec.specs.Reading.{row-width}
+use Rattle.spec.specs.Reading.{row-width, read}
+use Rattle.reader.specs.Passes.{checked}
 use Rattle.reader.specs.declared.Checked.{Checked}
 use Rattle.bulk.proofs.Told.{Told, told, read-refusal, table-room, read-acceptance}
 use Rattle.bulk.proofs.read.Statement.{statement}
 use Rattle.bulk.proofs.read.Tie as tie
 use Rattle.bulk.proofs.read.Reads as reads
 use Rattle.bulk.proofs.read.Lts as lts
+
+rows-available-requires : tie.Need-rows-available-requires
+rows-available-requires c κs = search needs
 
 check-requires : tie.Need-check-requires
 check-requires c κs = search needs
@@ -23,29 +27,42 @@ enum-known-rows : tie.Need-enum-known-rows
 enum-known-rows c = search needs
 
 -- what the first pass told, where it is this
-at-check : (c : tie.After-check) (v : Checked) → c .check .result ≡ v → Told (c .before .before .before .args .stream .now) (length (c .before .before .before .args .table .now) / row-width) v
-at-check c v e = told _ _ v (sym e ∙ c .check .ensures)
+at-check : (c : tie.After-check) (v : Checked) → c .check .result ≡ v
+    → Told (c .before .before .before .before .before .args .stream .now) (length (c .before .before .before .before .before .args .table .now) / row-width) v
+at-check c v e =
+    told _ _ v (sym e ∙ c .check .ensures ∙ ap (λ (room : ℕ). checked (read (c .before .before .before .before .before .args .stream .now) room)) (c .before .rows-available .ensures))
 
 fill-requires : tie.Need-fill-requires
-fill-requires c κs = let r = at-check (c .before .before .before .before) _ (c .before .before .rows .given .1) in (r .can, table-room _ (c .before .before .before .before .before .before .before .args .table .now) _ _ r)
-
-returns : tie.Need-returns
-returns c = let a = c .before .before .before .before .before .before .args in read-refusal (a .stream .now) (a .table .now) _ _ (at-check (c .before .before .before) _ (c .before .number .given .1))
+fill-requires c κs =
+    let r = at-check (c .before .before .before .before) _ (c .before .before .rows .given .1) in
+    (r .can, table-room _ (c .before .before .before .before .before .before .before .before .before .args .table .now) _ _ r)
 
 same-length : tie.Need-same-length
 same-length c = search needs
 
+returns : tie.Need-returns
+returns c =
+    let a = c .before .before .before .before .before .before .before .before .args in
+    read-refusal (a .stream .now) (a .table .now) _ _ (at-check (c .before .before .before) _ (c .before .number .given .1))
+
+same-length-2 : tie.Need-same-length-2
+same-length-2 c = search needs
+
 returns-2 : tie.Need-returns-2
-returns-2 c = let a = c .before .before .before .before .before .before .before .before .before .before .args in read-acceptance (a .stream .now) (a .table .now) _ _ (at-check (c .before .before .before .before .before .before .before) _ (c .before .before .before .before .before .rows .given .1)) _ (c .before .before .fill .ensures)
+returns-2 c =
+    let a = c .before .before .before .before .before .before .before .before .before .before .before .before .args in
+    read-acceptance (a .stream .now) (a .table .now) _ _ (at-check (c .before .before .before .before .before .before .before) _ (c .before .before .before .before .before .rows .given .1)) _ (c .before .before .fill .ensures)
 
 pub read-spec : {M : Type 1} → statement M
 read-spec =
     tie.close
     (tie.spec
+    rows-available-requires
     check-requires
     enum-known-number
     enum-known-rows
     fill-requires
-    returns
     same-length
+    returns
+    same-length-2
     returns-2)

@@ -1,17 +1,21 @@
 -- `bulk::write` meets its contract: what the first pass told, the table that the second leaves, and the canonical stream if there is room.
 -- Assumes nothing.
 use borrow.Author.Needs.{needs}
-use mathlib.Core.Path.{_≡_, refl, sym, _∙_}
-use Prim.Native.Nat.{_/_}
+use Prim.Native.Nat.{ℕ, _/_}
+use mathlib.Core.Path.{_≡_, sym, ap, _∙_}
 use native.Mathlib.Omega.{arith}
 use lib.ListN.{length}
-use Rattle.spec.specs.Reading.{row-width}
+use Rattle.spec.specs.Reading.{row-width, read}
+use Rattle.reader.specs.Passes.{checked}
 use Rattle.reader.specs.declared.Checked.{Checked}
 use Rattle.bulk.proofs.Told.{Told, told, write-refusal, table-room, write-short, write-acceptance}
 use Rattle.bulk.proofs.write.Statement.{statement}
 use Rattle.bulk.proofs.write.Tie as tie
 use Rattle.bulk.proofs.write.Reads as reads
 use Rattle.bulk.proofs.write.Lts as lts
+
+rows-available-requires : tie.Need-rows-available-requires
+rows-available-requires c κs = search needs
 
 check-requires : tie.Need-check-requires
 check-requires c κs = search needs
@@ -23,42 +27,53 @@ enum-known-length : tie.Need-enum-known-length
 enum-known-length c = search needs
 
 -- what the first pass told, where it is this
-at-check : (c : tie.After-check) (v : Checked) → c .check .result ≡ v → Told (c .before .before .before .before .args .stream .now) (length (c .before .before .before .before .args .table .now) / row-width) v
-at-check c v e = told _ _ v (sym e ∙ c .check .ensures)
+at-check : (c : tie.After-check) (v : Checked) → c .check .result ≡ v
+    → Told (c .before .before .before .before .before .before .args .stream .now) (length (c .before .before .before .before .before .before .args .table .now) / row-width) v
+at-check c v e =
+    told _ _ v (sym e ∙ c .check .ensures ∙ ap (λ (room : ℕ). checked (read (c .before .before .before .before .before .before .args .stream .now) room)) (c .before .rows-available .ensures))
 
 fill-requires : tie.Need-fill-requires
-fill-requires c κs = let r = at-check (c .before .before .before .before) _ (c .before .before .length .given .1) in (r .can, table-room _ (c .before .before .before .before .before .before .before .before .args .table .now) _ _ r)
+fill-requires c κs =
+    let r = at-check (c .before .before .before .before) _ (c .before .before .length .given .1) in
+    (r .can, table-room _ (c .before .before .before .before .before .before .before .before .before .before .args .table .now) _ _ r)
 
 same-length : tie.Need-same-length
 same-length c = search needs
 
 returns : tie.Need-returns
 returns c =
-    let a = c .before .before .before .before .before .before .before .before .before .before .before .before .args in
+    let a = c .before .before .before .before .before .before .before .before .before .before .before .before .before .before .args in
     write-short (a .stream .now) (a .table .now) _ _ (at-check (c .before .before .before .before .before .before .before .before) _ (c .before .before .before .before .before .before .length .given .1)) _ (a .output .now) (c .before .before .before .fill .ensures) (c .if1 .taken)
 
 emit-requires : tie.Need-emit-requires
-emit-requires c κs = let r = at-check (c .before .before .before .before .before .before .before .before .before) _ (c .before .before .before .before .before .before .before .length .given .1) in (r .can, omega (arith, r .sized, c .before .if1 .left))
-
-returns-2 : tie.Need-returns-2
-returns-2 c =
-    let a = c .before .before .before .before .before .before .before .args in write-refusal (a .stream .now) (a .table .now) (a .output .now) _ _ (at-check (c .before .before .before) _ (c .before .number .given .1))
+emit-requires c κs =
+    let r = at-check (c .before .before .before .before .before .before .before .before .before) _ (c .before .before .before .before .before .before .before .length .given .1) in
+    (r .can, omega (arith, r .sized, c .before .if1 .left))
 
 same-length-2 : tie.Need-same-length-2
 same-length-2 c = search needs
 
+returns-2 : tie.Need-returns-2
+returns-2 c =
+    let a = c .before .before .before .before .before .before .before .before .before .args in write-refusal (a .stream .now) (a .table .now) (a .output .now) _ _ (at-check (c .before .before .before) _ (c .before .number .given .1))
+
 same-length-3 : tie.Need-same-length-3
 same-length-3 c = search needs
 
+same-length-4 : tie.Need-same-length-4
+same-length-4 c = search needs
+
 returns-3 : tie.Need-returns-3
 returns-3 c =
-    let a = c .before .before .before .before .before .before .before .before .before .before .before .before .before .before .before .before .args in
-    write-acceptance (a .stream .now) (a .table .now) _ _ (at-check (c .before .before .before .before .before .before .before .before .before .before .before .before) _ (c .before .before .before .before .before .before .before .before .before .before .length .given .1)) _ (a .output .now) _ (c .before .before .before .before .before .before .before .fill .ensures) (c .before .before .before .before .if1 .left) (c .before .before .emit .ensures)
+    let a = c .before .before .before .before .before .before .before .before .before .before .before .before .before .before .before .before .before .before .args in
+    write-acceptance (a .stream .now) (a .table .now) _ _ (at-check (c .before .before .before .before .before .before .before .before .before .before .before .before) _ (c .before .before .before .before .before .before .before .before .before .before .length .given .1)) _ (a .output .now) _
+    (c .before .before .before .before .before .before .before .fill .ensures) (c .before .before .before .before .if1 .left) (c .before .before .emit .ensures)
 
 pub write-spec : {M : Type 1} → statement M
 write-spec =
     tie.close
     (tie.spec
+    rows-available-requires
     check-requires
     enum-known-number
     enum-known-length
@@ -66,7 +81,8 @@ write-spec =
     same-length
     returns
     emit-requires
-    returns-2
     same-length-2
+    returns-2
     same-length-3
+    same-length-4
     returns-3)

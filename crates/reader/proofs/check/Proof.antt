@@ -1,19 +1,14 @@
--- `reader::check` meets its contract. The invariant is `Checking`, which a token of each kind keeps.
+-- `reader::check` meets its contract. The invariant is `Checking`, which a turn keeps or refuses, whatever token there is.
 -- Assumes nothing.
 use borrow.Author.Needs.{needs}
-use Prim.Native.Nat.{ℕ, _+_, _-_}
-use mathlib.Core.Path.{_≡_, _∙_, sym, ap}
+use Prim.Native.Nat.{_-_}
+use mathlib.Core.Path.{_≡_, sym, _∙_}
 use native.Mathlib.Omega.{arith}
 use lib.ListN.{length}
-use Rattle.spec.specs.Expr.{atom-bytes}
-use Rattle.spec.specs.Reading.{tokens, check, wrong}
 use Rattle.laws.proofs.Steps.{all-bytes}
 use Rattle.atoms.specs.declared.Token.{Token as Answer}
-use Rattle.atoms.specs.declared.Token.the-variants.{Opening, Closing, Whole, Bad}
-use Rattle.atoms.proofs.Next.{AtomAt, Next, next, written-size}
-use Rattle.reader.specs.Passes.{checked}
-use Rattle.reader.specs.declared.Checked.the-variants.{Wrong}
-use Rattle.reader.proofs.Checking.{Checking, checking-start, checking-opening, too-deep, no-row-form, checking-closing, at-top, checking-atom, no-row-atom, bad-token, left-open, all-right, all-counted, answer-long, answer-wrong, answer-right}
+use Rattle.atoms.specs.declared.Token.the-variants.{Opening, Closing, Whole}
+use Rattle.reader.proofs.Checking.{Checking, checking-start, too-long, CheckTurn, check-turn, left-open, all-right}
 use Rattle.reader.proofs.check.Statement.{statement}
 use Rattle.reader.proofs.check.Tie as tie
 use Rattle.reader.proofs.check.Reads as reads
@@ -26,40 +21,42 @@ abbrev μ-loop : tie.MeasureT-loop
 μ-loop s room at₀ depth₀ rows₀ length₀ at depth rows size = length s - at
 
 returns : tie.Need-returns Inv-loop μ-loop
-returns c = answer-long _ _ (c .if1 .taken)
+returns c = too-long _ _ (c .if1 .taken)
 
 loop-holds : tie.Need-loop-holds Inv-loop μ-loop
-loop-holds c = checking-start _ _
+loop-holds c = checking-start _ _ (all-bytes (c .before .before .args .s .now) (λ i. c .before .shared-slice-known .given i .fits)) (c .if1 .left)
 
 token-at-requires : tie.Need-token-at-requires Inv-loop μ-loop
 token-at-requires c κs = omega arith
 
--- what the token says, where it is this one
-at-token : (c : tie.After-token-at Inv-loop μ-loop) (r : Answer) → c .token-at .result ≡ r → Next (c .before .before .before .before .before .args .s .now) (c .before .before .loop .at) r
-at-token c r e =
-    next _ _ r (all-bytes (c .before .before .before .before .before .args .s .now) (λ i. c .before .before .before .before .shared-slice-known .given i .fits)) (c .before .loop-test .taken) (sym e ∙ c .token-at .ensures)
+-- what is known of the turn where the token is this one
+abbrev TurnAt : tie.At-loop Inv-loop μ-loop → Answer → Type 0
+TurnAt c r =
+    let a = c .before .before .before .args in
+    let l = c .loop in
+    CheckTurn (a .s .now) (a .room) (l .at) (l .depth) (l .rows) (l .length) r
 
-at-opening : (c : tie.After-enum-told Inv-loop μ-loop) → Next (c .before .before .before .before .before .before .before .args .s .now) (c .before .before .before .before .loop .at) Opening
+at-token : (c : tie.After-token-at Inv-loop μ-loop) (r : Answer) → c .token-at .result ≡ r → TurnAt (c .before .before) r
+at-token c r e = check-turn _ _ _ _ _ _ (c .before .before .loop .inv) (c .before .loop-test .taken) r (sym e ∙ c .token-at .ensures)
+
+at-opening : (c : tie.After-enum-told Inv-loop μ-loop) → TurnAt (c .before .before .before .before) Opening
 at-opening c = at-token (c .before .before) Opening (c .enum-told .given .1)
 
-at-closing : (c : tie.After-enum-told2 Inv-loop μ-loop) → Next (c .before .before .before .before .before .before .before .args .s .now) (c .before .before .before .before .loop .at) Closing
+at-closing : (c : tie.After-enum-told2 Inv-loop μ-loop) → TurnAt (c .before .before .before .before) Closing
 at-closing c = at-token (c .before .before) Closing (c .enum-told2 .given .1)
 
 at-whole : (c : tie.After-kind Inv-loop μ-loop)
-    → AtomAt (c .before .before .before .before .before .before .before .args .s .now) (c .before .before .before .before .loop .at) (c .kind .given .0 .0) (c .kind .given .0 .1 .0) (c .kind .given .0 .1 .1 .0)
+    → TurnAt (c .before .before .before .before) (Whole (c .kind .given .0 .0) (c .kind .given .0 .1 .0) (c .kind .given .0 .1 .1 .0))
 at-whole c = at-token (c .before .before) _ (c .kind .given .1)
 
 enum-told : tie.Need-enum-told Inv-loop μ-loop
 enum-told c = search needs
 
 returns-2 : tie.Need-returns-2 Inv-loop μ-loop
-returns-2 c =
-    answer-wrong _ _ (omega arith) _ _ (too-deep _ _ _ _ _ _ (c .before .before .before .before .before .loop .inv) (c .before .before .before .before .loop-test .taken) (at-opening (c .before)) (c .if2 .taken))
+returns-2 c = at-opening (c .before) .0 (c .if2 .taken)
 
 returns-3 : tie.Need-returns-3 Inv-loop μ-loop
-returns-3 c =
-    answer-wrong _ _ (omega arith) _ _
-    (no-row-form _ _ _ _ _ _ (c .before .before .before .before .before .before .loop .inv) (c .before .before .before .before .before .loop-test .taken) (at-opening (c .before .before)) (c .before .if2 .left) (c .if3 .taken))
+returns-3 c = at-opening (c .before .before) .1 (c .before .if2 .left) (c .if3 .taken)
 
 add-depth : tie.Need-add-depth Inv-loop μ-loop
 add-depth c = omega arith
@@ -77,13 +74,13 @@ loop-less : tie.Need-loop-less Inv-loop μ-loop
 loop-less c = omega arith
 
 loop-again : tie.Need-loop-again Inv-loop μ-loop
-loop-again c = checking-opening _ _ _ _ _ _ (c .before .before .before .before .before .before .loop .inv) (c .before .before .before .before .before .loop-test .taken) (at-opening (c .before .before)) (c .before .if2 .left) (c .if3 .left)
+loop-again c = at-opening (c .before .before) .2 (c .before .if2 .left) (c .if3 .left)
 
 enum-told-2 : tie.Need-enum-told-2 Inv-loop μ-loop
 enum-told-2 c = search needs
 
 returns-4 : tie.Need-returns-4 Inv-loop μ-loop
-returns-4 c = answer-wrong _ _ (omega arith) _ _ (at-top _ _ _ _ _ _ (c .before .before .before .before .before .loop .inv) (c .before .before .before .before .loop-test .taken) (at-closing (c .before)) (c .if4 .taken))
+returns-4 c = at-closing (c .before) .0 (c .if4 .taken)
 
 sub-depth : tie.Need-sub-depth Inv-loop μ-loop
 sub-depth c = omega arith
@@ -98,59 +95,40 @@ loop-less-2 : tie.Need-loop-less-2 Inv-loop μ-loop
 loop-less-2 c = omega arith
 
 loop-again-2 : tie.Need-loop-again-2 Inv-loop μ-loop
-loop-again-2 c = checking-closing _ _ _ _ _ _ (c .before .before .before .before .before .loop .inv) (c .before .before .before .before .loop-test .taken) (at-closing (c .before)) (c .if4 .left)
+loop-again-2 c = at-closing (c .before) .1 (c .if4 .left)
 
 enum-known-kind : tie.Need-enum-known-kind Inv-loop μ-loop
 enum-known-kind c = search needs
 
 returns-5 : tie.Need-returns-5 Inv-loop μ-loop
-returns-5 c =
-    let w = at-whole (c .before .before) in
-    answer-wrong _ _ (omega arith) _ _
-    (no-row-atom _ _ _ _ _ _ (c .before .before .before .before .before .before .loop .inv) (c .before .before .before .before .before .loop-test .taken) (w .atom) _ (w .is) (c .if5 .taken))
+returns-5 c = at-whole (c .before .before) .3 (c .if5 .taken)
 
 add-rows-2 : tie.Need-add-rows-2 Inv-loop μ-loop
 add-rows-2 c = omega arith
 
 canonical-size-requires : tie.Need-canonical-size-requires Inv-loop μ-loop
-canonical-size-requires c κs = let w = at-whole (c .before .before) in (w .ends, omega (arith, w .inside))
-
--- the canonical length that was counted for an atom
-counted-size : (c : tie.After-canonical-size Inv-loop μ-loop) → c .canonical-size .result ≡ length (atom-bytes (at-whole (c .before .before .before) .atom))
-counted-size c = c .canonical-size .ensures ∙ sym (written-size _ _ _ _ _ (at-whole (c .before .before .before)))
+canonical-size-requires c κs = let w = at-whole (c .before .before) in (w .0, omega (arith, w .2))
 
 add-length-3 : tie.Need-add-length-3 Inv-loop μ-loop
-add-length-3 c = let w = at-whole (c .before .before .before) in omega (arith, counted-size c, w .shorter, w .inside)
+add-length-3 c = let w = at-whole (c .before .before .before) in omega (arith, w .2, w .4 _ (c .canonical-size .ensures) .0)
 
 loop-less-3 : tie.Need-loop-less-3 Inv-loop μ-loop
-loop-less-3 c = let w = at-whole (c .before .before .before) in omega (arith, w .forward, w .inside)
+loop-less-3 c = let w = at-whole (c .before .before .before) in omega (arith, w .1, w .2)
 
 loop-again-3 : tie.Need-loop-again-3 Inv-loop μ-loop
-loop-again-3 c =
-    let w = at-whole (c .before .before .before) in
-    let size = counted-size c in
-    checking-atom _ _ _ _ _ _ (c .before .before .before .before .before .before .before .loop .inv) (c .before .before .before .before .before .before .loop-test .taken) (w .atom) _ (w .is) _ (c .before .if5 .left) (w .forward) (w .inside) size
-    (omega (arith, w .shorter))
+loop-again-3 c = at-whole (c .before .before .before) .4 _ (c .canonical-size .ensures) .1 (c .before .if5 .left)
 
 enum-known-number : tie.Need-enum-known-number Inv-loop μ-loop
 enum-known-number c = search needs
 
 returns-6 : tie.Need-returns-6 Inv-loop μ-loop
-returns-6 c =
-    let b = at-token (c .before .before .before) _ (c .before .number .given .1) in
-    answer-wrong _ _ (omega arith) _ _ (bad-token _ _ _ _ _ _ (c .before .before .before .before .before .loop .inv) (c .before .before .before .before .loop-test .taken) _ _ (b .0) (b .1))
+returns-6 c = at-token (c .before .before .before) _ (c .before .number .given .1)
 
 returns-7 : tie.Need-returns-7 Inv-loop μ-loop
-returns-7 c =
-    let l = c .before .before .loop in
-    let end = c .before .loop-test .left in
-    answer-right _ _ (omega arith) _ _ (all-right _ _ _ _ _ _ (l .inv) end (c .if6 .taken)) (all-counted _ _ _ _ _ _ (l .inv) end)
+returns-7 c = all-right _ _ _ _ _ _ (c .before .before .loop .inv) (c .before .loop-test .left) (c .if6 .taken)
 
 returns-8 : tie.Need-returns-8 Inv-loop μ-loop
-returns-8 c =
-    let l = c .before .before .loop in
-    let at-end : l .at ≡ length (c .before .before .before .before .before .args .s .now) = omega (arith, l .inv .inside) in
-    ap (Wrong 2) at-end ∙ answer-wrong _ _ (omega arith) _ _ (left-open _ _ _ _ _ _ (l .inv) (c .before .loop-test .left) (c .if6 .left))
+returns-8 c = left-open _ _ _ _ _ _ (c .before .before .loop .inv) (c .before .loop-test .left) (c .if6 .left)
 
 pub check-spec : {M : Type 1} → statement M
 check-spec =

@@ -25,7 +25,8 @@ expression-end-requires : tie.Need-expression-end-requires Inv-loop μ-loop
 expression-end-requires c κs = (omega arith, omega arith, finding-right _ _ _ _ (c .before .loop .inv))
 
 -- where the expression ends
-at-end : (c : tie.After-expression-end Inv-loop μ-loop) → Found (c .before .before .before .before .args .s .now) (c .before .before .before .before .args .k) (c .before .before .loop .at) (c .before .before .loop .n) (c .expression-end .result)
+at-end : (c : tie.After-expression-end Inv-loop μ-loop)
+    → Found (c .before .before .before .before .args .s .now) (c .before .before .before .before .args .k) (c .before .before .loop .at) (c .before .before .loop .n) (c .expression-end .result)
 at-end c = finding-turn _ _ _ _ (c .before .before .loop .inv) _ (c .before .loop-test .taken) (c .expression-end .ensures)
 
 returns : tie.Need-returns Inv-loop μ-loop

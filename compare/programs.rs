@@ -1,0 +1,60 @@
+//! The two programs as child processes: requests fed by a thread, answers read as they come.
+
+use std::io::{self, BufRead, BufReader, BufWriter, Write};
+use std::process::{Child, ChildStdin, ChildStdout, Command, Stdio};
+use std::sync::Arc;
+use std::thread;
+
+pub struct Program {
+    process: Child,
+    answers: BufReader<ChildStdout>,
+    pub answers_given: usize,
+}
+
+impl Program {
+    pub fn start(path: &str, requests: Arc<Vec<Vec<u8>>>) -> io::Result<Program> {
+        let mut process = Command::new(path)
+            .stdin(Stdio::piped())
+            .stdout(Stdio::piped())
+            .spawn()?;
+        let input = process.stdin.take().expect("standard input is piped");
+        let output = process.stdout.take().expect("standard output is piped");
+        // A program that stops reading shows by its missing answers.
+        thread::spawn(move || feed(input, &requests));
+        Ok(Program {
+            process,
+            answers: BufReader::new(output),
+            answers_given: 0,
+        })
+    }
+
+    /// The next answer line, or none after the last.
+    pub fn next_answer(&mut self) -> Option<Vec<u8>> {
+        let mut line = Vec::new();
+        match self.answers.read_until(b'\n', &mut line) {
+            Ok(count) if count > 0 => self.answers_given += 1,
+            _ => return None,
+        }
+        if line.last() == Some(&b'\n') {
+            line.pop();
+        }
+        Some(line)
+    }
+
+    /// Waits for the program's end; true if it succeeded.
+    pub fn succeeded(&mut self) -> bool {
+        self.process.wait().is_ok_and(|status| status.success())
+    }
+}
+
+/// Writes the requests, a newline between any two and none after the last.
+fn feed(input: ChildStdin, requests: &[Vec<u8>]) -> io::Result<()> {
+    let mut input = BufWriter::new(input);
+    for (index, request) in requests.iter().enumerate() {
+        if index > 0 {
+            input.write_all(b"\n")?;
+        }
+        input.write_all(request)?;
+    }
+    input.flush()
+}

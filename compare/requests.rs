@@ -1,0 +1,207 @@
+//! Request lines: their spelling, random ones, and malformed ones.
+
+use crate::random::Random;
+use crate::streams::{huge_stream, huge_streams, random_stream, Stream};
+
+const LARGE_NUMBERS: [u64; 7] = [
+    16_384,
+    65_536,
+    262_143,
+    262_144,
+    1_000_000,
+    1 << 32,
+    u64::MAX,
+];
+/// Digits of values that count as the largest number, or are written unusually.
+const UNUSUAL_NUMBERS: [&str; 6] = [
+    "18446744073709551615",
+    "18446744073709551616",
+    "18446744073709551620",
+    "99999999999999999999999999999999999999999",
+    "00000000000000000000000000000000000000040",
+    "0004",
+];
+const MALFORMED_WHICH: [&str; 8] = ["2", "00", "01", "10", "+0", "-", "", "a"];
+const MALFORMED_WORDS: [&str; 24] = [
+    "", "+4", "-4", "-", "--", "4.", "0x4", "4_0", "1e3", "2", "00", "01", "4\t", "\r", "\0",
+    "4\r", "A0", "a", "0g", "aA", "٤", "list", "Read", "reads",
+];
+
+pub fn read_line(stream: &[u8], table: u64) -> Vec<u8> {
+    format!("read {} {table}", hex(stream)).into_bytes()
+}
+
+pub fn write_line(stream: &[u8], table: u64, output: u64) -> Vec<u8> {
+    format!("write {} {table} {output}", hex(stream)).into_bytes()
+}
+
+pub fn item_line(stream: &[u8], result: &[u8], of_result: bool, k: u64) -> Vec<u8> {
+    let which = u8::from(of_result);
+    format!("item {} {} {which} {k}", hex(stream), hex(result)).into_bytes()
+}
+
+fn hex(bytes: &[u8]) -> String {
+    if bytes.is_empty() {
+        return "-".to_string();
+    }
+    let digit = |value: u8| char::from(b"0123456789abcdef"[usize::from(value)]);
+    let digits = |byte: &u8| [digit(byte >> 4), digit(byte & 0x0F)];
+    bytes.iter().flat_map(digits).collect()
+}
+
+/// Requests for every huge stream, with room for 65,536 rows and bytes, and for one less.
+pub fn huge_requests() -> Vec<Vec<u8>> {
+    let mut lines = Vec::new();
+    for stream in huge_streams() {
+        lines.push(read_line(&stream, 262_144));
+        lines.push(read_line(&stream, 262_143));
+        lines.push(write_line(&stream, 262_144, 65_536));
+        lines.push(write_line(&stream, 262_144, 65_535));
+        lines.push(item_line(&stream, &[], false, 65_534));
+        lines.push(item_line(&[], &stream, true, 65_535));
+    }
+    lines
+}
+
+/// So many requests, the same ones for the same seed.
+pub fn random_requests(seed: u64, count: usize) -> Vec<Vec<u8>> {
+    let mut random = Random::new(seed);
+    (0..count).map(|_| random_request(&mut random)).collect()
+}
+
+fn random_request(random: &mut Random) -> Vec<u8> {
+    if random.one_in(2_000) {
+        let stream = huge_stream(random);
+        return well_formed(random, stream);
+    }
+    let stream = random_stream(random);
+    let line = well_formed(random, stream);
+    match random.below(50) {
+        0 | 1 => malformed(random, line),
+        2 => unusual(random, line),
+        _ => line,
+    }
+}
+
+/// A request for one of the calls; a further call is one more arm here.
+fn well_formed(random: &mut Random, stream: Stream) -> Vec<u8> {
+    match random.below(10) {
+        0..=3 => random_read(random, &stream),
+        4..=7 => random_write(random, &stream),
+        _ => random_item(random, stream),
+    }
+}
+
+fn random_read(random: &mut Random, stream: &Stream) -> Vec<u8> {
+    let table = random_size(random, 4 * stream.rows);
+    read_line(&stream.bytes, table)
+}
+
+fn random_write(random: &mut Random, stream: &Stream) -> Vec<u8> {
+    let table = match random.one_in(3) {
+        true => random_size(random, 4 * stream.rows),
+        false => random.pick(&LARGE_NUMBERS),
+    };
+    let output = random_size(random, stream.length);
+    write_line(&stream.bytes, table, output)
+}
+
+/// The buffer asked for is the given stream more often than not.
+fn random_item(random: &mut Random, stream: Stream) -> Vec<u8> {
+    let other = random_stream(random);
+    let of_result = random.one_in(2);
+    let (first, second) = match of_result != random.one_in(8) {
+        true => (other, stream),
+        false => (stream, other),
+    };
+    let items = if of_result { second.items } else { first.items };
+    let k = match random.below(12) {
+        0 => random.pick(&LARGE_NUMBERS),
+        1 => random.next(),
+        2 => items as u64,
+        3..=6 => 0,
+        _ => random.below(items + 1) as u64,
+    };
+    item_line(&first.bytes, &second.bytes, of_result, k)
+}
+
+/// A length of a table or a buffer, where so much may be needed.
+fn random_size(random: &mut Random, needed: usize) -> u64 {
+    let size = match random.below(12) {
+        0 => random.below(9),
+        1 | 2 => needed,
+        3 => needed.saturating_sub(1),
+        4 => needed.saturating_sub(random.below(9)),
+        5 => needed + random.below(9),
+        6 => random.below(needed + 1),
+        _ => return random.pick(&LARGE_NUMBERS),
+    };
+    size as u64
+}
+
+/// A request with a number written in an unusual way.
+fn unusual(random: &mut Random, line: Vec<u8>) -> Vec<u8> {
+    let mut words = words(&line);
+    // All calls have a number last, and write has one before it.
+    let from_end = if words[0] == b"write" { 2 } else { 1 };
+    let at = words.len() - random.between(1, from_end);
+    words[at] = random.pick(&UNUSUAL_NUMBERS).as_bytes().to_vec();
+    words.join(&b' ')
+}
+
+/// A request with a word or some bytes spoiled. Now and then it is one all the same.
+fn malformed(random: &mut Random, line: Vec<u8>) -> Vec<u8> {
+    let mut words = words(&line);
+    match random.below(10) {
+        0..=4 => with_spoiled_word(random, words),
+        5 | 6 if words[0] == b"item" => {
+            words[3] = random.pick(&MALFORMED_WHICH).as_bytes().to_vec();
+            words.join(&b' ')
+        }
+        _ => with_spoiled_bytes(random, line),
+    }
+}
+
+fn words(line: &[u8]) -> Vec<Vec<u8>> {
+    line.split(|byte| *byte == b' ')
+        .map(|word| word.to_vec())
+        .collect()
+}
+
+fn with_spoiled_word(random: &mut Random, mut words: Vec<Vec<u8>>) -> Vec<u8> {
+    let at = random.below(words.len());
+    let spoiled = random.pick(&MALFORMED_WORDS).as_bytes().to_vec();
+    match random.below(8) {
+        0 => drop(words.remove(at)),
+        1 => words.insert(at, spoiled),
+        2 => words.push(spoiled),
+        3 => words[at].make_ascii_uppercase(),
+        4 => drop(words[at].pop()),
+        5 => words.swap(0, at),
+        _ => words[at] = spoiled,
+    }
+    words.join(&b' ')
+}
+
+fn with_spoiled_bytes(random: &mut Random, mut line: Vec<u8>) -> Vec<u8> {
+    let at = random.below(line.len() + 1);
+    match random.below(8) {
+        0 => line.clear(),
+        1 => line.truncate(at),
+        2 => line.push(b'\r'),
+        3 => line.push(b' '),
+        4 => line.insert(0, b' '),
+        5 => line.insert(at, random.pick(b" \t-+,gG\r\0\xFF")),
+        6 => line = (0..at).map(|_| random.byte()).collect(),
+        _ => double_a_space(random, &mut line),
+    }
+    // A newline would make two lines of it.
+    line.retain(|byte| *byte != b'\n');
+    line
+}
+
+fn double_a_space(random: &mut Random, line: &mut Vec<u8>) {
+    let spaces: Vec<usize> = (0..line.len()).filter(|at| line[*at] == b' ').collect();
+    let space = random.pick(&spaces);
+    line.insert(space, b' ');
+}

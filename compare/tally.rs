@@ -1,0 +1,127 @@
+//! How often each answer came, and whether every answer that can arise did.
+
+use std::collections::BTreeMap;
+
+/// A line that is no request, whatever it begins with.
+const NO_REQUEST: &str = "no request";
+
+/// The calls and the numbers that can arise for each; 0 is acceptance.
+const NUMBERS: &[(&str, &[u8])] = &[
+    ("read", &[0, 1, 2, 3, 4, 5, 6, 7, 8]),
+    ("write", &[0, 1, 2, 3, 4, 5, 6, 7, 8, 18]),
+];
+
+/// The other answers that can arise. Item is counted by the buffer asked for.
+const OTHER_ANSWERS: &[(&str, &[&str])] = &[
+    ("item 0", &["part", "part empty"]),
+    ("item 1", &["part", "part empty"]),
+    (NO_REQUEST, &["bad request"]),
+];
+
+fn number_answer(number: u8) -> String {
+    match number {
+        0 => "ok".to_string(),
+        _ => format!("refused {number}"),
+    }
+}
+
+/// Every call with every answer that can arise for it.
+fn expected() -> Vec<(String, String)> {
+    let numbers = NUMBERS.iter().flat_map(|(call, numbers)| {
+        let pair = |number: &u8| (call.to_string(), number_answer(*number));
+        numbers.iter().map(pair).collect::<Vec<_>>()
+    });
+    let others = OTHER_ANSWERS.iter().flat_map(|(call, answers)| {
+        let pair = |answer: &&str| (call.to_string(), answer.to_string());
+        answers.iter().map(pair).collect::<Vec<_>>()
+    });
+    numbers.chain(others).collect()
+}
+
+/// Counts by call and answer.
+#[derive(Default)]
+pub struct Tally {
+    counts: BTreeMap<(String, String), usize>,
+}
+
+impl Tally {
+    pub fn count(&mut self, request: &[u8], answer: &[u8]) {
+        let answer = answer_class(answer);
+        let call = match answer.as_str() {
+            "bad request" => NO_REQUEST.to_string(),
+            _ => call_class(request),
+        };
+        *self.counts.entry((call, answer)).or_insert(0) += 1;
+    }
+
+    fn times(&self, call: &str, answer: &str) -> usize {
+        let key = (call.to_string(), answer.to_string());
+        self.counts.get(&key).copied().unwrap_or(0)
+    }
+
+    /// One check for each call and answer that can arise; gives those that never did,
+    /// and how many did.
+    pub fn missing(&self) -> (Vec<(String, String)>, usize) {
+        let expected = expected();
+        let all = expected.len();
+        let missing: Vec<(String, String)> = expected
+            .into_iter()
+            .filter(|(call, answer)| self.times(call, answer) == 0)
+            .collect();
+        let arisen = all - missing.len();
+        (missing, arisen)
+    }
+
+    /// A table: a line for each answer, a column for each call.
+    pub fn print(&self) {
+        let mut calls: Vec<&str> = self.counts.keys().map(|key| key.0.as_str()).collect();
+        calls.dedup();
+        let mut answers: Vec<&str> = self.counts.keys().map(|key| key.1.as_str()).collect();
+        answers.sort_by_key(|answer| answer_order(answer));
+        answers.dedup();
+        print!("{:<12}", "answer");
+        calls.iter().for_each(|call| print!("{call:>12}"));
+        println!();
+        for answer in answers {
+            print!("{answer:<12}");
+            for call in &calls {
+                print!("{:>12}", self.times(call, answer));
+            }
+            println!();
+        }
+    }
+}
+
+/// Refusals in the order of their numbers.
+fn answer_order(answer: &str) -> (usize, usize, &str) {
+    match answer.strip_prefix("refused ") {
+        Some(number) => (1, number.parse().unwrap_or(usize::MAX), answer),
+        None => (if answer == "ok" { 0 } else { 2 }, 0, answer),
+    }
+}
+
+/// `ok`, `refused` with its number, `part`, `part empty`, `bad request`, or `other`.
+fn answer_class(answer: &[u8]) -> String {
+    let mut words = answer.split(|byte| *byte == b' ');
+    match (words.next().unwrap_or(b""), words.next(), words.next()) {
+        (b"ok", Some(_), _) => "ok".to_string(),
+        (b"refused", Some(number), Some(_)) => {
+            format!("refused {}", String::from_utf8_lossy(number))
+        }
+        (b"part", Some(b"empty"), None) => "part empty".to_string(),
+        (b"part", Some(_), Some(_)) => "part".to_string(),
+        (b"bad", Some(b"request"), None) => "bad request".to_string(),
+        _ => "other".to_string(),
+    }
+}
+
+/// The first word of a request; for an item, the buffer asked for as well.
+fn call_class(request: &[u8]) -> String {
+    let words: Vec<&[u8]> = request.split(|byte| *byte == b' ').collect();
+    let text = |word: &[u8]| String::from_utf8_lossy(word).into_owned();
+    match words[..] {
+        [b"item", _, _, which, ..] => format!("item {}", text(which)),
+        [call, ..] => text(call),
+        [] => String::new(),
+    }
+}
