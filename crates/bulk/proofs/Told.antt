@@ -7,8 +7,8 @@ use native.Mathlib.Decide.{decLe}
 use lib.ListN.{length, length-append}
 use borrow.Author.Tests.{lt-ltb, le-ltb}
 use Rattle.spec.specs.Expr.{Exprs, size, canonical}
-use Rattle.spec.specs.Reading.{tokens, Row, rows-of, row-width, Reading, refused, readable, read}
-use Rattle.spec.specs.Calls.{over, filled, put-out, Read, Write, Buffer, Part, part, no-part, chosen, item, item-read, Item}
+use Rattle.spec.specs.Reading.{tokens, rows-of, row-width, Reading, refused, readable, read}
+use Rattle.spec.specs.Calls.{over, filled, put-out, Read, Write, Buffer, Part, part, no-part, chosen, item, Item}
 use Rattle.laws.specs.Demands.{Bytes, meaning-of, CanRead}
 use Rattle.laws.specs.Grammar.{item-reading, SpellsItem}
 use Rattle.laws.proofs.Basics.{impossible}

@@ -1,14 +1,16 @@
 // The public calls. Each answers for every input, and asks nothing of its caller.
 use reader::Checked;
-pub use reader::Part;
+use reader::Found;
 ghost use mathlib.Core.Path.{_≡_};
 ghost use mathlib.Core.List.{List, []};
 ghost use Prim.Native.Nat.{ℕ, _/_};
 ghost use lib.ListN.{length};
 ghost use Rattle.spec.specs.Reading.{row-width};
 ghost use Rattle.spec.specs.Calls.{Read, Write, Item, Buffer as Chosen, chosen};
-ghost use Rattle.reader.specs.Passes.{of-buffer};
-ghost use Rattle.bulk.specs.Answers.{stated, asked, part-bytes};
+ghost use Rattle.bulk.specs.Answers.{stated, asked, of-buffer, part-bytes};
+
+// The numbers of a row.
+pub const ROW_WIDTH: usize = reader::ROW_WIDTH;
 
 // What Read and Write answer: the number of rows or the length, or a refusal's number and place.
 pub enum Answer {
@@ -22,11 +24,17 @@ pub enum Buffer {
     Result,
 }
 
+// Where an item is in its buffer.
+pub enum Part {
+    Of { start: usize, end: usize },
+    Empty,
+}
+
 // How many rows a table has room for.
 fn rows_available(table: &[u32]) -> usize
     ensures { λ r. ⌜ r ≡ length (now (table .entry)) / row-width ⌝ }
 {
-    table.len() / reader::ROW_WIDTH
+    table.len() / ROW_WIDTH
 }
 
 // Reads a stream into a table of four numbers a row: kind, start, end, next row. Gives the number of rows. A refusal leaves the table as it was.
@@ -71,7 +79,10 @@ fn locate(buffer: &[u8], k: usize) -> Part
             number: _,
             place: _,
         } => Part::Empty,
-        Checked::Right { rows: _, length: _ } => reader::find(buffer, k),
+        Checked::Right { rows: _, length: _ } => match reader::find(buffer, k) {
+            Found::At { start, end } => Part::Of { start, end },
+            Found::Nothing => Part::Empty,
+        },
     }
 }
 

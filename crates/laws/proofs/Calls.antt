@@ -1,5 +1,5 @@
 -- Laws of the calls: the ways in which they answer, what they leave in the buffers, and what follows from an acceptance.
-use Prim.Native.Nat.{ℕ, _/_, _≤_, _<_, min}
+use Prim.Native.Nat.{ℕ, _*_, _/_, _≤_, _<_, min}
 use mathlib.Core.Path.{_≡_, refl, ap, _∙_}
 use mathlib.Core.List.{List, []}
 use mathlib.Core.Bool.{Bool, true, false, not}
@@ -9,7 +9,7 @@ use lib.Dec.{ltb}
 use borrow.Author.Tests.{ltb-true, ltb-false, le-ltb}
 use native.Mathlib.Omega.{arith}
 use Rattle.spec.specs.Expr.{if_then_else_, same, Exprs, canonical}
-use Rattle.spec.specs.Reading.{tokens, Row, rows-of, numbers, Reading, refused, readable}
+use Rattle.spec.specs.Reading.{tokens, Row, rows-of, row-width, numbers, Reading, refused, readable}
 use Rattle.spec.specs.Runs.{End, done, stopped, cut, steps-in}
 use Rattle.spec.specs.Evaluation.{run, result}
 use Rattle.spec.specs.Calls.{Answer, refusal, acceptance, over, filled, put-out, once-read, reading, Read, Write, is-versioned, version-bytes, row-at, end-answer, run-answer, Evaluate}
@@ -87,6 +87,15 @@ read-kept s t =
     once-read-cases (Kept t []) s t [] (λ rs es. acceptance (length rs) 0 (filled rs t) []) (λ w p e. refusal-kept w p t [] t refl)
     (λ rs es e. record { tables = filled-length s t rs es e; outputs = refl; refused = λ z. refl })
 
+-- no more rows are given than the table has
+pub read-within : (s t : List ℕ) → row-width * Read s t .given ≤ length t
+unfolding Read
+read-within s t =
+    once-read-cases (λ (a : Answer). row-width * a .given ≤ length t) s t [] (λ rs es. acceptance (length rs) 0 (filled rs t) []) (λ w p e. omega arith)
+    (λ rs es e. let r = read-readable s (length t / row-width) rs es e in
+    let size : length rs ≡ length (rows-of (tokens 0 0 s)) = ap length (r .rows-are) in
+    omega (arith, rows-room (length s) (length t / row-width) (tokens 0 0 s) 0 0 (r .passes) (omega arith)))
+
 module _ (s t o : List ℕ) (rs : List Row) (es : Exprs) (reads : reading s t ≡ readable rs es) where
   pub write-out : length (canonical es) ≤ length o → Write s t o ≡ acceptance (length (canonical es)) 0 (filled rs t) (over (canonical es) o)
   unfolding Write
@@ -100,6 +109,15 @@ pub write-cases : (P : Answer → Type 0) (s t o : List ℕ) → ((w p : ℕ) �
     → ((rs : List Row) (es : Exprs) → reading s t ≡ readable rs es → P (put-out (canonical es) 0 (filled rs t) o)) → P (Write s t o)
 unfolding Write
 write-cases P s t o f g = once-read-cases P s t o (λ rs es. put-out (canonical es) 0 (filled rs t) o) f g
+
+-- no more bytes are given than the output has
+pub write-within : (s t o : List ℕ) → Write s t o .given ≤ length o
+write-within s t o =
+    write-cases (λ (a : Answer). a .given ≤ length o) s t o (λ w p e. omega arith) (λ rs es e. go (put-out-is (canonical es) 0 (filled rs t) o))
+  where
+    go : {bs t′ : List ℕ} {a : Answer} → Put bs 0 t′ o a → a .given ≤ length o
+    go (too-short h) = omega arith
+    go (fits h) = h
 
 pub write-kept : (s t o : List ℕ) → Kept t o (Write s t o)
 write-kept s t o =

@@ -17,7 +17,7 @@ use Rattle.laws.proofs.Reading.{read-readable, read-refused-roomy, read
 use Rattle.laws.proofs.Parsing.{read-spells}
 use Rattle.laws.proofs.Items.{spelled-rows, item-spelled, item-past}
 use Rattle.laws.proofs.Values.{run-proper}
-use Rattle.laws.proofs.Calls.{put-out-bytes, read-kept, write-out, write-room, write-kept, evaluation-kept}
+use Rattle.laws.proofs.Calls.{put-out-bytes, read-kept, read-within, write-out, write-room, write-within, write-kept, evaluation-kept}
 use Rattle.laws.proofs.Results.{meant, canonical-reads, same-canonical, written-same, writing, written-means, written-canonical, written-reads, written-stream, left-canonical, left-length, left-stream, left-reads, same-prefix}
 use Rattle.laws.proofs.Places.{read-order, read-inside, read-at-most, write-at-most, evaluation-at-most}
 use Rattle.laws.proofs.Retry.{evaluate-alike}
@@ -41,6 +41,13 @@ read-keeps = read-kept
 
 pub write-keeps : (s t o : List ℕ) → Kept t o (Write s t o)
 write-keeps = write-kept
+
+-- what is given of a table or an output is there
+pub read-fits : (s t : List ℕ) → row-width * Read s t .given ≤ length t
+read-fits = read-within
+
+pub write-fits : (s t o : List ℕ) → Write s t o .given ≤ length o
+write-fits = write-within
 
 pub evaluation-keeps : (s : List ℕ) (l : Lent) → Kept (l .table) (l .output) (evaluation s l)
 evaluation-keeps = evaluation-kept

@@ -1,7 +1,7 @@
 -- The first pass as a loop over places: what holds before each turn, what a turn refuses or keeps, whatever token there is, and what the
 -- stream's end answers.
 use Prim.Native.Nat.{ℕ, _+_, _-_, _≤_, _<_}
-use mathlib.Core.Path.{_≡_, refl, _∙_, sym}
+use mathlib.Core.Path.{_≡_, refl, _∙_}
 use mathlib.Core.List.{List, _∷_}
 use native.Mathlib.Omega.{arith}
 use lib.ListN.{length, length-append}

@@ -1,5 +1,5 @@
 -- Walking over expressions without a table: where a form ends, where an expression ends, and which of the top level is asked for.
-use Prim.Native.Nat.{ℕ, zero, suc, _+_, _-_, _≤_, _<_}
+use Prim.Native.Nat.{ℕ, suc, _+_, _-_, _≤_, _<_}
 use mathlib.Core.Path.{_≡_, refl, sym, ap, _∙_, subst}
 use mathlib.Core.List.{List, [], _∷_, _++_, append-nil}
 use native.Mathlib.Omega.{arith}
@@ -7,7 +7,7 @@ use native.Mathlib.Decide.{decLe}
 use lib.ListN.{length, drop, getD, length-append, length-drop}
 use lib.Seq.{drop-drop, drop-at, getD-drop}
 use Rattle.spec.specs.Expr.{Expr, atom, form, Exprs, none, more, size, rows, rows-all, deepest}
-use Rattle.spec.specs.Reading.{Token, tokens, right, check, Row, ends, rows-of}
+use Rattle.spec.specs.Reading.{tokens, check, ends, rows-of}
 use Rattle.spec.specs.Calls.{Buffer, part, no-part, row-at, item}
 use Rattle.laws.specs.Demands.{Bytes, meaning-of, CanRead}
 use Rattle.laws.specs.Grammar.{Spells, SpellsAll, expr-rows}
@@ -20,7 +20,7 @@ use Rattle.laws.proofs.Items.{rows-expr, expr-rows-count, expr-first, item-past
 use Rattle.atoms.specs.Tokens.{token-at, shown}
 use Rattle.atoms.specs.declared.Token.{Token as Answer}
 use Rattle.atoms.specs.declared.Token.the-variants.{Opening, Closing, Whole, Bad}
-use Rattle.atoms.proofs.Next.{AtomAt, Next, next}
+use Rattle.atoms.proofs.Next.{Next, next}
 use Rattle.reader.specs.Passes.{RightFrom}
 
 -- The end of a form
@@ -150,7 +150,7 @@ finding-start s k bs can =
     }
 
 -- one expression more, which ends at e
-pub record Found (s : List ℕ) (k p n e : ℕ) : Type 0 where
+pub record Passed (s : List ℕ) (k p n e : ℕ) : Type 0 where
   pub forward : p < e
   pub inside : e ≤ length s
   pub this : n ≡ 0 → (b : Buffer) → part b p e ≡ item b (rows-of (tokens 0 0 s)) k (meaning-of s)
@@ -174,12 +174,12 @@ module _ (s : List ℕ) (k p n : ℕ) (f : Finding s k p n) where
           let size : length (sp .0) + length (sp .1) ≡ length s - p = sym (length-append (sp .0) (sp .1)) ∙ ap length (sym (sp .2)) ∙ length-drop p s in
           absurd (omega (arith, spelled-some e (sp .0) (sp .3)))
 
-  pub finding-turn : (e : ℕ) → p < length s → e ≡ row-at (rows-of (tokens-from s p)) 0 .end → Found s k p n e
+  pub finding-turn : (e : ℕ) → p < length s → e ≡ row-at (rows-of (tokens-from s p)) 0 .end → Passed s k p n e
   unfolding rows deepest item
   finding-turn e in-stream at-end = go (f .left) (f .spells) (f .shallow) (f .few) (f .same)
     where
       go : (es : Exprs) → SpellsAll es (drop p s) → deepest es ≤ 64 → rows-all es ≤ length s
-          → ((b : Buffer) → item b (rows-of (tokens 0 0 s)) k (meaning-of s) ≡ item b (rows-of (tokens-from s p)) n es) → Found s k p n e
+          → ((b : Buffer) → item b (rows-of (tokens 0 0 s)) k (meaning-of s) ≡ item b (rows-of (tokens-from s p)) n es) → Passed s k p n e
       go none sp shallow few same = absurd (omega (arith, ap length sp, length-drop p s))
       go (more c es) sp shallow few same =
           let x = sp .0 in

@@ -5,12 +5,11 @@ use mathlib.Core.List.{List}
 use lib.ListN.{length, set, drop}
 use Rattle.spec.specs.Expr.{canonical}
 use Rattle.spec.specs.Reading.{tokens, right, check, Reading, refused, readable, row-width}
-use Rattle.spec.specs.Calls.{Buffer}
-use Rattle.spec.specs.Calls.{Part as Named, part, no-part}
+use Rattle.spec.specs.Calls.{Buffer, Part, part, no-part}
 use Rattle.reader.specs.declared.Checked.{Checked}
 use Rattle.reader.specs.declared.Checked.the-variants.{Right, Wrong}
-use Rattle.reader.specs.declared.Part.{Part}
-use Rattle.reader.specs.declared.Part.the-variants.{Of, Empty}
+use Rattle.reader.specs.declared.Found.{Found}
+use Rattle.reader.specs.declared.Found.the-variants.{At, Nothing}
 
 -- what is counted of a stream that can be read, or its refusal
 abbrev pub checked : Reading → Checked
@@ -28,7 +27,7 @@ row-ended t r end next = set (set t (row-width * r + 2) end) (row-width * r + 3)
 abbrev pub RightFrom : List ℕ → ℕ → ℕ → Type 0
 RightFrom s p d = (n : ℕ) × (check (length s) (length s) (tokens p 0 (drop p s)) d n ≡ right)
 
--- a part, of the buffer that was asked for
-abbrev pub of-buffer : Buffer → Part → Named
-of-buffer b (Of start end) = part b start end
-of-buffer b Empty = no-part
+-- what was found, as a part of the buffer that was asked for
+abbrev pub found-part : Buffer → Found → Part
+found-part b (At start end) = part b start end
+found-part b Nothing = no-part

@@ -8,7 +8,7 @@ ghost use Rattle.spec.specs.Reading.{tokens, ends, rows-of, row-width, read};
 ghost use Rattle.spec.specs.Calls.{filled, row-at, Buffer, item};
 ghost use Rattle.laws.specs.Demands.{meaning-of, CanRead};
 ghost use Rattle.atoms.specs.Tokens.{atom-head};
-ghost use Rattle.reader.specs.Passes.{checked, row-started, row-ended, RightFrom, of-buffer};
+ghost use Rattle.reader.specs.Passes.{checked, row-started, row-ended, RightFrom, found-part};
 
 // The numbers of a row.
 pub const ROW_WIDTH: usize = 4;
@@ -226,25 +226,25 @@ fn expression_end(s: &[u8], at: usize) -> usize
     }
 }
 
-pub enum Part {
-    Of { start: usize, end: usize },
-    Empty,
+pub enum Found {
+    At { start: usize, end: usize },
+    Nothing,
 }
 
 // Top-level expression k of a stream that can be read.
-pub fn find(s: &[u8], k: usize) -> Part
+pub fn find(s: &[u8], k: usize) -> Found
     requires { ⌜ CanRead (now s) ⌝ }
-    ensures { λ r. ⌜ ((b : Buffer) → of-buffer b r ≡ item b (rows-of (tokens 0 0 (now (s .entry)))) k (meaning-of (now (s .entry)))) ⌝ }
+    ensures { λ r. ⌜ ((b : Buffer) → found-part b r ≡ item b (rows-of (tokens 0 0 (now (s .entry)))) k (meaning-of (now (s .entry)))) ⌝ }
 {
     let mut at: usize = 0;
     let mut n = k;
     while at < s.len() {
         let end = expression_end(s, at);
         if n == 0 {
-            return Part::Of { start: at, end };
+            return Found::At { start: at, end };
         }
         n -= 1;
         at = end;
     }
-    Part::Empty
+    Found::Nothing
 }

@@ -5,8 +5,6 @@ use mathlib.Core.Path.{refl}
 use Rattle.spec.specs.Calls.{of-stream, of-result}
 use Rattle.bulk.proofs.item.Statement.{statement}
 use Rattle.bulk.proofs.item.Tie as tie
-use Rattle.bulk.proofs.item.Reads as reads
-use Rattle.bulk.proofs.item.Lts as lts
 
 enum-told : tie.Need-enum-told
 enum-told c = search needs

@@ -7,15 +7,12 @@ use mathlib.Core.Path.{_≡_, refl, sym, ap, _∙_}
 use lib.ListN.{length, take, drop}
 use Rattle.spec.specs.Calls.{Part, Buffer, of-stream, chosen, Item}
 use Rattle.laws.proofs.Steps.{all-bytes}
-use Rattle.reader.specs.Passes.{of-buffer}
-use Rattle.reader.specs.declared.Part.{Part as Place}
-use Rattle.reader.specs.declared.Part.the-variants.{Of, Empty}
-use Rattle.bulk.specs.Answers.{part-bytes}
+use Rattle.bulk.specs.declared.Part.{Part as Place}
+use Rattle.bulk.specs.declared.Part.the-variants.{Of, Empty}
+use Rattle.bulk.specs.Answers.{of-buffer, part-bytes}
 use Rattle.bulk.proofs.Told.{item-inside}
 use Rattle.bulk.proofs.item_of.Statement.{statement}
 use Rattle.bulk.proofs.item_of.Tie as tie
-use Rattle.bulk.proofs.item_of.Reads as reads
-use Rattle.bulk.proofs.item_of.Lts as lts
 
 locate-requires : tie.Need-locate-requires
 locate-requires c κs = search needs
@@ -61,13 +58,17 @@ bytes-told r s b stream result k e h = go r ∙ ap (λ (it : Part). part-bytes i
     go (Of start end) = ap (λ (l : List ℕ). take (end - start) (drop start l)) (sym e)
     go Empty = refl
 
+at-locate : (c : tie.After-locate) (r : Place) → c .locate .result ≡ r → (b : Buffer) (stream result : List ℕ)
+    → chosen b stream result ≡ c .before .before .args .buffer .now
+    → place-bytes r (c .before .before .args .buffer .now) ≡ part-bytes (Item stream result b (c .before .before .args .k)) stream result
+at-locate c r e b stream result asked =
+    bytes-told r _ b stream result (c .before .before .args .k) asked (ap (of-buffer b) (sym e) ∙ c .locate .ensures b stream result asked)
+
 returns : tie.Need-returns
-returns c =
-    λ b stream result e. bytes-told (Of _ _) _ b stream result (c .before .before .before .before .before .before .args .k) e (ap (of-buffer b) (sym (c .before .before .start .given .1)) ∙ c .before .before .before .before .locate .ensures b stream result e)
+returns c = at-locate (c .before .before .before .before) _ (c .before .before .start .given .1)
 
 returns-2 : tie.Need-returns-2
-returns-2 c =
-    λ b stream result e. bytes-told Empty _ b stream result (c .before .before .before .before .before .args .k) e (ap (of-buffer b) (sym (c .before .enum-told .given .1)) ∙ c .before .before .before .locate .ensures b stream result e)
+returns-2 c = at-locate (c .before .before .before) Empty (c .before .enum-told .given .1)
 
 pub item-of-spec : {M : Type 1} → statement M
 item-of-spec =

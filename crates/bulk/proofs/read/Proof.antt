@@ -3,7 +3,6 @@
 use borrow.Author.Needs.{needs}
 use Prim.Native.Nat.{ℕ, _/_}
 use mathlib.Core.Path.{_≡_, sym, ap, _∙_}
-use native.Mathlib.Omega.{arith}
 use lib.ListN.{length}
 use Rattle.spec.specs.Reading.{row-width, read}
 use Rattle.reader.specs.Passes.{checked}
@@ -11,8 +10,6 @@ use Rattle.reader.specs.declared.Checked.{Checked}
 use Rattle.bulk.proofs.Told.{Told, told, read-refusal, table-room, read-acceptance}
 use Rattle.bulk.proofs.read.Statement.{statement}
 use Rattle.bulk.proofs.read.Tie as tie
-use Rattle.bulk.proofs.read.Reads as reads
-use Rattle.bulk.proofs.read.Lts as lts
 
 rows-available-requires : tie.Need-rows-available-requires
 rows-available-requires c κs = search needs

@@ -11,8 +11,6 @@ use Rattle.reader.specs.declared.Checked.{Checked}
 use Rattle.bulk.proofs.Told.{Told, told, write-refusal, table-room, write-short, write-acceptance}
 use Rattle.bulk.proofs.write.Statement.{statement}
 use Rattle.bulk.proofs.write.Tie as tie
-use Rattle.bulk.proofs.write.Reads as reads
-use Rattle.bulk.proofs.write.Lts as lts
 
 rows-available-requires : tie.Need-rows-available-requires
 rows-available-requires c κs = search needs

@@ -6,13 +6,11 @@ use mathlib.Core.Path.{ap}
 use mathlib.Core.List.{List}
 use native.Mathlib.Omega.{arith}
 use lib.ListN.{length}
-use borrow.Author.Tests.{eq-eqb, ne-eqb}
+use borrow.Author.Tests.{ne-eqb}
 use Rattle.spec.specs.Expr.{array-head}
 use Rattle.laws.proofs.Canonical.{Head, one-byte, three-bytes, four-bytes, array-head-is}
 use Rattle.reader.proofs.canonical_size.Statement.{statement}
 use Rattle.reader.proofs.canonical_size.Tie as tie
-use Rattle.reader.proofs.canonical_size.Reads as reads
-use Rattle.reader.proofs.canonical_size.Lts as lts
 
 sub-n : tie.Need-sub-n
 sub-n c = search needs

@@ -11,8 +11,6 @@ use Rattle.atoms.specs.declared.Token.the-variants.{Opening, Closing, Whole}
 use Rattle.reader.proofs.Checking.{Checking, checking-start, too-long, CheckTurn, check-turn, left-open, all-right}
 use Rattle.reader.proofs.check.Statement.{statement}
 use Rattle.reader.proofs.check.Tie as tie
-use Rattle.reader.proofs.check.Reads as reads
-use Rattle.reader.proofs.check.Lts as lts
 
 abbrev Inv-loop : tie.InvT-loop
 Inv-loop s room at₀ depth₀ rows₀ length₀ at depth rows size = Checking s room at depth rows size

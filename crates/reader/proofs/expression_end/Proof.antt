@@ -3,16 +3,12 @@
 use borrow.Author.Needs.{needs}
 use mathlib.Core.Path.{_≡_, sym, _∙_}
 use native.Mathlib.Omega.{arith}
-use lib.ListN.{length}
 use Rattle.laws.proofs.Steps.{all-bytes}
-use Rattle.laws.specs.Demands.{Bytes}
 use Rattle.atoms.specs.declared.Token.{Token as Answer}
 use Rattle.atoms.specs.declared.Token.the-variants.{Opening, Closing}
 use Rattle.reader.proofs.Finding.{TopTurn, top-turn}
 use Rattle.reader.proofs.expression_end.Statement.{statement}
 use Rattle.reader.proofs.expression_end.Tie as tie
-use Rattle.reader.proofs.expression_end.Reads as reads
-use Rattle.reader.proofs.expression_end.Lts as lts
 
 token-at-requires : tie.Need-token-at-requires
 token-at-requires c κs = search needs

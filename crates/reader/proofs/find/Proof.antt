@@ -4,11 +4,9 @@ use Prim.Native.Nat.{_-_}
 use native.Mathlib.Omega.{arith}
 use lib.ListN.{length}
 use Rattle.laws.proofs.Steps.{all-bytes}
-use Rattle.reader.proofs.Finding.{Finding, finding-start, finding-right, finding-end, Found, finding-turn}
+use Rattle.reader.proofs.Finding.{Finding, finding-start, finding-right, finding-end, Passed, finding-turn}
 use Rattle.reader.proofs.find.Statement.{statement}
 use Rattle.reader.proofs.find.Tie as tie
-use Rattle.reader.proofs.find.Reads as reads
-use Rattle.reader.proofs.find.Lts as lts
 
 abbrev Inv-loop : tie.InvT-loop
 Inv-loop s k at₀ n₀ at n = Finding s k at n
@@ -26,7 +24,7 @@ expression-end-requires c κs = (omega arith, omega arith, finding-right _ _ _ _
 
 -- where the expression ends
 at-end : (c : tie.After-expression-end Inv-loop μ-loop)
-    → Found (c .before .before .before .before .args .s .now) (c .before .before .before .before .args .k) (c .before .before .loop .at) (c .before .before .loop .n) (c .expression-end .result)
+    → Passed (c .before .before .before .before .args .s .now) (c .before .before .before .before .args .k) (c .before .before .loop .at) (c .before .before .loop .n) (c .expression-end .result)
 at-end c = finding-turn _ _ _ _ (c .before .before .loop .inv) _ (c .before .loop-test .taken) (c .expression-end .ensures)
 
 returns : tie.Need-returns Inv-loop μ-loop

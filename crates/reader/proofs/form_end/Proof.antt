@@ -11,8 +11,6 @@ use Rattle.atoms.specs.declared.Token.the-variants.{Opening, Closing}
 use Rattle.reader.proofs.Finding.{Ending, ending-inside, EndingTurn, ending-turn}
 use Rattle.reader.proofs.form_end.Statement.{statement}
 use Rattle.reader.proofs.form_end.Tie as tie
-use Rattle.reader.proofs.form_end.Reads as reads
-use Rattle.reader.proofs.form_end.Lts as lts
 
 abbrev Inv-loop : tie.InvT-loop
 Inv-loop s start at₀ depth₀ at depth = Ending s start at depth

@@ -4,8 +4,6 @@ use borrow.Author.Tests.{lt-ltb, le-ltb}
 use Rattle.spec.specs.Expr.{array-head}
 use Rattle.reader.proofs.head_size.Statement.{statement}
 use Rattle.reader.proofs.head_size.Tie as tie
-use Rattle.reader.proofs.head_size.Reads as reads
-use Rattle.reader.proofs.head_size.Lts as lts
 
 returns : tie.Need-returns
 unfolding array-head

@@ -1,0 +1,99 @@
+// What an answer prints.
+ghost use Prim.Native.Nat.{_*_, _≤_, _<_};
+ghost use lib.ListN.{length};
+ghost use Rattle.spec.specs.Reading.{row-width};
+use bulk::Part;
+use text::Buffer;
+
+fn wide(n: u32) -> u64 {
+    n as u64
+}
+
+fn numbers(buffer: &mut Buffer, used: usize, table: &[u32]) -> usize
+    requires { ⌜ used ≤ 4096 ⌝ }
+    ensures { λ r. ⌜ r ≤ 4096 ⌝ }
+{
+    let mut at = used;
+    let mut i: usize = 0;
+    while i < table.len() {
+        at = text::byte(buffer, at, b' ');
+        at = text::decimal(buffer, at, wide(table[i]));
+        i += 1;
+    }
+    at
+}
+
+// A hexadecimal digit.
+fn digit(n: u8) -> u8
+    requires { ⌜ n < 16 ⌝ }
+{
+    if n < 10 { b'0' + n } else { b'a' + (n - 10) }
+}
+
+fn hex_byte(buffer: &mut Buffer, used: usize, b: u8) -> usize
+    ensures { λ r. ⌜ r ≤ 4096 ⌝ }
+{
+    let past_high = text::byte(buffer, used, digit(b / 16));
+    text::byte(buffer, past_high, digit(b % 16))
+}
+
+fn hex(buffer: &mut Buffer, used: usize, bytes: &[u8]) -> usize
+    requires { ⌜ used ≤ 4096 ⌝ }
+    ensures { λ r. ⌜ r ≤ 4096 ⌝ }
+{
+    if bytes.len() == 0 {
+        return text::byte(buffer, used, b'-');
+    }
+    let mut at = used;
+    let mut i: usize = 0;
+    while i < bytes.len() {
+        at = hex_byte(buffer, at, bytes[i]);
+        i += 1;
+    }
+    at
+}
+
+// `ok` and a number.
+fn accepted(buffer: &mut Buffer, used: usize, given: usize) -> usize
+    requires { ⌜ used ≤ 4096 ⌝ }
+    ensures { λ r. ⌜ r ≤ 4096 ⌝ }
+{
+    let past_word = text::bytes(buffer, used, b"ok ");
+    text::decimal(buffer, past_word, given as u64)
+}
+
+pub fn rows(buffer: &mut Buffer, used: usize, table: &[u32], given: usize) -> usize
+    requires { ⌜ (used ≤ 4096) × (row-width * given ≤ length (now table)) ⌝ }
+    ensures { λ r. ⌜ r ≤ 4096 ⌝ }
+{
+    let past_count = accepted(buffer, used, given);
+    let end = bulk::ROW_WIDTH * given;
+    let past_rows = numbers(buffer, past_count, &table[0..end]);
+    text::byte(buffer, past_rows, b'\n')
+}
+
+pub fn written(buffer: &mut Buffer, used: usize, output: &[u8], given: usize) -> usize
+    requires { ⌜ (used ≤ 4096) × (given ≤ length (now output)) ⌝ }
+    ensures { λ r. ⌜ r ≤ 4096 ⌝ }
+{
+    let past_length = accepted(buffer, used, given);
+    let past_space = text::byte(buffer, past_length, b' ');
+    let past_bytes = hex(buffer, past_space, &output[0..given]);
+    text::byte(buffer, past_bytes, b'\n')
+}
+
+pub fn part(buffer: &mut Buffer, used: usize, given: Part) -> usize
+    requires { ⌜ used ≤ 4096 ⌝ }
+    ensures { λ r. ⌜ r ≤ 4096 ⌝ }
+{
+    let past_word = text::bytes(buffer, used, b"part ");
+    match given {
+        Part::Empty => text::bytes(buffer, past_word, b"empty\n"),
+        Part::Of { start, end } => {
+            let past_start = text::decimal(buffer, past_word, start as u64);
+            let past_space = text::byte(buffer, past_start, b' ');
+            let past_end = text::decimal(buffer, past_space, end as u64);
+            text::byte(buffer, past_end, b'\n')
+        }
+    }
+}

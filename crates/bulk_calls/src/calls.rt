@@ -1,0 +1,118 @@
+// The calls that requests ask for.
+ghost use Prim.Native.Nat.{_≤_};
+use crate::answers;
+use crate::requests::ItemRequest;
+use crate::requests::ReadRequest;
+use crate::requests::Request;
+use crate::requests::WriteRequest;
+use crate::words::Kept;
+use bulk::Answer;
+use bulk::Buffer as Which;
+use text::Buffer;
+
+// Four numbers for every byte that a stream may have: no stream has more rows.
+pub const TABLE_SIZE: usize = 262144;
+
+pub type Table = [u32; TABLE_SIZE];
+
+// As many bytes as a stream may have: no canonical stream is longer than its stream.
+pub const OUTPUT_SIZE: usize = 65536;
+
+pub type Output = [u8; OUTPUT_SIZE];
+
+// So many elements of a buffer; all if it has fewer.
+fn within(count: u64, size: usize) -> usize
+    ensures { λ r. ⌜ r ≤ size ⌝ }
+{
+    if count < size as u64 {
+        count as usize
+    } else {
+        size
+    }
+}
+
+fn read(
+    buffer: &mut Buffer,
+    used: usize,
+    asked: ReadRequest,
+    stream: &[u8],
+    table: &mut [u32],
+) -> usize
+    requires { ⌜ used ≤ 4096 ⌝ }
+    ensures { λ r. ⌜ r ≤ 4096 ⌝ }
+{
+    let length = within(asked.stream, stream.len());
+    let size = within(asked.table, table.len());
+    match bulk::read(&stream[0..length], &mut table[0..size]) {
+        Answer::Refused { number, place } => text::refused(buffer, used, number, place),
+        Answer::Accepted { given } => answers::rows(buffer, used, table, given),
+    }
+}
+
+fn write(
+    buffer: &mut Buffer,
+    used: usize,
+    asked: WriteRequest,
+    stream: &[u8],
+    table: &mut [u32],
+    output: &mut [u8],
+) -> usize
+    requires { ⌜ used ≤ 4096 ⌝ }
+    ensures { λ r. ⌜ r ≤ 4096 ⌝ }
+{
+    let length = within(asked.stream, stream.len());
+    let size = within(asked.table, table.len());
+    let room = within(asked.output, output.len());
+    match bulk::write(
+        &stream[0..length],
+        &mut table[0..size],
+        &mut output[0..room],
+    ) {
+        Answer::Refused { number, place } => text::refused(buffer, used, number, place),
+        Answer::Accepted { given } => answers::written(buffer, used, output, given),
+    }
+}
+
+fn which(bit: u64) -> Which {
+    if bit == 0 {
+        Which::Stream
+    } else {
+        Which::Result
+    }
+}
+
+fn item(buffer: &mut Buffer, used: usize, asked: ItemRequest, stream: &[u8], result: &[u8]) -> usize
+    requires { ⌜ used ≤ 4096 ⌝ }
+    ensures { λ r. ⌜ r ≤ 4096 ⌝ }
+{
+    let length = within(asked.stream, stream.len());
+    let result_length = within(asked.result, result.len());
+    let k = asked.k as usize;
+    let given = bulk::item_part(
+        &stream[0..length],
+        &result[0..result_length],
+        which(asked.which),
+        k,
+    );
+    answers::part(buffer, used, given)
+}
+
+pub fn answer(
+    buffer: &mut Buffer,
+    used: usize,
+    request: Request,
+    stream: &Kept,
+    result: &Kept,
+    table: &mut Table,
+    output: &mut Output,
+) -> usize
+    requires { ⌜ used ≤ 4096 ⌝ }
+    ensures { λ r. ⌜ r ≤ 4096 ⌝ }
+{
+    match request {
+        Request::Read(asked) => read(buffer, used, asked, stream, table),
+        Request::Write(asked) => write(buffer, used, asked, stream, table, output),
+        Request::Item(asked) => item(buffer, used, asked, stream, result),
+        Request::Bad => text::bytes(buffer, used, b"bad request\n"),
+    }
+}

@@ -1,0 +1,32 @@
+// Answers requests on standard input, one a line, each with a line.
+mod answers;
+mod calls;
+mod input;
+mod requests;
+mod words;
+
+fn main() {
+    let mut source = [0u8; input::SOURCE_SIZE];
+    let mut stream = [0u8; words::KEPT_SIZE];
+    let mut result = [0u8; words::KEPT_SIZE];
+    let mut table = [0u32; calls::TABLE_SIZE];
+    let mut output = [0u8; calls::OUTPUT_SIZE];
+    let mut buffer = [0u8; text::BUFFER_SIZE];
+    let mut used: usize = 0;
+    let mut at = input::advance(&mut source, input::start());
+    while 0 < at.left {
+        let line = requests::next(&mut source, at, &mut stream, &mut result);
+        let request = line.request;
+        used = calls::answer(
+            &mut buffer,
+            used,
+            request,
+            &stream,
+            &result,
+            &mut table,
+            &mut output,
+        );
+        at = input::advance(&mut source, line.input);
+    }
+    text::flush(&buffer, used);
+}

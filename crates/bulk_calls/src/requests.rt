@@ -1,0 +1,119 @@
+// The requests, one a line: a name and its words, parted by single spaces.
+ghost use Prim.Native.Nat.{_≤_};
+use crate::input::Input;
+use crate::input::Source;
+use crate::input::judged;
+use crate::words;
+use crate::words::Kept;
+
+// `stream` and `result` are how many bytes of these were kept; other numbers are as written, or the largest of 64 bits.
+pub struct ReadRequest {
+    pub stream: u64,
+    pub table: u64,
+}
+
+pub struct WriteRequest {
+    pub stream: u64,
+    pub table: u64,
+    pub output: u64,
+}
+
+pub struct ItemRequest {
+    pub stream: u64,
+    pub result: u64,
+    pub which: u64,
+    pub k: u64,
+}
+
+pub enum Request {
+    Read(ReadRequest),
+    Write(WriteRequest),
+    Item(ItemRequest),
+    Bad,
+}
+
+// A line's request, and the input at the line's end.
+pub struct Line {
+    pub request: Request,
+    pub input: Input,
+}
+
+// The letters of a name, as the digits of a number to the base 256.
+const READ: u64 = 0x7265_6164;
+
+const WRITE: u64 = 0x77_7269_7465;
+
+const ITEM: u64 = 0x6974_656d;
+
+// The request whose words were all taken, if the line ends behind them.
+fn finish(source: &mut Source, from: Input, request: Request) -> Line
+    ensures { λ r. ⌜ r .input .left ≤ from .left ⌝ }
+{
+    let input = words::line_end(source, from);
+    if input.good {
+        return Line { request, input };
+    }
+    Line {
+        request: Request::Bad,
+        input,
+    }
+}
+
+fn read(source: &mut Source, from: Input, stream: &mut Kept) -> Line
+    ensures { λ r. ⌜ r .input .left ≤ from .left ⌝ }
+{
+    let bytes = words::hex(source, from, stream);
+    let table = words::number(source, bytes.input);
+    let asked = ReadRequest {
+        stream: bytes.value,
+        table: table.value,
+    };
+    finish(source, table.input, Request::Read(asked))
+}
+
+fn write(source: &mut Source, from: Input, stream: &mut Kept) -> Line
+    ensures { λ r. ⌜ r .input .left ≤ from .left ⌝ }
+{
+    let bytes = words::hex(source, from, stream);
+    let table = words::number(source, bytes.input);
+    let output = words::number(source, table.input);
+    let asked = WriteRequest {
+        stream: bytes.value,
+        table: table.value,
+        output: output.value,
+    };
+    finish(source, output.input, Request::Write(asked))
+}
+
+fn item(source: &mut Source, from: Input, stream: &mut Kept, result: &mut Kept) -> Line
+    ensures { λ r. ⌜ r .input .left ≤ from .left ⌝ }
+{
+    let bytes = words::hex(source, from, stream);
+    let result_bytes = words::hex(source, bytes.input, result);
+    let which = words::bit(source, result_bytes.input);
+    let k = words::number(source, which.input);
+    let asked = ItemRequest {
+        stream: bytes.value,
+        result: result_bytes.value,
+        which: which.value,
+        k: k.value,
+    };
+    finish(source, k.input, Request::Item(asked))
+}
+
+// The line that begins with the byte at hand.
+pub fn next(source: &mut Source, from: Input, stream: &mut Kept, result: &mut Kept) -> Line
+    ensures { λ r. ⌜ r .input .left ≤ from .left ⌝ }
+{
+    let name = words::name(source, judged(from, true));
+    if name.value == READ {
+        return read(source, name.input, stream);
+    }
+    if name.value == WRITE {
+        return write(source, name.input, stream);
+    }
+    if name.value == ITEM {
+        return item(source, name.input, stream, result);
+    }
+    finish(source, judged(name.input, false), Request::Bad)
+}

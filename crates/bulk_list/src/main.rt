@@ -1,0 +1,64 @@
+// Lists the rows of the stream on standard input, or prints its refusal.
+ghost use Prim.Native.Nat.{_*_, _≤_};
+ghost use lib.ListN.{length};
+ghost use Rattle.spec.specs.Reading.{row-width};
+use bulk::Answer;
+use libc::STDIN_FILENO;
+use text::Buffer;
+
+fn wide(n: u32) -> u64 {
+    n as u64
+}
+
+// Prints the numbers of rows, a line for each row.
+fn print_rows(buffer: &mut Buffer, used: usize, numbers: &[u32]) -> usize
+    requires { ⌜ used ≤ 4096 ⌝ }
+    ensures { λ r. ⌜ r ≤ 4096 ⌝ }
+{
+    let mut at = used;
+    let mut i: usize = 0;
+    while i < numbers.len() {
+        at = text::decimal(buffer, at, wide(numbers[i]));
+        i += 1;
+        at = text::byte(
+            buffer,
+            at,
+            if i % bulk::ROW_WIDTH == 0 {
+                b'\n'
+            } else {
+                b' '
+            },
+        );
+    }
+    at
+}
+
+fn print_table(buffer: &mut Buffer, table: &[u32], rows: usize) -> usize
+    requires { ⌜ row-width * rows ≤ length (now table) ⌝ }
+    ensures { λ r. ⌜ r ≤ 4096 ⌝ }
+{
+    let past_word = text::bytes(buffer, 0, b"rows ");
+    let past_number = text::decimal(buffer, past_word, rows as u64);
+    let past_line = text::byte(buffer, past_number, b'\n');
+    let end = bulk::ROW_WIDTH * rows;
+    print_rows(buffer, past_line, &table[0..end])
+}
+
+fn list(buffer: &mut Buffer, stream: &[u8], table: &mut [u32]) -> usize
+    ensures { λ r. ⌜ r ≤ 4096 ⌝ }
+{
+    match bulk::read(stream, table) {
+        Answer::Refused { number, place } => text::refused(buffer, 0, number, place),
+        Answer::Accepted { given } => print_table(buffer, table, given),
+    }
+}
+
+fn main() {
+    // A byte more than a stream may have, so that one that is too long is seen to be.
+    let mut stream = [0u8; 65537];
+    let mut table = [0u32; 16384];
+    let mut buffer = [0u8; text::BUFFER_SIZE];
+    let length = io::read_full(STDIN_FILENO, &mut stream);
+    let used = list(&mut buffer, &stream[..length], &mut table);
+    text::flush(&buffer, used);
+}

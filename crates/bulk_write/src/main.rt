@@ -1,0 +1,29 @@
+// Writes the stream on standard input canonically to standard output, or prints its refusal.
+use bulk::Answer;
+use libc::STDIN_FILENO;
+use libc::STDOUT_FILENO;
+
+fn print_refusal(number: u32, place: usize) {
+    let mut buffer = [0u8; text::BUFFER_SIZE];
+    let used = text::refused(&mut buffer, 0, number, place);
+    text::flush(&buffer, used);
+}
+
+fn rewrite(stream: &[u8], table: &mut [u32], output: &mut [u8]) {
+    match bulk::write(stream, table, output) {
+        Answer::Refused { number, place } => print_refusal(number, place),
+        Answer::Accepted { given } => {
+            io::write_all(STDOUT_FILENO, &output[0..given]);
+        }
+    }
+}
+
+fn main() {
+    // A byte more than a stream may have, so that one that is too long is seen to be.
+    let mut stream = [0u8; 65537];
+    // A row for every byte: no stream has more rows, and no canonical stream is longer than the stream.
+    let mut table = [0u32; 262144];
+    let mut output = [0u8; 65536];
+    let length = io::read_full(STDIN_FILENO, &mut stream);
+    rewrite(&stream[..length], &mut table, &mut output);
+}

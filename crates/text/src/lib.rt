@@ -1,0 +1,63 @@
+// Text for standard output, gathered in a buffer so that a call of the system writes much of it. `used` is how many of the buffer's
+// bytes are in use, and each function gives how many are so afterwards.
+ghost use Prim.Native.Nat.{_≤_};
+use libc::STDOUT_FILENO;
+
+pub const BUFFER_SIZE: usize = 4096;
+
+pub type Buffer = [u8; BUFFER_SIZE];
+
+// Adds a byte. If the buffer is full, it is written out first.
+pub fn byte(buffer: &mut Buffer, used: usize, b: u8) -> usize
+    ensures { λ r. ⌜ r ≤ 4096 ⌝ }
+{
+    if used < BUFFER_SIZE {
+        buffer[used] = b;
+        return used + 1;
+    }
+    io::write_all(STDOUT_FILENO, buffer);
+    buffer[0] = b;
+    1
+}
+
+// Writes out what the buffer holds.
+pub fn flush(buffer: &Buffer, used: usize)
+    requires { ⌜ used ≤ 4096 ⌝ }
+{
+    let whole: &[u8] = buffer;
+    io::write_all(STDOUT_FILENO, &whole[0..used]);
+}
+
+pub fn bytes(buffer: &mut Buffer, used: usize, s: &[u8]) -> usize
+    requires { ⌜ used ≤ 4096 ⌝ }
+    ensures { λ r. ⌜ r ≤ 4096 ⌝ }
+{
+    let mut at = used;
+    let mut i: usize = 0;
+    while i < s.len() {
+        at = byte(buffer, at, s[i]);
+        i += 1;
+    }
+    at
+}
+
+pub fn decimal(buffer: &mut Buffer, used: usize, n: u64) -> usize
+    requires { ⌜ used ≤ 4096 ⌝ }
+    ensures { λ r. ⌜ r ≤ 4096 ⌝ }
+{
+    let mut digits = [0u8; 20];
+    let k = io::decimal(n, &mut digits);
+    bytes(buffer, used, &digits[..k])
+}
+
+// The line of a refusal.
+pub fn refused(buffer: &mut Buffer, used: usize, number: u32, place: usize) -> usize
+    requires { ⌜ used ≤ 4096 ⌝ }
+    ensures { λ r. ⌜ r ≤ 4096 ⌝ }
+{
+    let past_word = bytes(buffer, used, b"refused ");
+    let past_number = decimal(buffer, past_word, number as u64);
+    let past_space = byte(buffer, past_number, b' ');
+    let past_place = decimal(buffer, past_space, place as u64);
+    byte(buffer, past_place, b'\n')
+}
