@@ -14,7 +14,7 @@ const LARGE: u64 = 65_536;
 /// Read, write and item requests for every known stream.
 pub fn requests() -> Vec<Vec<u8>> {
     let mut lines = Vec::new();
-    for stream in streams() {
+    for stream in known_streams() {
         add_requests(&stream, &mut lines);
     }
     lines
@@ -37,7 +37,7 @@ fn add_requests(stream: &[u8], lines: &mut Vec<Vec<u8>>) {
     }
 }
 
-fn streams() -> Vec<Vec<u8>> {
+pub fn known_streams() -> Vec<Vec<u8>> {
     let mut streams: Vec<Vec<u8>> = ["", "02", "01", "04", "03 00"].map(bytes).to_vec();
     streams.extend(["7F FF 8C 1A", "7F 00 1A", "03 81 AA", "03 03 81 02 AA BB"].map(bytes));
     streams.extend(evaluated_streams());

@@ -1,10 +1,11 @@
-//! The two programs as child processes: requests fed by a thread, answers read as they come.
+//! The programs as child processes: input fed by a thread, output read as it comes.
 
 use std::io::{self, BufRead, BufReader, BufWriter, Write};
-use std::process::{Child, ChildStdin, ChildStdout, Command, Stdio};
+use std::process::{Child, ChildStdin, ChildStdout, Command, Output, Stdio};
 use std::sync::Arc;
 use std::thread;
 
+/// A program that answers requests.
 pub struct Program {
     process: Child,
     answers: BufReader<ChildStdout>,
@@ -13,11 +14,7 @@ pub struct Program {
 
 impl Program {
     pub fn start(path: &str, requests: Arc<Vec<Vec<u8>>>) -> io::Result<Program> {
-        let mut process = Command::new(path)
-            .stdin(Stdio::piped())
-            .stdout(Stdio::piped())
-            .spawn()?;
-        let input = process.stdin.take().expect("standard input is piped");
+        let (mut process, input) = spawn(path)?;
         let output = process.stdout.take().expect("standard output is piped");
         // A program that stops reading shows by its missing answers.
         thread::spawn(move || feed(input, &requests));
@@ -45,6 +42,25 @@ impl Program {
     pub fn succeeded(&mut self) -> bool {
         self.process.wait().is_ok_and(|status| status.success())
     }
+}
+
+/// Runs a program on all of its input to its end.
+pub fn run(path: &str, input: &[u8]) -> io::Result<Output> {
+    let (process, mut pipe) = spawn(path)?;
+    thread::scope(|scope| {
+        // A program that has seen enough stops reading, and that is no error.
+        scope.spawn(move || pipe.write_all(input));
+        process.wait_with_output()
+    })
+}
+
+fn spawn(path: &str) -> io::Result<(Child, ChildStdin)> {
+    let mut process = Command::new(path)
+        .stdin(Stdio::piped())
+        .stdout(Stdio::piped())
+        .spawn()?;
+    let input = process.stdin.take().expect("standard input is piped");
+    Ok((process, input))
 }
 
 /// Writes the requests, a newline between any two and none after the last.

@@ -40,13 +40,26 @@ pub fn item_line(stream: &[u8], result: &[u8], of_result: bool, k: u64) -> Vec<u
     format!("item {} {} {which} {k}", hex(stream), hex(result)).into_bytes()
 }
 
-fn hex(bytes: &[u8]) -> String {
+pub fn hex(bytes: &[u8]) -> String {
     if bytes.is_empty() {
         return "-".to_string();
     }
     let digit = |value: u8| char::from(b"0123456789abcdef"[usize::from(value)]);
     let digits = |byte: &u8| [digit(byte >> 4), digit(byte & 0x0F)];
     bytes.iter().flat_map(digits).collect()
+}
+
+/// None if the word is not bytes in hex, nor `-`.
+pub fn unhex(word: &[u8]) -> Option<Vec<u8>> {
+    if word == b"-" {
+        return Some(Vec::new());
+    }
+    let digit = |byte: u8| char::from(byte).to_digit(16);
+    let byte = |pair: &[u8]| match *pair {
+        [high, low] => Some((digit(high)? << 4 | digit(low)?) as u8),
+        _ => None,
+    };
+    word.chunks(2).map(byte).collect()
 }
 
 /// Requests for every huge stream, with room for 65,536 rows and bytes, and for one less.

@@ -50,6 +50,16 @@ pub fn huge_streams() -> impl Iterator<Item = Vec<u8>> {
     HUGE_SIZES.into_iter().flat_map(contents)
 }
 
+/// Streams at and past three limits: the rows of a listing, bytes 03 in a row, markers.
+pub fn limit_streams() -> Vec<Vec<u8>> {
+    let nils = [4_095, 4_096, 4_097].map(|rows| vec![0x00; rows]);
+    let forms = [4_096, 4_097].map(|rows| [0x01, 0x02].repeat(rows));
+    let marks = [8, 9].map(|count| [vec![0x03; count], vec![0x81], vec![0x01; count]].concat());
+    // 256 bytes FF and 80 add up to 65,535.
+    let markers = [0x80, 0x81].map(|last| [vec![0x7F], vec![0xFF; 256], vec![last, 0x00]].concat());
+    [&nils[..], &forms, &marks, &markers].concat()
+}
+
 /// That many bytes of one kind of content.
 fn huge_bytes(size: usize, content: usize) -> Vec<u8> {
     let unit: &[u8] = match content {

@@ -1,14 +1,18 @@
 //! How often each answer came, and whether every answer that can arise did.
 
+use crate::single::{LIST, WRITE};
 use std::collections::BTreeMap;
 
 /// A line that is no request, whatever it begins with.
 const NO_REQUEST: &str = "no request";
 
-/// The calls and the numbers that can arise for each; 0 is acceptance.
+/// The calls and programs, and the numbers that can arise for each; 0 is acceptance.
 const NUMBERS: &[(&str, &[u8])] = &[
     ("read", &[0, 1, 2, 3, 4, 5, 6, 7, 8]),
     ("write", &[0, 1, 2, 3, 4, 5, 6, 7, 8, 18]),
+    (LIST, &[0, 1, 2, 3, 4, 5, 6, 7, 8]),
+    // It has a row and a byte of output for every byte of a stream.
+    (WRITE, &[0, 1, 2, 3, 4, 5, 6, 7]),
 ];
 
 /// The other answers that can arise. Item is counted by the buffer asked for.
@@ -25,8 +29,9 @@ fn number_answer(number: u8) -> String {
     }
 }
 
-/// Every call with every answer that can arise for it.
-fn expected() -> Vec<(String, String)> {
+/// Every call with every answer that can arise for it; the two programs that take one
+/// stream only if they are compared.
+fn expected(single: bool) -> Vec<(String, String)> {
     let numbers = NUMBERS.iter().flat_map(|(call, numbers)| {
         let pair = |number: &u8| (call.to_string(), number_answer(*number));
         numbers.iter().map(pair).collect::<Vec<_>>()
@@ -35,7 +40,9 @@ fn expected() -> Vec<(String, String)> {
         let pair = |answer: &&str| (call.to_string(), answer.to_string());
         answers.iter().map(pair).collect::<Vec<_>>()
     });
-    numbers.chain(others).collect()
+    let compared = |call: &str| single || ![LIST, WRITE].contains(&call);
+    let all = numbers.chain(others);
+    all.filter(|(call, _)| compared(call)).collect()
 }
 
 /// Counts by call and answer.
@@ -61,8 +68,8 @@ impl Tally {
 
     /// One check for each call and answer that can arise; gives those that never did,
     /// and how many did.
-    pub fn missing(&self) -> (Vec<(String, String)>, usize) {
-        let expected = expected();
+    pub fn missing(&self, single: bool) -> (Vec<(String, String)>, usize) {
+        let expected = expected(single);
         let all = expected.len();
         let missing: Vec<(String, String)> = expected
             .into_iter()
