@@ -19,12 +19,9 @@ pub record AtomAt (s : List ℕ) (p kind b e : ℕ) : Type 0 where
   pub atom : Atom
   pub is : tokens-from s p ≡ whole atom p e ∷ tokens-from s e
   pub kind-is : kind ≡ atom-kind atom
-  pub begins : p ≤ b
   pub ends : b ≤ e
   pub forward : p < e
   pub inside : e ≤ length s
-  -- an array has a head
-  pub headed : kind ≡ 2 → p < b
   pub shorter : p + length (atom-bytes atom) ≤ e
   pub written : atom-bytes atom ≡ atom-head kind (e - b) ++ take (e - b) (drop b s)
 
@@ -36,17 +33,15 @@ Next s p (Bad w q) = (ts : List Token) × (tokens-from s p ≡ bad w q ∷ ts)
 
 module _ (s : List ℕ) (p e : ℕ) where
   -- an atom that is all body
-  all-body : (a : Atom) (k : ℕ) → k ≡ atom-kind a → (k ≡ 2 → ⊥) → WholeAt s p a e → atom-bytes a ≡ atom-head k (e - p) ++ take (e - p) (drop p s)
+  all-body : (a : Atom) (k : ℕ) → k ≡ atom-kind a → WholeAt s p a e → atom-bytes a ≡ atom-head k (e - p) ++ take (e - p) (drop p s)
       → AtomAt s p k p e
-  all-body a k h other w written = record {
+  all-body a k h w written = record {
     atom = a;
     is = w .is;
     kind-is = h;
-    begins = omega arith;
     ends = omega (arith, w .forward);
     forward = w .forward;
     inside = w .inside;
-    headed = λ z. absurd (other z);
     shorter = w .shorter;
     written = written;
   }
@@ -78,21 +73,19 @@ module _ (s : List ℕ) (p e : ℕ) where
         atom = array bs;
         is = w .is;
         kind-is = refl;
-        begins = omega arith;
         ends = omega arith;
         forward = forward;
         inside = inside;
-        headed = λ z. omega arith;
         shorter = w .shorter;
         written = rw (count, from-body, take-at bs rest (length bs) refl);
       }
 
   atom-at : (a : Atom) → WholeAt s p a e → AtomAt s p (atom-kind a) (body a p e) e
   unfolding atom-bytes
-  atom-at nil w = all-body nil 0 refl (λ z. omega arith) w (sym (w .spelled))
+  atom-at nil w = all-body nil 0 refl w (sym (w .spelled))
   atom-at (array bs) w = array-body bs w
-  atom-at (int v) w = all-body (int v) 3 refl (λ z. omega arith) w (sym (w .spelled .1))
-  atom-at (ref m n) w = all-body (ref m n) 4 refl (λ z. omega arith) w (sym (w .spelled .2))
+  atom-at (int v) w = all-body (int v) 3 refl w (sym (w .spelled .1))
+  atom-at (ref m n) w = all-body (ref m n) 4 refl w (sym (w .spelled .2))
 
 -- how many bytes an atom is written with
 pub written-size : (s : List ℕ) (p kind b e : ℕ) (w : AtomAt s p kind b e) → length (atom-bytes (w .atom)) ≡ length (atom-head kind (e - b)) + (e - b)

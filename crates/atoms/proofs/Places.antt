@@ -26,7 +26,7 @@ use Rattle.atoms.specs.declared.Token.the-variants.{Whole, Bad}
 pub left-at : (s : List ℕ) (p : ℕ) → p ≤ length s → length s - length (drop p s) ≡ p
 left-at s p h = rw (length-drop p s) (omega arith)
 
-pub none-left : (s : List ℕ) (p : ℕ) → p ≡ length s → drop p s ≡ []
+none-left : (s : List ℕ) (p : ℕ) → p ≡ length s → drop p s ≡ []
 none-left s p h = go (drop p s) (length-drop p s ∙ omega arith)
   where
     go : (l : List ℕ) → length l ≡ 0 → l ≡ []
@@ -34,16 +34,16 @@ none-left s p h = go (drop p s) (length-drop p s ∙ omega arith)
     go (b ∷ l) e = absurd (omega arith)
 
 -- the first of the bytes that are left
-pub first-left : (s : List ℕ) (p : ℕ) → p < length s → drop p s ≡ getD s p 0 ∷ drop (p + 1) s
+first-left : (s : List ℕ) (p : ℕ) → p < length s → drop p s ≡ getD s p 0 ∷ drop (p + 1) s
 first-left s p h = rw (add-one p) (drop-cons s p 0 h)
 
-pub measured-is : (s : List ℕ) (n p : ℕ) → p ≤ length s → measured (length s) (taken n (drop p s)) ≡ Is (min n 65537) p
+measured-is : (s : List ℕ) (n p : ℕ) → p ≤ length s → measured (length s) (taken n (drop p s)) ≡ Is (min n 65537) p
 measured-is s n p h = ap (Is (min n 65537)) (left-at s p h)
 
 pub measured-wrong : (s : List ℕ) (w p : ℕ) → p ≤ length s → measured (length s) (failed w (drop p s)) ≡ Wrong w p
 measured-wrong s w p h = ap (Wrong w) (left-at s p h)
 
-pub measured-short : (s : List ℕ) → measured (length s) (failed 2 []) ≡ Wrong 2 (length s)
+measured-short : (s : List ℕ) → measured (length s) (failed 2 []) ≡ Wrong 2 (length s)
 measured-short s = ap (Wrong 2) (omega arith)
 
 -- Numbers, held at 65,537
@@ -54,7 +54,7 @@ natural-grows n [] = le-refl n
 natural-grows n (b ∷ s) = omega (arith, natural-grows (n * 256 + b) s)
 
 -- the bytes from a place up to another: the first, and the others
-pub bytes-step : (s : List ℕ) (i to : ℕ) → i < to → to ≤ length s → take (to - i) (drop i s) ≡ getD s i 0 ∷ take (to - (i + 1)) (drop (i + 1) s)
+bytes-step : (s : List ℕ) (i to : ℕ) → i < to → to ≤ length s → take (to - i) (drop i s) ≡ getD s i 0 ∷ take (to - (i + 1)) (drop (i + 1) s)
 bytes-step s i to h l = let more : to - i ≡ suc (to - (i + 1)) = omega arith in rw (more, first-left s i (omega arith))
 
 pub natural-step : (s : List ℕ) (n i to : ℕ) → i < to → to ≤ length s
@@ -91,13 +91,13 @@ take-held n s h =
 
 -- Lengths from the inside out
 
-pub around-failed : (k w : ℕ) (s : List ℕ) → around k (failed w s) ≡ failed w s
+around-failed : (k w : ℕ) (s : List ℕ) → around k (failed w s) ≡ failed w s
 unfolding around
 around-failed zero w s = refl
 around-failed (suc k) w s = rw (around-failed k w s)
 
 -- the innermost array first
-pub around-inner : (k n : ℕ) (s : List ℕ) → around (suc k) (taken n s) ≡ around k (and-then (take-bytes n s) as-length)
+around-inner : (k n : ℕ) (s : List ℕ) → around (suc k) (taken n s) ≡ around k (and-then (take-bytes n s) as-length)
 unfolding around
 around-inner zero n s = refl
 around-inner (suc k) n s = ap (λ x. and-then (and-then x take-bytes) as-length) (around-inner k n s)
