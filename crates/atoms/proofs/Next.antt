@@ -19,6 +19,7 @@ pub record AtomAt (s : List ℕ) (p kind b e : ℕ) : Type 0 where
   pub atom : Atom
   pub is : tokens-from s p ≡ whole atom p e ∷ tokens-from s e
   pub kind-is : kind ≡ atom-kind atom
+  pub begins : p ≤ b
   pub ends : b ≤ e
   pub forward : p < e
   pub inside : e ≤ length s
@@ -39,6 +40,7 @@ module _ (s : List ℕ) (p e : ℕ) where
     atom = a;
     is = w .is;
     kind-is = h;
+    begins = omega arith;
     ends = omega (arith, w .forward);
     forward = w .forward;
     inside = w .inside;
@@ -73,6 +75,7 @@ module _ (s : List ℕ) (p e : ℕ) where
         atom = array bs;
         is = w .is;
         kind-is = refl;
+        begins = omega arith;
         ends = omega arith;
         forward = forward;
         inside = inside;

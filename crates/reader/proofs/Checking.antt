@@ -2,10 +2,13 @@
 -- stream's end answers.
 use Prim.Native.Nat.{ℕ, _+_, _-_, _≤_, _<_}
 use mathlib.Core.Path.{_≡_, refl, _∙_}
-use mathlib.Core.List.{List, _∷_}
+use mathlib.Core.List.{List, [], _∷_}
+use mathlib.Core.Bool.{Bool, true, false}
 use native.Mathlib.Omega.{arith}
 use lib.ListN.{length, length-append}
+use lib.Dec.{eqb}
 use borrow.Author.Tests.{lt-ltb, le-ltb, le-leb, lt-leb, ne-eqb}
+use Rattle.spec.specs.Expr.{if_then_else_}
 use Rattle.spec.specs.Reading.{Token, opening, closing, whole, tokens, right, wrong, check, rows-of, read}
 use Rattle.laws.specs.Demands.{Bytes}
 use Rattle.laws.proofs.Written.{bytes-of, token-bytes, canonical-tokens}
@@ -40,17 +43,17 @@ module _ (s : List ℕ) (room : ℕ) (short : length s ≤ 65536) where
 
 -- Before a turn
 
--- At place p, d forms are open, n rows are taken, and the tokens so far have so many canonical bytes.
-pub record Checking (s : List ℕ) (room p d n size : ℕ) : Type 0 where
+-- At place p, d forms are open, n rows are taken, and the canonical bytes of the tokens so far are `saved` fewer than p.
+pub record Checking (s : List ℕ) (room p d n saved : ℕ) : Type 0 where
   pub stream : Bytes s
   pub short : length s ≤ 65536
   pub inside : p ≤ length s
   pub shallow : d ≤ p
   pub early : n ≤ p
-  pub shorter : size ≤ p
+  pub shorter : saved ≤ p
   pub verdict : check (length s) room (tokens 0 0 s) 0 0 ≡ check (length s) room (tokens-from s p) d n
   pub counted : length (rows-of (tokens 0 0 s)) ≡ n + length (rows-of (tokens-from s p))
-  pub sized : length (token-bytes (tokens 0 0 s)) ≡ size + length (token-bytes (tokens-from s p))
+  pub sized : length (token-bytes (tokens 0 0 s)) ≡ p - saved + length (token-bytes (tokens-from s p))
 
 pub checking-start : (s : List ℕ) (room : ℕ) → Bytes s → length s ≤ 65536 → Checking s room 0 0 0 0
 checking-start s room stream short = record {
@@ -68,22 +71,23 @@ checking-start s room stream short = record {
 -- A turn
 
 -- what is refused at a token, and what holds after it
-abbrev pub CheckTurn : (s : List ℕ) (room p d n size : ℕ) → Answer → Type 0
-CheckTurn s room p d n size Opening =
+abbrev pub CheckTurn : (s : List ℕ) (room p d n saved : ℕ) → Answer → Type 0
+CheckTurn s room p d n saved Opening =
     (64 ≤ d → Answers s room (Wrong 6 p)) × (d < 64 → room ≤ n → Answers s room (Wrong 8 p))
-    × (d < 64 → n < room → Checking s room (p + 1) (d + 1) (n + 1) (size + 1))
-CheckTurn s room p d n size Closing = (d ≡ 0 → Answers s room (Wrong 3 p)) × ((d ≡ 0 → ⊥) → Checking s room (p + 1) (d - 1) n (size + 1))
-CheckTurn s room p d n size (Whole k b e) =
-    (b ≤ e) × (p < e) × (e ≤ length s) × (room ≤ n → Answers s room (Wrong 8 p))
-    × ((m : ℕ) → m ≡ length (atom-head k (e - b)) + (e - b) → (size + m ≤ e) × (n < room → Checking s room e d (n + 1) (size + m)))
-CheckTurn s room p d n size (Bad w q) = Answers s room (Wrong w q)
+    × (d < 64 → n < room → Checking s room (p + 1) (d + 1) (n + 1) saved)
+CheckTurn s room p d n saved Closing = (d ≡ 0 → Answers s room (Wrong 3 p)) × ((d ≡ 0 → ⊥) → Checking s room (p + 1) (d - 1) n saved)
+CheckTurn s room p d n saved (Whole k b e) =
+    let head = length (atom-head k (e - b)) in
+    (b ≤ e) × (p + head ≤ b) × (p < e) × (e ≤ length s) × (room ≤ n → Answers s room (Wrong 8 p))
+    × ((m : ℕ) → m ≡ b - p - head → n < room → Checking s room e d (n + 1) (saved + m))
+CheckTurn s room p d n saved (Bad w q) = Answers s room (Wrong w q)
 
 bytes-more : (t : Token) (ts : List Token) → length (token-bytes (t ∷ ts)) ≡ length (bytes-of t) + length (token-bytes ts)
 unfolding token-bytes
 bytes-more t ts = length-append (bytes-of t) (token-bytes ts)
 
-module _ (s : List ℕ) (room p d n size : ℕ) (f : Checking s room p d n size) where
-  turn-opening : p < length s → Next s p Opening → CheckTurn s room p d n size Opening
+module _ (s : List ℕ) (room p d n saved : ℕ) (f : Checking s room p d n saved) where
+  turn-opening : p < length s → Next s p Opening → CheckTurn s room p d n saved Opening
   unfolding check rows-of
   turn-opening inside is = (
     λ h. answer-wrong s room (f .short) 6 p (f .verdict ∙ rw (is, le-leb 64 d h)),
@@ -101,7 +105,7 @@ module _ (s : List ℕ) (room p d n size : ℕ) (f : Checking s room p d n size)
     },
   )
 
-  turn-closing : p < length s → Next s p Closing → CheckTurn s room p d n size Closing
+  turn-closing : p < length s → Next s p Closing → CheckTurn s room p d n saved Closing
   unfolding check rows-of
   turn-closing inside is = (
     λ h. answer-wrong s room (f .short) 3 p (f .verdict ∙ rw (is, h)),
@@ -118,50 +122,53 @@ module _ (s : List ℕ) (room p d n size : ℕ) (f : Checking s room p d n size)
     },
   )
 
-  turn-whole : (k b e : ℕ) → AtomAt s p k b e → CheckTurn s room p d n size (Whole k b e)
+  turn-whole : (k b e : ℕ) → AtomAt s p k b e → CheckTurn s room p d n saved (Whole k b e)
   unfolding check rows-of
-  turn-whole k b e w = (
-    w .ends,
-    w .forward,
-    w .inside,
-    λ l. answer-wrong s room (f .short) 8 p (f .verdict ∙ rw (w .is, le-leb room n l)),
-    λ m h.
-        let bytes = written-size s p k b e w in
-        let fits : size + m ≤ e = omega (arith, w .shorter) in (
-          fits,
-          λ l. record {
-            stream = f .stream;
-            short = f .short;
-            inside = w .inside;
-            shallow = omega (arith, w .forward);
-            early = omega (arith, w .forward);
-            shorter = fits;
-            verdict = f .verdict ∙ rw (w .is, lt-leb room n l);
-            counted = f .counted ∙ rw (w .is) (omega arith);
-            sized = f .sized ∙ rw (w .is) (omega (arith, bytes-more (whole (w .atom) p e) (tokens-from s e)));
-          },
-        ),
-  )
+  turn-whole k b e w =
+      let bytes = written-size s p k b e w in
+      let ends = w .ends in
+      let forward = w .forward in
+      let shorter = w .shorter in (
+        ends,
+        omega arith,
+        forward,
+        w .inside,
+        λ l. answer-wrong s room (f .short) 8 p (f .verdict ∙ rw (w .is, le-leb room n l)),
+        λ m h l. record {
+          stream = f .stream;
+          short = f .short;
+          inside = w .inside;
+          shallow = omega arith;
+          early = omega arith;
+          shorter = omega arith;
+          verdict = f .verdict ∙ rw (w .is, lt-leb room n l);
+          counted = f .counted ∙ rw (w .is) (omega arith);
+          sized = f .sized ∙ rw (w .is) (omega (arith, bytes-more (whole (w .atom) p e) (tokens-from s e)));
+        },
+      )
 
-  pub check-turn : p < length s → (r : Answer) → r ≡ shown (token-at s p) → CheckTurn s room p d n size r
+  pub check-turn : p < length s → (r : Answer) → r ≡ shown (token-at s p) → CheckTurn s room p d n saved r
   unfolding check
   check-turn inside r told = go r (next s p r (f .stream) inside told)
     where
-      go : (r : Answer) → Next s p r → CheckTurn s room p d n size r
+      go : (r : Answer) → Next s p r → CheckTurn s room p d n saved r
       go Opening is = turn-opening inside is
       go Closing is = turn-closing inside is
       go (Whole k b e) w = turn-whole k b e w
       go (Bad w q) x = answer-wrong s room (f .short) w q (f .verdict ∙ rw (x .1))
 
-  module _ (end : length s ≤ p) where
-    pub left-open : (d ≡ 0 → ⊥) → Answers s room (Wrong 2 p)
-    unfolding check
-    left-open h =
-        let at-end : length s ≡ p = omega arith in
-        rw (← at-end) (answer-wrong s room (f .short) 2 (length s) (f .verdict ∙ rw (tokens-end s p end, ne-eqb d 0 h)))
+  -- at the stream's end
+  pub check-end : length s ≤ p → Answers s room (if eqb d 0 then Right n (p - saved) else Wrong 2 p)
+  unfolding check rows-of token-bytes
+  check-end end = go (eqb d 0) refl
+    where
+      none : tokens-from s p ≡ []
+      none = tokens-end s p end
 
-    pub all-right : d ≡ 0 → Answers s room (Right n size)
-    unfolding check rows-of token-bytes
-    all-right h =
-        let none = tokens-end s p end in
-        answer-right s room (f .short) n size (f .verdict ∙ rw (none, h)) (f .counted ∙ rw none (omega arith)) (f .sized ∙ rw none (omega arith))
+      at-end : length s ≡ p
+      at-end = omega arith
+
+      go : (b : Bool) → eqb d 0 ≡ b → Answers s room (if b then Right n (p - saved) else Wrong 2 p)
+      go true e =
+          answer-right s room (f .short) n (p - saved) (f .verdict ∙ rw (none, e)) (f .counted ∙ rw none (omega arith)) (f .sized ∙ rw none (omega arith))
+      go false e = rw (← at-end) (answer-wrong s room (f .short) 2 (length s) (f .verdict ∙ rw (none, e)))

@@ -3,11 +3,13 @@ use atoms::Token;
 ghost use mathlib.Core.Path.{_≡_};
 ghost use Prim.Native.Nat.{_+_, _-_, _*_, _≤_, _<_};
 ghost use lib.ListN.{length, drop, getD};
-ghost use Rattle.spec.specs.Expr.{array-head};
+ghost use lib.Dec.{eqb};
+ghost use Rattle.spec.specs.Expr.{if_then_else_, array-head};
 ghost use Rattle.spec.specs.Reading.{tokens, ends, rows-of, row-width, read};
 ghost use Rattle.spec.specs.Calls.{filled, row-at, Buffer, item};
 ghost use Rattle.laws.specs.Demands.{meaning-of, CanRead};
 ghost use Rattle.atoms.specs.Tokens.{atom-head};
+ghost use Rattle.reader.specs.declared.Checked.the-variants.{Right, Wrong};
 ghost use Rattle.reader.specs.Passes.{checked, row-started, row-ended, RightFrom, found-part};
 
 // The numbers of a row.
@@ -32,13 +34,77 @@ fn head_size(n: usize) -> usize
     4
 }
 
-// The canonical length of an atom that was read.
-fn canonical_size(kind: u32, body: usize, end: usize) -> usize
-    requires { ⌜ (body ≤ end) × (end ≤ 65536) ⌝ }
-    ensures { λ r. ⌜ r ≡ length (atom-head kind (end - body)) + (end - body) ⌝ }
+// How many bytes fewer an atom has as it is written canonically.
+fn spared(kind: u32, at: usize, body: usize, end: usize) -> usize
+    requires { ⌜ (body ≤ end) × (at + length (atom-head kind (end - body)) ≤ body) ⌝ }
+    ensures { λ r. ⌜ r ≡ body - at - length (atom-head kind (end - body)) ⌝ }
 {
-    let n = end - body;
-    if kind == 2 { head_size(n) + n } else { n }
+    let before = body - at;
+    if kind == 2 {
+        return before - head_size(end - body);
+    }
+    before
+}
+
+fn wrong(number: u32, place: usize) -> Checked
+    ensures { λ r. ⌜ r ≡ Wrong number place ⌝ }
+{
+    Checked::Wrong { number, place }
+}
+
+// The answer at a stream's end, where `depth` forms are open.
+fn ended(at: usize, depth: usize, rows: usize, length: usize) -> Checked
+    ensures { λ r. ⌜ r ≡ (if eqb depth 0 then Right rows length else Wrong 2 at) ⌝ }
+{
+    if depth == 0 {
+        return Checked::Right { rows, length };
+    }
+    wrong(2, at)
+}
+
+// The first pass over a stream that is not too long. `saved` is how many bytes fewer its tokens so far have as they are written canonically.
+fn check_tokens(s: &[u8], room: usize) -> Checked
+    requires { ⌜ length (now s) ≤ 65536 ⌝ }
+    ensures { λ r. ⌜ r ≡ checked (read (now (s .entry)) room) ⌝ }
+{
+    let mut at: usize = 0;
+    let mut depth: usize = 0;
+    let mut rows: usize = 0;
+    let mut saved: usize = 0;
+    while at < s.len() {
+        match atoms::token_at(s, at) {
+            Token::Opening => {
+                if 64 <= depth {
+                    return wrong(6, at);
+                }
+                if room <= rows {
+                    return wrong(8, at);
+                }
+                depth += 1;
+                rows += 1;
+                at += 1;
+            }
+            Token::Closing => {
+                if depth == 0 {
+                    return wrong(3, at);
+                }
+                depth -= 1;
+                at += 1;
+            }
+            Token::Whole { kind, body, end } => {
+                if room <= rows {
+                    return wrong(8, at);
+                }
+                rows += 1;
+                saved += spared(kind, at, body, end);
+                at = end;
+            }
+            Token::Bad { number, place } => {
+                return wrong(number, place);
+            }
+        }
+    }
+    ended(at, depth, rows, at - saved)
 }
 
 // The first pass, with room for so many rows.
@@ -46,69 +112,9 @@ pub fn check(s: &[u8], room: usize) -> Checked
     ensures { λ r. ⌜ r ≡ checked (read (now (s .entry)) room) ⌝ }
 {
     if 65536 < s.len() {
-        return Checked::Wrong {
-            number: 1,
-            place: 0,
-        };
+        return wrong(1, 0);
     }
-    let mut at: usize = 0;
-    let mut depth: usize = 0;
-    let mut rows: usize = 0;
-    let mut length: usize = 0;
-    while at < s.len() {
-        match atoms::token_at(s, at) {
-            Token::Opening => {
-                if 64 <= depth {
-                    return Checked::Wrong {
-                        number: 6,
-                        place: at,
-                    };
-                }
-                if room <= rows {
-                    return Checked::Wrong {
-                        number: 8,
-                        place: at,
-                    };
-                }
-                depth += 1;
-                rows += 1;
-                length += 1;
-                at += 1;
-            }
-            Token::Closing => {
-                if depth == 0 {
-                    return Checked::Wrong {
-                        number: 3,
-                        place: at,
-                    };
-                }
-                depth -= 1;
-                length += 1;
-                at += 1;
-            }
-            Token::Whole { kind, body, end } => {
-                if room <= rows {
-                    return Checked::Wrong {
-                        number: 8,
-                        place: at,
-                    };
-                }
-                rows += 1;
-                length += canonical_size(kind, body, end);
-                at = end;
-            }
-            Token::Bad { number, place } => {
-                return Checked::Wrong { number, place };
-            }
-        }
-    }
-    if depth == 0 {
-        return Checked::Right { rows, length };
-    }
-    Checked::Wrong {
-        number: 2,
-        place: at,
-    }
+    check_tokens(s, room)
 }
 
 // The first two numbers of a row.
