@@ -1,29 +1,54 @@
--- What an acceptance gives is there: for callers that go on to use the rows or the bytes.
-use Prim.Native.Nat.{ℕ, _*_, _≤_}
-use mathlib.Core.Path.{_≡_, ap, _∙_}
+-- What an answer gives is there: for callers that go on to use the rows, the bytes or the part.
+use Prim.Native.Nat.{ℕ, _+_, _-_, _*_, _≤_, max}
+use mathlib.Core.Path.{_≡_, sym, ap, _∙_}
 use mathlib.Core.List.{List, []}
 use native.Mathlib.Omega.{arith}
-use lib.ListN.{length}
+use lib.ListN.{length, drop, length-take, length-drop}
 use Rattle.spec.specs.Reading.{row-width}
-use Rattle.spec.specs.Calls.{Answer, Read, Write}
+use Rattle.spec.specs.Calls.{Answer, Read, Write, Buffer, of-stream, of-result, Part, part, chosen, Item}
+use Rattle.laws.specs.Demands.{Bytes}
 use Rattle.laws.proofs.Theorems.{read-keeps, write-keeps, read-fits, write-fits}
-use Rattle.bulk.specs.Answers.{stated}
+use Rattle.bulk.specs.Answers.{Answered, of-buffer, part-bytes}
 use Rattle.bulk.specs.declared.Answer.{Answer as Told}
 use Rattle.bulk.specs.declared.Answer.the-variants.{Accepted}
+use Rattle.bulk.specs.declared.Part.{Part as Place}
+use Rattle.bulk.specs.declared.Part.the-variants.{Of}
+use Rattle.bulk.proofs.Told.{item-inside}
 
 module _ (r : Told) (n : ℕ) (s t t′ : List ℕ) (accepted : r ≡ Accepted n) where
-  told-given : (o : List ℕ) (a : Answer) → stated r t′ o ≡ a → n ≡ a .given
-  told-given o a h = ap (λ (x : Answer). x .given) (rw accepted at h)
+  told-given : (o : List ℕ) (a : Answer) → Answered a r t′ o → n ≡ a .given
+  told-given o a h = ap (λ (x : Answer). x .given) (rw accepted at (h .is))
 
   -- of the table and the output after the call
-  pub given-rows : stated r t′ [] ≡ Read s t → row-width * n ≤ length t′
+  pub given-rows : Answered (Read s t) r t′ [] → row-width * n ≤ length t′
   given-rows h =
-      let same : t′ ≡ Read s t .table = ap (λ (x : Answer). x .table) (rw accepted at h) in
+      let same : t′ ≡ Read s t .table = ap (λ (x : Answer). x .table) (rw accepted at (h .is)) in
       let size : length t′ ≡ length t = ap length same ∙ read-keeps s t .tables in
       omega (arith, told-given [] (Read s t) h, read-fits s t)
 
-  pub given-bytes : (o o′ : List ℕ) → stated r t′ o′ ≡ Write s t o → n ≤ length o′
+  pub given-bytes : (o o′ : List ℕ) → Answered (Write s t o) r t′ o′ → n ≤ length o′
   given-bytes o o′ h =
-      let same : o′ ≡ Write s t o .output = ap (λ (x : Answer). x .output) (rw accepted at h) in
+      let same : o′ ≡ Write s t o .output = ap (λ (x : Answer). x .output) (rw accepted at (h .is)) in
       let size : length o′ ≡ length o = ap length same ∙ write-keeps s t o .outputs in
       omega (arith, told-given o′ (Write s t o) h, write-fits s t o)
+
+-- Item's part, from its place on, lies in one of the two buffers
+pub given-part : (b : Buffer) (stream result : List ℕ) (k : ℕ) (place : Place) (start end : ℕ) (x : List ℕ) → Bytes stream → Bytes result
+    → of-buffer b place ≡ Item stream result b k → place ≡ Of start end → x ≡ part-bytes (Item stream result b k) stream result
+    → start + length x ≤ max (length stream) (length result)
+given-part b stream result k place start end x bytes bytes′ told at part-is =
+    let is : part b start end ≡ Item stream result b k = ap (of-buffer b) (sym at) ∙ told in
+    let inside = item-inside b stream result k start end (of-either b) is in
+    let size : length x ≡ end - start =
+    ap length (part-is ∙ ap (λ (it : Part). part-bytes it stream result) (sym is))
+    ∙ length-take (end - start) (drop start (chosen b stream result))
+    ∙ omega (arith, length-drop start (chosen b stream result)) in
+    omega (arith, longest b)
+  where
+    of-either : (b : Buffer) → Bytes (chosen b stream result)
+    of-either of-stream = bytes
+    of-either of-result = bytes′
+
+    longest : (b : Buffer) → length (chosen b stream result) ≤ max (length stream) (length result)
+    longest of-stream = omega arith
+    longest of-result = omega arith

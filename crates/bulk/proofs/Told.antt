@@ -12,14 +12,14 @@ use Rattle.spec.specs.Calls.{over, filled, put-out, Read, Write, Buffer, Part, 
 use Rattle.laws.specs.Demands.{Bytes, meaning-of, CanRead}
 use Rattle.laws.specs.Grammar.{item-reading, SpellsItem}
 use Rattle.laws.proofs.Basics.{impossible}
-use Rattle.laws.proofs.Reading.{read-readable, read-enough}
+use Rattle.laws.proofs.Reading.{read-readable, read-refused, read-enough}
 use Rattle.laws.proofs.Tokens.{tokens-few}
 use Rattle.laws.proofs.Rows.{rows-few, rows-room}
 use Rattle.laws.proofs.Theorems.{item-given, item-absent, item-unread}
 use Rattle.reader.specs.Passes.{checked}
 use Rattle.reader.specs.declared.Checked.{Checked}
 use Rattle.reader.specs.declared.Checked.the-variants.{Right, Wrong}
-use Rattle.bulk.specs.Answers.{stated}
+use Rattle.bulk.specs.Answers.{Answered}
 use Rattle.bulk.specs.declared.Answer.the-variants.{Accepted, Refused}
 
 -- a stream that can be read, with its rows and its canonical length counted
@@ -32,13 +32,13 @@ pub record ToldRight (s : List ℕ) (room rows size : ℕ) : Type 0 where
 
 abbrev pub Told : List ℕ → ℕ → Checked → Type 0
 Told s room (Right rows size) = ToldRight s room rows size
-Told s room (Wrong w p) = read s room ≡ refused w p
+Told s room (Wrong w p) = (read s room ≡ refused w p) × (1 ≤ w)
 
-pub told : (s : List ℕ) (room : ℕ) (v : Checked) → v ≡ checked (read s room) → Told s room v
-told s room v e = rw e (go (read s room) refl)
+pub told : (s : List ℕ) (room : ℕ) (v : Checked) → Bytes s → v ≡ checked (read s room) → Told s room v
+told s room v stream e = rw e (go (read s room) refl)
   where
     go : (x : Reading) → read s room ≡ x → Told s room (checked x)
-    go (refused w p) h = h
+    go (refused w p) h = (h, read-refused s room w p stream h .0)
     go (readable rs es) h =
         let r = read-readable s room rs es h in
         let count : length rs ≡ length (rows-of (tokens 0 0 s)) = ap length (r .rows-are) in
@@ -53,31 +53,36 @@ told s room v e = rw e (go (read s room) refl)
         }
 
 module _ (s t : List ℕ) where
-  pub read-refusal : (w p : ℕ) → read s (length t / row-width) ≡ refused w p → stated (Refused w p) t [] ≡ Read s t
+  pub read-refusal : (w p : ℕ) → Told s (length t / row-width) (Wrong w p) → Answered (Read s t) (Refused w p) t []
   unfolding Read
-  read-refusal w p h = rw h
+  read-refusal w p h = record { is = rw (h .0); numbered = h .1 }
 
-  pub write-refusal : (out : List ℕ) (w p : ℕ) → read s (length t / row-width) ≡ refused w p → stated (Refused w p) t out ≡ Write s t out
+  pub write-refusal : (out : List ℕ) (w p : ℕ) → Told s (length t / row-width) (Wrong w p) → Answered (Write s t out) (Refused w p) t out
   unfolding Write
-  write-refusal out w p h = rw h
+  write-refusal out w p h = record { is = rw (h .0); numbered = h .1 }
 
-  module _ (rows size : ℕ) (r : ToldRight s (length t / row-width) rows size) where
-    pub table-room : row-width * length (rows-of (tokens 0 0 s)) ≤ length t
-    table-room = omega (arith, r .counted, r .fits)
-
-    pub read-acceptance : (t′ : List ℕ) → t′ ≡ filled (rows-of (tokens 0 0 s)) t → stated (Accepted rows) t′ [] ≡ Read s t
+  module _ (rows size : ℕ) (r : ToldRight s (length t / row-width) rows size) (t′ : List ℕ) (table : t′ ≡ filled (rows-of (tokens 0 0 s)) t) where
+    pub read-acceptance : Answered (Read s t) (Accepted rows) t′ []
     unfolding Read
-    read-acceptance t′ h = rw (r .is, h, r .counted)
+    read-acceptance = record { is = rw (r .is, table, r .counted); numbered = tt }
 
-    pub write-short : (t′ out : List ℕ) → t′ ≡ filled (rows-of (tokens 0 0 s)) t → length out < size → stated (Refused 18 0) t′ out ≡ Write s t out
+    pub write-short : (out : List ℕ) → length out < size → Answered (Write s t out) (Refused 18 0) t′ out
     unfolding Write put-out
-    write-short t′ out h l = rw (r .is, h, lt-ltb (length out) (length (canonical (meaning-of s))) (omega (arith, r .sized)))
+    write-short out l = record {
+      is = rw (r .is, table, lt-ltb (length out) (length (canonical (meaning-of s))) (omega (arith, r .sized)));
+      numbered = omega arith;
+    }
 
-    pub write-acceptance : (t′ out out′ : List ℕ) → t′ ≡ filled (rows-of (tokens 0 0 s)) t → size ≤ length out
-        → out′ ≡ over (canonical (meaning-of s)) out
-        → stated (Accepted size) t′ out′ ≡ Write s t out
+    pub write-acceptance : (out out′ : List ℕ) → size ≤ length out → out′ ≡ over (canonical (meaning-of s)) out
+        → Answered (Write s t out) (Accepted size) t′ out′
     unfolding Write put-out
-    write-acceptance t′ out out′ h l k = rw (r .is, h, k, le-ltb (length out) (length (canonical (meaning-of s))) (omega (arith, r .sized)), r .sized)
+    write-acceptance out out′ l k = record {
+      is = rw (r .is, table, k, le-ltb (length out) (length (canonical (meaning-of s))) (omega (arith, r .sized)), r .sized);
+      numbered = tt;
+    }
+
+pub table-room : (s t : List ℕ) (rows size : ℕ) → ToldRight s (length t / row-width) rows size → row-width * length (rows-of (tokens 0 0 s)) ≤ length t
+table-room s t rows size r = omega (arith, r .counted, r .fits)
 
 -- Item
 

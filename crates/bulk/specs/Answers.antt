@@ -1,5 +1,6 @@
 -- What the public calls answer: document 01's number and values for each case of an answer that is an enum.
-use Prim.Native.Nat.{ℕ, _-_}
+use Prim.Native.Nat.{ℕ, _-_, _≤_}
+use mathlib.Core.Path.{_≡_}
 use mathlib.Core.List.{List, []}
 use lib.ListN.{take, drop}
 use Rattle.spec.specs.Calls.{Answer, refusal, acceptance, Buffer, of-stream, of-result, Part, part, no-part, chosen}
@@ -15,6 +16,16 @@ use Rattle.bulk.specs.declared.Part.the-variants.{Of, Empty}
 abbrev pub stated : Given → List ℕ → List ℕ → Answer
 stated (Accepted given) table output = acceptance given 0 table output
 stated (Refused number place) table output = refusal number place table output
+
+-- 0 is acceptance's number, so that no refusal has it
+abbrev pub Numbered : Given → Type 0
+Numbered (Accepted given) = Unit {0}
+Numbered (Refused number place) = 1 ≤ number
+
+-- a call has answered as the definition does
+pub record Answered (a : Answer) (r : Given) (table output : List ℕ) : Type 0 where
+  pub is : stated r table output ≡ a
+  pub numbered : Numbered r
 
 -- "which of the two"
 abbrev pub asked : Which → Buffer

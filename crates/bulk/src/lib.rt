@@ -7,7 +7,7 @@ ghost use Prim.Native.Nat.{ℕ, _/_};
 ghost use lib.ListN.{length};
 ghost use Rattle.spec.specs.Reading.{row-width};
 ghost use Rattle.spec.specs.Calls.{Read, Write, Item, Buffer as Chosen, chosen};
-ghost use Rattle.bulk.specs.Answers.{stated, asked, of-buffer, part-bytes};
+ghost use Rattle.bulk.specs.Answers.{Answered, asked, of-buffer, part-bytes};
 
 // The numbers of a row.
 pub const ROW_WIDTH: usize = reader::ROW_WIDTH;
@@ -39,7 +39,7 @@ fn rows_available(table: &[u32]) -> usize
 
 // Reads a stream into a table of four numbers a row: kind, start, end, next row. Gives the number of rows. A refusal leaves the table as it was.
 pub fn read(stream: &[u8], table: &mut [u32]) -> Answer
-    ensures { λ r. ⌜ stated r (now (table .exit)) [] ≡ Read (now (stream .entry)) (now (table .entry)) ⌝ }
+    ensures { λ r. ⌜ Answered (Read (now (stream .entry)) (now (table .entry))) r (now (table .exit)) [] ⌝ }
 {
     match reader::check(stream, rows_available(table)) {
         Checked::Wrong { number, place } => Answer::Refused { number, place },
@@ -52,7 +52,8 @@ pub fn read(stream: &[u8], table: &mut [u32]) -> Answer
 
 // Reads a stream, then writes the canonical stream. Gives its length. A refusal leaves the output as it was.
 pub fn write(stream: &[u8], table: &mut [u32], output: &mut [u8]) -> Answer
-    ensures { λ r. ⌜ stated r (now (table .exit)) (now (output .exit)) ≡ Write (now (stream .entry)) (now (table .entry)) (now (output .entry)) ⌝ }
+    ensures { λ r.
+        ⌜ Answered (Write (now (stream .entry)) (now (table .entry)) (now (output .entry))) r (now (table .exit)) (now (output .exit)) ⌝ }
 {
     match reader::check(stream, rows_available(table)) {
         Checked::Wrong { number, place } => Answer::Refused { number, place },

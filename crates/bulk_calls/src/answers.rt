@@ -2,7 +2,6 @@
 ghost use Prim.Native.Nat.{_*_, _≤_, _<_};
 ghost use lib.ListN.{length};
 ghost use Rattle.spec.specs.Reading.{row-width};
-use bulk::Part;
 use text::Buffer;
 
 fn wide(n: u32) -> u64 {
@@ -82,18 +81,20 @@ pub fn written(buffer: &mut Buffer, used: usize, output: &[u8], given: usize) ->
     text::byte(buffer, past_bytes, b'\n')
 }
 
-pub fn part(buffer: &mut Buffer, used: usize, given: Part) -> usize
+pub fn no_part(buffer: &mut Buffer, used: usize) -> usize
+    requires { ⌜ used ≤ 4096 ⌝ }
+    ensures { λ r. ⌜ r ≤ 4096 ⌝ }
+{
+    text::bytes(buffer, used, b"part empty\n")
+}
+
+pub fn part(buffer: &mut Buffer, used: usize, start: usize, end: usize) -> usize
     requires { ⌜ used ≤ 4096 ⌝ }
     ensures { λ r. ⌜ r ≤ 4096 ⌝ }
 {
     let past_word = text::bytes(buffer, used, b"part ");
-    match given {
-        Part::Empty => text::bytes(buffer, past_word, b"empty\n"),
-        Part::Of { start, end } => {
-            let past_start = text::decimal(buffer, past_word, start as u64);
-            let past_space = text::byte(buffer, past_start, b' ');
-            let past_end = text::decimal(buffer, past_space, end as u64);
-            text::byte(buffer, past_end, b'\n')
-        }
-    }
+    let past_start = text::decimal(buffer, past_word, start as u64);
+    let past_space = text::byte(buffer, past_start, b' ');
+    let past_end = text::decimal(buffer, past_space, end as u64);
+    text::byte(buffer, past_end, b'\n')
 }

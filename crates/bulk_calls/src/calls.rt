@@ -8,6 +8,7 @@ use crate::requests::WriteRequest;
 use crate::words::Kept;
 use bulk::Answer;
 use bulk::Buffer as Which;
+use bulk::Part;
 use text::Buffer;
 
 // Four numbers for every byte that a stream may have: no stream has more rows.
@@ -81,28 +82,35 @@ fn which(bit: u64) -> Which {
     }
 }
 
-fn item(buffer: &mut Buffer, used: usize, asked: ItemRequest, stream: &[u8], result: &[u8]) -> usize
+fn item<'a>(
+    buffer: &mut Buffer,
+    used: usize,
+    asked: ItemRequest,
+    stream: &'a [u8],
+    result: &'a [u8],
+) -> usize
     requires { ⌜ used ≤ 4096 ⌝ }
     ensures { λ r. ⌜ r ≤ 4096 ⌝ }
 {
     let length = within(asked.stream, stream.len());
     let result_length = within(asked.result, result.len());
     let k = asked.k as usize;
-    let given = bulk::item_part(
-        &stream[0..length],
-        &result[0..result_length],
-        which(asked.which),
-        k,
-    );
-    answers::part(buffer, used, given)
+    let s = &stream[0..length];
+    let r = &result[0..result_length];
+    let buffer_asked = which(asked.which);
+    let part = bulk::item(s, r, buffer_asked, k);
+    match bulk::item_part(s, r, buffer_asked, k) {
+        Part::Empty => answers::no_part(buffer, used),
+        Part::Of { start, end: _ } => answers::part(buffer, used, start, start + part.len()),
+    }
 }
 
-pub fn answer(
+pub fn answer<'a>(
     buffer: &mut Buffer,
     used: usize,
     request: Request,
-    stream: &Kept,
-    result: &Kept,
+    stream: &'a Kept,
+    result: &'a Kept,
     table: &mut Table,
     output: &mut Output,
 ) -> usize

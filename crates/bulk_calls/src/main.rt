@@ -5,6 +5,21 @@ mod input;
 mod requests;
 mod words;
 
+ghost use Prim.Native.Nat.{_≤_};
+use text::Buffer;
+
+// Writes out the answers so far if the input that was read is used up, so that no one waits for them.
+fn before_reading(buffer: &Buffer, used: usize, ready: usize) -> usize
+    requires { ⌜ used ≤ 4096 ⌝ }
+    ensures { λ r. ⌜ r ≤ 4096 ⌝ }
+{
+    if 0 < ready {
+        return used;
+    }
+    text::flush(buffer, used);
+    0
+}
+
 fn main() {
     let mut source = [0u8; input::SOURCE_SIZE];
     let mut stream = [0u8; words::KEPT_SIZE];
@@ -26,7 +41,9 @@ fn main() {
             &mut table,
             &mut output,
         );
-        at = input::advance(&mut source, line.input);
+        let line_end = line.input;
+        used = before_reading(&buffer, used, line_end.ready);
+        at = input::advance(&mut source, line_end);
     }
     text::flush(&buffer, used);
 }

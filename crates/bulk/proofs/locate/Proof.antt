@@ -6,6 +6,7 @@ use mathlib.Core.Path.{_≡_, sym, ap, _∙_}
 use mathlib.Core.List.{List}
 use lib.ListN.{length}
 use Rattle.spec.specs.Calls.{Buffer, chosen, Item}
+use Rattle.laws.proofs.Steps.{all-bytes}
 use Rattle.reader.specs.Passes.{found-part}
 use Rattle.reader.specs.declared.Checked.{Checked}
 use Rattle.reader.specs.declared.Found.{Found}
@@ -25,7 +26,8 @@ enum-told-2 c = search needs
 -- what the first pass told, where it is this
 at-check : (c : tie.After-check) (v : Checked) → c .check .result ≡ v
     → Told (c .before .before .args .buffer .now) (length (c .before .before .args .buffer .now)) v
-at-check c v e = told _ _ v (sym e ∙ c .check .ensures)
+at-check c v e =
+    told _ _ v (all-bytes (c .before .before .args .buffer .now) (λ i. c .before .shared-slice-known .given i .fits)) (sym e ∙ c .check .ensures)
 
 find-requires : tie.Need-find-requires
 find-requires c κs = at-check (c .before .before) _ (c .enum-told2 .given .1) .can
@@ -46,7 +48,7 @@ at-find c r e b stream result asked =
 
 returns : tie.Need-returns
 returns c =
-    λ b stream result e. item-none b stream result (c .before .before .before .before .args .k) _ e _ _ (at-check (c .before .before) _ (c .enum-told .given .1))
+    λ b stream result e. item-none b stream result (c .before .before .before .before .args .k) _ e _ _ (at-check (c .before .before) _ (c .enum-told .given .1) .0)
 
 returns-2 : tie.Need-returns-2
 returns-2 c = at-find (c .before .before .before) _ (c .before .start .given .1)

@@ -5,6 +5,7 @@ use Prim.Native.Nat.{ℕ, _/_}
 use mathlib.Core.Path.{_≡_, sym, ap, _∙_}
 use lib.ListN.{length}
 use Rattle.spec.specs.Reading.{row-width, read}
+use Rattle.laws.proofs.Steps.{all-bytes}
 use Rattle.reader.specs.Passes.{checked}
 use Rattle.reader.specs.declared.Checked.{Checked}
 use Rattle.bulk.proofs.Told.{Told, told, read-refusal, table-room, read-acceptance}
@@ -27,12 +28,14 @@ enum-known-rows c = search needs
 at-check : (c : tie.After-check) (v : Checked) → c .check .result ≡ v
     → Told (c .before .before .before .before .before .args .stream .now) (length (c .before .before .before .before .before .args .table .now) / row-width) v
 at-check c v e =
-    told _ _ v (sym e ∙ c .check .ensures ∙ ap (λ (room : ℕ). checked (read (c .before .before .before .before .before .args .stream .now) room)) (c .before .rows-available .ensures))
+    let s = c .before .before .before .before .before .args .stream .now in
+    told _ _ v (all-bytes s (λ i. c .before .before .before .before .shared-slice-known .given i .fits))
+    (sym e ∙ c .check .ensures ∙ ap (λ (room : ℕ). checked (read s room)) (c .before .rows-available .ensures))
 
 fill-requires : tie.Need-fill-requires
 fill-requires c κs =
-    let r = at-check (c .before .before .before .before) _ (c .before .before .rows .given .1) in
-    (r .can, table-room _ (c .before .before .before .before .before .before .before .before .before .args .table .now) _ _ r)
+    let right = at-check (c .before .before .before .before) _ (c .before .before .rows .given .1) in
+    (right .can, table-room _ (c .before .before .before .before .before .before .before .before .before .args .table .now) _ _ right)
 
 same-length : tie.Need-same-length
 same-length c = search needs
@@ -47,8 +50,10 @@ same-length-2 c = search needs
 
 returns-2 : tie.Need-returns-2
 returns-2 c =
-    let a = c .before .before .before .before .before .before .before .before .before .before .before .before .args in
-    read-acceptance (a .stream .now) (a .table .now) _ _ (at-check (c .before .before .before .before .before .before .before) _ (c .before .before .before .before .before .rows .given .1)) _ (c .before .before .fill .ensures)
+    let fill = c .before .before in
+    let right = at-check (fill .before .before .before .before .before) _ (fill .before .before .before .rows .given .1) in
+    let a = fill .before .before .before .before .before .before .before .before .before .before .args in
+    read-acceptance (a .stream .now) (a .table .now) _ _ right _ (fill .fill .ensures)
 
 pub read-spec : {M : Type 1} → statement M
 read-spec =

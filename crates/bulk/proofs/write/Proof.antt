@@ -6,6 +6,7 @@ use mathlib.Core.Path.{_≡_, sym, ap, _∙_}
 use native.Mathlib.Omega.{arith}
 use lib.ListN.{length}
 use Rattle.spec.specs.Reading.{row-width, read}
+use Rattle.laws.proofs.Steps.{all-bytes}
 use Rattle.reader.specs.Passes.{checked}
 use Rattle.reader.specs.declared.Checked.{Checked}
 use Rattle.bulk.proofs.Told.{Told, told, write-refusal, table-room, write-short, write-acceptance}
@@ -28,32 +29,38 @@ enum-known-length c = search needs
 at-check : (c : tie.After-check) (v : Checked) → c .check .result ≡ v
     → Told (c .before .before .before .before .before .before .args .stream .now) (length (c .before .before .before .before .before .before .args .table .now) / row-width) v
 at-check c v e =
-    told _ _ v (sym e ∙ c .check .ensures ∙ ap (λ (room : ℕ). checked (read (c .before .before .before .before .before .before .args .stream .now) room)) (c .before .rows-available .ensures))
+    let s = c .before .before .before .before .before .before .args .stream .now in
+    told _ _ v (all-bytes s (λ i. c .before .before .before .before .before .shared-slice-known .given i .fits))
+    (sym e ∙ c .check .ensures ∙ ap (λ (room : ℕ). checked (read s room)) (c .before .rows-available .ensures))
 
 fill-requires : tie.Need-fill-requires
 fill-requires c κs =
-    let r = at-check (c .before .before .before .before) _ (c .before .before .length .given .1) in
-    (r .can, table-room _ (c .before .before .before .before .before .before .before .before .before .before .args .table .now) _ _ r)
+    let right = at-check (c .before .before .before .before) _ (c .before .before .length .given .1) in
+    (right .can, table-room _ (c .before .before .before .before .before .before .before .before .before .before .args .table .now) _ _ right)
 
 same-length : tie.Need-same-length
 same-length c = search needs
 
 returns : tie.Need-returns
 returns c =
-    let a = c .before .before .before .before .before .before .before .before .before .before .before .before .before .before .args in
-    write-short (a .stream .now) (a .table .now) _ _ (at-check (c .before .before .before .before .before .before .before .before) _ (c .before .before .before .before .before .before .length .given .1)) _ (a .output .now) (c .before .before .before .fill .ensures) (c .if1 .taken)
+    let fill = c .before .before .before in
+    let right = at-check (fill .before .before .before .before .before) _ (fill .before .before .before .length .given .1) in
+    let a = fill .before .before .before .before .before .before .before .before .before .before .before .args in
+    write-short (a .stream .now) (a .table .now) _ _ right _ (fill .fill .ensures) (a .output .now) (c .if1 .taken)
 
 emit-requires : tie.Need-emit-requires
 emit-requires c κs =
-    let r = at-check (c .before .before .before .before .before .before .before .before .before) _ (c .before .before .before .before .before .before .before .length .given .1) in
-    (r .can, omega (arith, r .sized, c .before .if1 .left))
+    let fill = c .before .before .before .before in
+    let right = at-check (fill .before .before .before .before .before) _ (fill .before .before .before .length .given .1) in
+    (right .can, omega (arith, right .sized, c .before .if1 .left))
 
 same-length-2 : tie.Need-same-length-2
 same-length-2 c = search needs
 
 returns-2 : tie.Need-returns-2
 returns-2 c =
-    let a = c .before .before .before .before .before .before .before .before .before .args in write-refusal (a .stream .now) (a .table .now) (a .output .now) _ _ (at-check (c .before .before .before) _ (c .before .number .given .1))
+    let a = c .before .before .before .before .before .before .before .before .before .args in
+    write-refusal (a .stream .now) (a .table .now) (a .output .now) _ _ (at-check (c .before .before .before) _ (c .before .number .given .1))
 
 same-length-3 : tie.Need-same-length-3
 same-length-3 c = search needs
@@ -63,9 +70,11 @@ same-length-4 c = search needs
 
 returns-3 : tie.Need-returns-3
 returns-3 c =
-    let a = c .before .before .before .before .before .before .before .before .before .before .before .before .before .before .before .before .before .before .args in
-    write-acceptance (a .stream .now) (a .table .now) _ _ (at-check (c .before .before .before .before .before .before .before .before .before .before .before .before) _ (c .before .before .before .before .before .before .before .before .before .before .length .given .1)) _ (a .output .now) _
-    (c .before .before .before .before .before .before .before .fill .ensures) (c .before .before .before .before .if1 .left) (c .before .before .emit .ensures)
+    let emit = c .before .before in
+    let fill = emit .before .before .before .before .before in
+    let right = at-check (fill .before .before .before .before .before) _ (fill .before .before .before .length .given .1) in
+    let a = fill .before .before .before .before .before .before .before .before .before .before .before .args in
+    write-acceptance (a .stream .now) (a .table .now) _ _ right _ (fill .fill .ensures) (a .output .now) _ (emit .before .before .if1 .left) (emit .emit .ensures)
 
 pub write-spec : {M : Type 1} → statement M
 write-spec =

@@ -25,6 +25,9 @@ next-requires c κs = search needs
 answer-requires : tie.Need-answer-requires Inv-loop μ-loop
 answer-requires c κs = search needs
 
+before-reading-requires : tie.Need-before-reading-requires Inv-loop μ-loop
+before-reading-requires c κs = search needs
+
 advance-requires-2 : tie.Need-advance-requires-2 Inv-loop μ-loop
 advance-requires-2 c κs = search needs
 
@@ -51,6 +54,7 @@ main-spec =
     loop-holds
     next-requires
     answer-requires
+    before-reading-requires
     advance-requires-2
     loop-less
     loop-again
