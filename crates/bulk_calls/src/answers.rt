@@ -2,21 +2,18 @@
 ghost use Prim.Native.Nat.{_*_, _≤_, _<_};
 ghost use lib.ListN.{length};
 ghost use Rattle.spec.specs.Reading.{row-width};
+ghost use Rattle.text.specs.Size.{buffer-size};
 use text::Buffer;
 
-fn wide(n: u32) -> u64 {
-    n as u64
-}
-
 fn numbers(buffer: &mut Buffer, used: usize, table: &[u32]) -> usize
-    requires { ⌜ used ≤ 4096 ⌝ }
-    ensures { λ r. ⌜ r ≤ 4096 ⌝ }
+    requires { ⌜ used ≤ buffer-size ⌝ }
+    ensures { λ r. ⌜ r ≤ buffer-size ⌝ }
 {
     let mut at = used;
     let mut i: usize = 0;
     while i < table.len() {
         at = text::byte(buffer, at, b' ');
-        at = text::decimal(buffer, at, wide(table[i]));
+        at = text::number(buffer, at, table[i]);
         i += 1;
     }
     at
@@ -30,15 +27,15 @@ fn digit(n: u8) -> u8
 }
 
 fn hex_byte(buffer: &mut Buffer, used: usize, b: u8) -> usize
-    ensures { λ r. ⌜ r ≤ 4096 ⌝ }
+    ensures { λ r. ⌜ r ≤ buffer-size ⌝ }
 {
     let past_high = text::byte(buffer, used, digit(b / 16));
     text::byte(buffer, past_high, digit(b % 16))
 }
 
 fn hex(buffer: &mut Buffer, used: usize, bytes: &[u8]) -> usize
-    requires { ⌜ used ≤ 4096 ⌝ }
-    ensures { λ r. ⌜ r ≤ 4096 ⌝ }
+    requires { ⌜ used ≤ buffer-size ⌝ }
+    ensures { λ r. ⌜ r ≤ buffer-size ⌝ }
 {
     if bytes.len() == 0 {
         return text::byte(buffer, used, b'-');
@@ -54,16 +51,16 @@ fn hex(buffer: &mut Buffer, used: usize, bytes: &[u8]) -> usize
 
 // `ok` and a number.
 fn accepted(buffer: &mut Buffer, used: usize, given: usize) -> usize
-    requires { ⌜ used ≤ 4096 ⌝ }
-    ensures { λ r. ⌜ r ≤ 4096 ⌝ }
+    requires { ⌜ used ≤ buffer-size ⌝ }
+    ensures { λ r. ⌜ r ≤ buffer-size ⌝ }
 {
     let past_word = text::bytes(buffer, used, b"ok ");
     text::decimal(buffer, past_word, given as u64)
 }
 
 pub fn rows(buffer: &mut Buffer, used: usize, table: &[u32], given: usize) -> usize
-    requires { ⌜ (used ≤ 4096) × (row-width * given ≤ length (now table)) ⌝ }
-    ensures { λ r. ⌜ r ≤ 4096 ⌝ }
+    requires { ⌜ (used ≤ buffer-size) × (row-width * given ≤ length (now table)) ⌝ }
+    ensures { λ r. ⌜ r ≤ buffer-size ⌝ }
 {
     let past_count = accepted(buffer, used, given);
     let end = bulk::ROW_WIDTH * given;
@@ -72,8 +69,8 @@ pub fn rows(buffer: &mut Buffer, used: usize, table: &[u32], given: usize) -> us
 }
 
 pub fn written(buffer: &mut Buffer, used: usize, output: &[u8], given: usize) -> usize
-    requires { ⌜ (used ≤ 4096) × (given ≤ length (now output)) ⌝ }
-    ensures { λ r. ⌜ r ≤ 4096 ⌝ }
+    requires { ⌜ (used ≤ buffer-size) × (given ≤ length (now output)) ⌝ }
+    ensures { λ r. ⌜ r ≤ buffer-size ⌝ }
 {
     let past_length = accepted(buffer, used, given);
     let past_space = text::byte(buffer, past_length, b' ');
@@ -82,15 +79,15 @@ pub fn written(buffer: &mut Buffer, used: usize, output: &[u8], given: usize) ->
 }
 
 pub fn no_part(buffer: &mut Buffer, used: usize) -> usize
-    requires { ⌜ used ≤ 4096 ⌝ }
-    ensures { λ r. ⌜ r ≤ 4096 ⌝ }
+    requires { ⌜ used ≤ buffer-size ⌝ }
+    ensures { λ r. ⌜ r ≤ buffer-size ⌝ }
 {
     text::bytes(buffer, used, b"part empty\n")
 }
 
 pub fn part(buffer: &mut Buffer, used: usize, start: usize, end: usize) -> usize
-    requires { ⌜ used ≤ 4096 ⌝ }
-    ensures { λ r. ⌜ r ≤ 4096 ⌝ }
+    requires { ⌜ used ≤ buffer-size ⌝ }
+    ensures { λ r. ⌜ r ≤ buffer-size ⌝ }
 {
     let past_word = text::bytes(buffer, used, b"part ");
     let past_start = text::decimal(buffer, past_word, start as u64);

@@ -1,5 +1,6 @@
 // The calls that requests ask for.
 ghost use Prim.Native.Nat.{_≤_};
+ghost use Rattle.text.specs.Size.{buffer-size};
 use crate::answers;
 use crate::requests::ItemRequest;
 use crate::requests::ReadRequest;
@@ -39,8 +40,8 @@ fn read(
     stream: &[u8],
     table: &mut [u32],
 ) -> usize
-    requires { ⌜ used ≤ 4096 ⌝ }
-    ensures { λ r. ⌜ r ≤ 4096 ⌝ }
+    requires { ⌜ used ≤ buffer-size ⌝ }
+    ensures { λ r. ⌜ r ≤ buffer-size ⌝ }
 {
     let length = within(asked.stream, stream.len());
     let size = within(asked.table, table.len());
@@ -58,8 +59,8 @@ fn write(
     table: &mut [u32],
     output: &mut [u8],
 ) -> usize
-    requires { ⌜ used ≤ 4096 ⌝ }
-    ensures { λ r. ⌜ r ≤ 4096 ⌝ }
+    requires { ⌜ used ≤ buffer-size ⌝ }
+    ensures { λ r. ⌜ r ≤ buffer-size ⌝ }
 {
     let length = within(asked.stream, stream.len());
     let size = within(asked.table, table.len());
@@ -89,8 +90,8 @@ fn item<'a>(
     stream: &'a [u8],
     result: &'a [u8],
 ) -> usize
-    requires { ⌜ used ≤ 4096 ⌝ }
-    ensures { λ r. ⌜ r ≤ 4096 ⌝ }
+    requires { ⌜ used ≤ buffer-size ⌝ }
+    ensures { λ r. ⌜ r ≤ buffer-size ⌝ }
 {
     let length = within(asked.stream, stream.len());
     let result_length = within(asked.result, result.len());
@@ -114,8 +115,8 @@ pub fn answer<'a>(
     table: &mut Table,
     output: &mut Output,
 ) -> usize
-    requires { ⌜ used ≤ 4096 ⌝ }
-    ensures { λ r. ⌜ r ≤ 4096 ⌝ }
+    requires { ⌜ used ≤ buffer-size ⌝ }
+    ensures { λ r. ⌜ r ≤ buffer-size ⌝ }
 {
     match request {
         Request::Read(asked) => read(buffer, used, asked, stream, table),

@@ -6,12 +6,13 @@ mod requests;
 mod words;
 
 ghost use Prim.Native.Nat.{_≤_};
+ghost use Rattle.text.specs.Size.{buffer-size};
 use text::Buffer;
 
 // Writes out the answers so far if the input that was read is used up, so that no one waits for them.
 fn before_reading(buffer: &Buffer, used: usize, ready: usize) -> usize
-    requires { ⌜ used ≤ 4096 ⌝ }
-    ensures { λ r. ⌜ r ≤ 4096 ⌝ }
+    requires { ⌜ used ≤ buffer-size ⌝ }
+    ensures { λ r. ⌜ r ≤ buffer-size ⌝ }
 {
     if 0 < ready {
         return used;

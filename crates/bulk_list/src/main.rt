@@ -2,23 +2,20 @@
 ghost use Prim.Native.Nat.{_*_, _≤_};
 ghost use lib.ListN.{length};
 ghost use Rattle.spec.specs.Reading.{row-width};
+ghost use Rattle.text.specs.Size.{buffer-size};
 use bulk::Answer;
 use libc::STDIN_FILENO;
 use text::Buffer;
 
-fn wide(n: u32) -> u64 {
-    n as u64
-}
-
 // Prints the numbers of rows, a line for each row.
 fn print_rows(buffer: &mut Buffer, used: usize, numbers: &[u32]) -> usize
-    requires { ⌜ used ≤ 4096 ⌝ }
-    ensures { λ r. ⌜ r ≤ 4096 ⌝ }
+    requires { ⌜ used ≤ buffer-size ⌝ }
+    ensures { λ r. ⌜ r ≤ buffer-size ⌝ }
 {
     let mut at = used;
     let mut i: usize = 0;
     while i < numbers.len() {
-        at = text::decimal(buffer, at, wide(numbers[i]));
+        at = text::number(buffer, at, numbers[i]);
         i += 1;
         at = text::byte(
             buffer,
@@ -35,7 +32,7 @@ fn print_rows(buffer: &mut Buffer, used: usize, numbers: &[u32]) -> usize
 
 fn print_table(buffer: &mut Buffer, table: &[u32], rows: usize) -> usize
     requires { ⌜ row-width * rows ≤ length (now table) ⌝ }
-    ensures { λ r. ⌜ r ≤ 4096 ⌝ }
+    ensures { λ r. ⌜ r ≤ buffer-size ⌝ }
 {
     let past_word = text::bytes(buffer, 0, b"rows ");
     let past_number = text::decimal(buffer, past_word, rows as u64);
@@ -45,7 +42,7 @@ fn print_table(buffer: &mut Buffer, table: &[u32], rows: usize) -> usize
 }
 
 fn list(buffer: &mut Buffer, stream: &[u8], table: &mut [u32]) -> usize
-    ensures { λ r. ⌜ r ≤ 4096 ⌝ }
+    ensures { λ r. ⌜ r ≤ buffer-size ⌝ }
 {
     match bulk::read(stream, table) {
         Answer::Refused { number, place } => text::refused(buffer, 0, number, place),

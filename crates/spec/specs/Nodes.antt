@@ -7,7 +7,7 @@ use lib.Dec.{eqb}
 use Rattle.spec.specs.Expr.{if_then_else_, Atom, if-ref, Expr, atom, form, Exprs, none, more, rows}
 
 -- "Names of the core namespace, marker 0x20": the mixed list of drafts 04 and 05. `version` (00) is looked for at the stream's
--- beginning; like `true` (01), `false` (02) and "all other core names" it stands for itself.
+-- beginning; it stands for itself, as `true` (01) and `false` (02) do: "All other core names stand for themselves."
 abbrev pub core : ℕ
 core = 0x20
 

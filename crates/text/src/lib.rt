@@ -1,6 +1,7 @@
 // Text for standard output, gathered in a buffer so that a call of the system writes much of it. `used` is how many of the buffer's
 // bytes are in use, and each function gives how many are so afterwards.
 ghost use Prim.Native.Nat.{_≤_};
+ghost use Rattle.text.specs.Size.{buffer-size};
 use libc::STDOUT_FILENO;
 
 pub const BUFFER_SIZE: usize = 4096;
@@ -9,7 +10,7 @@ pub type Buffer = [u8; BUFFER_SIZE];
 
 // Adds a byte. If the buffer is full, it is written out first.
 pub fn byte(buffer: &mut Buffer, used: usize, b: u8) -> usize
-    ensures { λ r. ⌜ r ≤ 4096 ⌝ }
+    ensures { λ r. ⌜ r ≤ buffer-size ⌝ }
 {
     if used < BUFFER_SIZE {
         buffer[used] = b;
@@ -22,15 +23,15 @@ pub fn byte(buffer: &mut Buffer, used: usize, b: u8) -> usize
 
 // Writes out what the buffer holds.
 pub fn flush(buffer: &Buffer, used: usize)
-    requires { ⌜ used ≤ 4096 ⌝ }
+    requires { ⌜ used ≤ buffer-size ⌝ }
 {
     let whole: &[u8] = buffer;
     io::write_all(STDOUT_FILENO, &whole[0..used]);
 }
 
 pub fn bytes(buffer: &mut Buffer, used: usize, s: &[u8]) -> usize
-    requires { ⌜ used ≤ 4096 ⌝ }
-    ensures { λ r. ⌜ r ≤ 4096 ⌝ }
+    requires { ⌜ used ≤ buffer-size ⌝ }
+    ensures { λ r. ⌜ r ≤ buffer-size ⌝ }
 {
     let mut at = used;
     let mut i: usize = 0;
@@ -42,18 +43,26 @@ pub fn bytes(buffer: &mut Buffer, used: usize, s: &[u8]) -> usize
 }
 
 pub fn decimal(buffer: &mut Buffer, used: usize, n: u64) -> usize
-    requires { ⌜ used ≤ 4096 ⌝ }
-    ensures { λ r. ⌜ r ≤ 4096 ⌝ }
+    requires { ⌜ used ≤ buffer-size ⌝ }
+    ensures { λ r. ⌜ r ≤ buffer-size ⌝ }
 {
     let mut digits = [0u8; 20];
     let k = io::decimal(n, &mut digits);
     bytes(buffer, used, &digits[..k])
 }
 
+// The same for a number of 32 bits.
+pub fn number(buffer: &mut Buffer, used: usize, n: u32) -> usize
+    requires { ⌜ used ≤ buffer-size ⌝ }
+    ensures { λ r. ⌜ r ≤ buffer-size ⌝ }
+{
+    decimal(buffer, used, n as u64)
+}
+
 // The line of a refusal.
 pub fn refused(buffer: &mut Buffer, used: usize, number: u32, place: usize) -> usize
-    requires { ⌜ used ≤ 4096 ⌝ }
-    ensures { λ r. ⌜ r ≤ 4096 ⌝ }
+    requires { ⌜ used ≤ buffer-size ⌝ }
+    ensures { λ r. ⌜ r ≤ buffer-size ⌝ }
 {
     let past_word = bytes(buffer, used, b"refused ");
     let past_number = decimal(buffer, past_word, number as u64);

@@ -1,11 +1,12 @@
--- `bulk_calls::main` is safe and ends: the measure is how much of the input is left. Assumes nothing.
+-- `bulk_calls::main` is safe and ends: the measure is how much of the input is left.
 use Prim.Native.Nat.{_≤_}
 use borrow.Author.Needs.{needs}
+use Rattle.text.specs.Size.{buffer-size}
 use Rattle.bulk_calls.proofs.main.Statement.{statement}
 use Rattle.bulk_calls.proofs.main.Tie as tie
 
 abbrev Inv-loop : tie.InvT-loop
-Inv-loop source₀ stream₀ result₀ table₀ output₀ buffer₀ used₀ at₀ source stream result table output buffer used at = used ≤ 4096
+Inv-loop source₀ stream₀ result₀ table₀ output₀ buffer₀ used₀ at₀ source stream result table output buffer used at = used ≤ buffer-size
 
 abbrev μ-loop : tie.MeasureT-loop
 μ-loop source₀ stream₀ result₀ table₀ output₀ buffer₀ used₀ at₀ source stream result table output buffer used at = at .left

@@ -1,12 +1,13 @@
--- `bulk_list::print_rows` is safe and ends: the measure is how many numbers are left. Assumes nothing.
+-- `bulk_list::print_rows` is safe and ends: the measure is how many numbers are left.
 use Prim.Native.Nat.{_-_, _≤_}
 use lib.ListN.{length}
 use borrow.Author.Needs.{needs}
+use Rattle.text.specs.Size.{buffer-size}
 use Rattle.bulk_list.proofs.print_rows.Statement.{statement}
 use Rattle.bulk_list.proofs.print_rows.Tie as tie
 
 abbrev Inv-loop : tie.InvT-loop
-Inv-loop buffer₀ used numbers at₀ i₀ buffer at i = at ≤ 4096
+Inv-loop buffer₀ used numbers at₀ i₀ buffer at i = at ≤ buffer-size
 
 abbrev μ-loop : tie.MeasureT-loop
 μ-loop buffer₀ used numbers at₀ i₀ buffer at i = length numbers - i
@@ -14,17 +15,14 @@ abbrev μ-loop : tie.MeasureT-loop
 loop-holds : tie.Need-loop-holds Inv-loop μ-loop
 loop-holds c = search needs
 
-mul-wide : tie.Need-mul-wide Inv-loop μ-loop
-mul-wide c = search needs
+mul-number : tie.Need-mul-number Inv-loop μ-loop
+mul-number c = search needs
 
-shared-slice-read-wide : tie.Need-shared-slice-read-wide Inv-loop μ-loop
-shared-slice-read-wide c = search needs
+shared-slice-read-number : tie.Need-shared-slice-read-number Inv-loop μ-loop
+shared-slice-read-number c = search needs
 
-wide-requires : tie.Need-wide-requires Inv-loop μ-loop
-wide-requires c κs = search needs
-
-decimal-requires : tie.Need-decimal-requires Inv-loop μ-loop
-decimal-requires c κs = search needs
+number-requires : tie.Need-number-requires Inv-loop μ-loop
+number-requires c κs = search needs
 
 add-i : tie.Need-add-i Inv-loop μ-loop
 add-i c = search needs
@@ -48,10 +46,9 @@ print-rows-spec =
     Inv-loop
     μ-loop
     loop-holds
-    mul-wide
-    shared-slice-read-wide
-    wide-requires
-    decimal-requires
+    mul-number
+    shared-slice-read-number
+    number-requires
     add-i
     byte-requires
     loop-less

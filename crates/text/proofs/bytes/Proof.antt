@@ -1,12 +1,13 @@
--- `text::bytes` is safe and ends: the measure is how many bytes are left. Assumes nothing.
+-- `text::bytes` is safe and ends: the measure is how many bytes are left.
 use Prim.Native.Nat.{_-_, _≤_}
 use lib.ListN.{length}
 use borrow.Author.Needs.{needs}
+use Rattle.text.specs.Size.{buffer-size}
 use Rattle.text.proofs.bytes.Statement.{statement}
 use Rattle.text.proofs.bytes.Tie as tie
 
 abbrev Inv-loop : tie.InvT-loop
-Inv-loop buffer₀ used s at₀ i₀ buffer at i = at ≤ 4096
+Inv-loop buffer₀ used s at₀ i₀ buffer at i = at ≤ buffer-size
 
 abbrev μ-loop : tie.MeasureT-loop
 μ-loop buffer₀ used s at₀ i₀ buffer at i = length s - i

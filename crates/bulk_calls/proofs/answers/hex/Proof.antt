@@ -1,12 +1,13 @@
--- `bulk_calls::answers::hex` is safe and ends: the measure is how many bytes are left. Assumes nothing.
+-- `bulk_calls::answers::hex` is safe and ends: the measure is how many bytes are left.
 use Prim.Native.Nat.{_-_, _≤_}
 use lib.ListN.{length}
 use borrow.Author.Needs.{needs}
+use Rattle.text.specs.Size.{buffer-size}
 use Rattle.bulk_calls.proofs.answers.hex.Statement.{statement}
 use Rattle.bulk_calls.proofs.answers.hex.Tie as tie
 
 abbrev Inv-loop : tie.InvT-loop
-Inv-loop buffer₀ used bytes at₀ i₀ buffer at i = at ≤ 4096
+Inv-loop buffer₀ used bytes at₀ i₀ buffer at i = at ≤ buffer-size
 
 abbrev μ-loop : tie.MeasureT-loop
 μ-loop buffer₀ used bytes at₀ i₀ buffer at i = length bytes - i

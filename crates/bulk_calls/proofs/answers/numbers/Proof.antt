@@ -1,12 +1,13 @@
--- `bulk_calls::answers::numbers` is safe and ends: the measure is how many numbers are left. Assumes nothing.
+-- `bulk_calls::answers::numbers` is safe and ends: the measure is how many numbers are left.
 use Prim.Native.Nat.{_-_, _≤_}
 use lib.ListN.{length}
 use borrow.Author.Needs.{needs}
+use Rattle.text.specs.Size.{buffer-size}
 use Rattle.bulk_calls.proofs.answers.numbers.Statement.{statement}
 use Rattle.bulk_calls.proofs.answers.numbers.Tie as tie
 
 abbrev Inv-loop : tie.InvT-loop
-Inv-loop buffer₀ used table at₀ i₀ buffer at i = at ≤ 4096
+Inv-loop buffer₀ used table at₀ i₀ buffer at i = at ≤ buffer-size
 
 abbrev μ-loop : tie.MeasureT-loop
 μ-loop buffer₀ used table at₀ i₀ buffer at i = length table - i
@@ -17,17 +18,14 @@ loop-holds c = search needs
 byte-requires : tie.Need-byte-requires Inv-loop μ-loop
 byte-requires c κs = search needs
 
-mul-wide : tie.Need-mul-wide Inv-loop μ-loop
-mul-wide c = search needs
+mul-number : tie.Need-mul-number Inv-loop μ-loop
+mul-number c = search needs
 
-shared-slice-read-wide : tie.Need-shared-slice-read-wide Inv-loop μ-loop
-shared-slice-read-wide c = search needs
+shared-slice-read-number : tie.Need-shared-slice-read-number Inv-loop μ-loop
+shared-slice-read-number c = search needs
 
-wide-requires : tie.Need-wide-requires Inv-loop μ-loop
-wide-requires c κs = search needs
-
-decimal-requires : tie.Need-decimal-requires Inv-loop μ-loop
-decimal-requires c κs = search needs
+number-requires : tie.Need-number-requires Inv-loop μ-loop
+number-requires c κs = search needs
 
 add-i : tie.Need-add-i Inv-loop μ-loop
 add-i c = search needs
@@ -49,10 +47,9 @@ numbers-spec =
     μ-loop
     loop-holds
     byte-requires
-    mul-wide
-    shared-slice-read-wide
-    wide-requires
-    decimal-requires
+    mul-number
+    shared-slice-read-number
+    number-requires
     add-i
     loop-less
     loop-again

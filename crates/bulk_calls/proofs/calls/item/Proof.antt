@@ -1,4 +1,4 @@
--- `bulk_calls::calls::item` is safe: the part, from its place on, lies in one of the two buffers. Assumes nothing.
+-- `bulk_calls::calls::item` is safe: the part, from its place on, lies in one of the two buffers.
 use borrow.Author.Needs.{needs}
 use Prim.Native.Nat.{ℕ, _-_}
 use native.Mathlib.Omega.{arith}

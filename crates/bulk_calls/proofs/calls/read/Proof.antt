@@ -1,4 +1,4 @@
--- `bulk_calls::calls::read` is safe: as many rows are printed as Read gave, and these are there. Assumes nothing.
+-- `bulk_calls::calls::read` is safe: as many rows are printed as Read gave, and these are there.
 use borrow.Author.Needs.{needs}
 use native.Mathlib.Omega.{arith}
 use lib.ListN.{length-append}

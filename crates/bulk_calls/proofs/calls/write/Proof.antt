@@ -1,4 +1,4 @@
--- `bulk_calls::calls::write` is safe: as many bytes are printed as Write gave, and these are there. Assumes nothing.
+-- `bulk_calls::calls::write` is safe: as many bytes are printed as Write gave, and these are there.
 use borrow.Author.Needs.{needs}
 use native.Mathlib.Omega.{arith}
 use lib.ListN.{length-append}

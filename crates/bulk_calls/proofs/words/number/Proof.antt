@@ -1,4 +1,4 @@
--- `bulk_calls::words::number` is safe and ends: the measure is how much of the input is left. Assumes nothing.
+-- `bulk_calls::words::number` is safe and ends: the measure is how much of the input is left.
 use Prim.Native.Nat.{_≤_}
 use borrow.Author.Needs.{needs}
 use Rattle.bulk_calls.proofs.words.number.Statement.{statement}
