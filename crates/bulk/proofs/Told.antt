@@ -52,6 +52,11 @@ told s room v stream e = rw e (go (read s room) refl)
           sized = ap (λ (x : Exprs). length (canonical x)) (r .means);
         }
 
+-- the same, with the rows that a table has room for
+pub told-table : (s t : List ℕ) (room : ℕ) (v : Checked) → Bytes s → room ≡ length t / row-width → v ≡ checked (read s room)
+    → Told s (length t / row-width) v
+told-table s t room v stream rows e = told s (length t / row-width) v stream (e ∙ ap (λ (k : ℕ). checked (read s k)) rows)
+
 module _ (s t : List ℕ) where
   pub read-refusal : (w p : ℕ) → Told s (length t / row-width) (Wrong w p) → Answered (Read s t) (Refused w p) t []
   unfolding Read
