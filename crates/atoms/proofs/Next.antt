@@ -4,12 +4,12 @@ use mathlib.Core.Path.{_≡_, refl, sym, ap, _∙_}
 use mathlib.Core.List.{List, [], _∷_, _++_, append-assoc}
 use native.Mathlib.Omega.{arith}
 use lib.ListN.{length, take, drop, length-append, length-take, length-drop, take-append-drop}
-use lib.Seq.{drop-drop, take-at, drop-at}
+use lib.Seq.{take-at}
 use Rattle.spec.specs.Expr.{Atom, nil, array, int, ref, atom-bytes}
 use Rattle.spec.specs.Reading.{Token, opening, closing, whole, bad, atom-kind}
 use Rattle.laws.specs.Demands.{Bytes}
 use Rattle.laws.specs.Grammar.{SpellsArray, small, generic}
-use Rattle.laws.proofs.Steps.{tokens-from, WholeAt, StepAt, step-at}
+use Rattle.laws.proofs.Steps.{split-rest, tokens-from, WholeAt, StepAt, step-at}
 use Rattle.atoms.specs.Tokens.{token-at, body, shown, atom-head}
 use Rattle.atoms.specs.declared.Token.{Token as Answer}
 use Rattle.atoms.specs.declared.Token.the-variants.{Opening, Closing, Whole, Bad}
@@ -69,7 +69,7 @@ module _ (s : List ℕ) (p e : ℕ) where
       let split : drop p s ≡ h ++ (bs ++ rest) = sym (take-append-drop (e - p) (drop p s)) ∙ ap (λ (y : List ℕ). y ++ rest) (o .2) ∙ append-assoc h bs rest in
       let place : p + length h ≡ b = omega arith in
       let from-body : drop b s ≡ bs ++ rest =
-      ap (λ (k : ℕ). drop k s) (sym place) ∙ sym (drop-drop (length h) p s) ∙ ap (drop (length h)) split ∙ drop-at h (bs ++ rest) (length h) refl in
+      ap (λ (k : ℕ). drop k s) (sym place) ∙ sym (split-rest s p h (bs ++ rest) split) in
       let count : e - b ≡ length bs = omega arith in
       record {
         atom = array bs;

@@ -10,11 +10,16 @@ use native.Mathlib.Nat.{le-refl, eq-or-lt-of-le}
 use native.Mathlib.Numerals.{add-one}
 use lib.ListN.{length, take, drop, getD, length-take, length-drop}
 use lib.Seq.{drop-cons, drop-drop}
-use lib.Dec.{ltb, leb, eqb}
-use borrow.Author.Tests.{leb-true, lt-ltb, le-ltb, le-leb, lt-leb, ne-eqb}
+use lib.Dec.{eqb}
+use borrow.Author.Tests.{lt-ltb, le-ltb, le-leb, lt-leb, ne-eqb}
 use Rattle.spec.specs.Expr.{if_then_else_}
 use Rattle.spec.specs.Reading.{Taken, taken, failed, and-then, take-bytes, natural, as-length, plain-length, length-expr, marker, name, as-array}
+use Rattle.laws.specs.Demands.{Bytes}
+use Rattle.laws.specs.Grammar.{SpellsLength}
 use Rattle.laws.proofs.Basics.{impossible}
+use Rattle.laws.proofs.Fits.{bytes-drop}
+use Rattle.laws.proofs.Spelling.{SplitOff, plain-taken, length-taken}
+use Rattle.laws.proofs.Steps.{none-left, split-size, split-rest}
 use Rattle.atoms.specs.Tokens.{measured, leading-threes, plain, around, shown-atom}
 use Rattle.atoms.specs.declared.Length.{Length}
 use Rattle.atoms.specs.declared.Length.the-variants.{Is, Wrong}
@@ -25,13 +30,6 @@ use Rattle.atoms.specs.declared.Token.the-variants.{Whole, Bad}
 -- where the bytes begin that are left
 pub left-at : (s : List ℕ) (p : ℕ) → p ≤ length s → length s - length (drop p s) ≡ p
 left-at s p h = rw (length-drop p s) (omega arith)
-
-none-left : (s : List ℕ) (p : ℕ) → p ≡ length s → drop p s ≡ []
-none-left s p h = go (drop p s) (length-drop p s ∙ omega arith)
-  where
-    go : (l : List ℕ) → length l ≡ 0 → l ≡ []
-    go [] e = refl
-    go (b ∷ l) e = absurd (omega arith)
 
 -- the first of the bytes that are left
 first-left : (s : List ℕ) (p : ℕ) → p < length s → drop p s ≡ getD s p 0 ∷ drop (p + 1) s
@@ -140,7 +138,7 @@ module _ (s : List ℕ) (k v p : ℕ) (short : length s ≤ 65536) (inside : p �
 -- a plain length, by its first byte
 module _ (s : List ℕ) (p : ℕ) where
   pub plain-end : p ≡ length s → measured (length s) (plain (drop p s)) ≡ Wrong 2 p
-  plain-end h = rw (none-left s p h) (measured-short s ∙ ap (Wrong 2) (sym h))
+  plain-end h = rw (none-left s p (omega arith)) (measured-short s ∙ ap (Wrong 2) (sym h))
 
   module _ (inside : p < length s) where
     at-byte : (x : Length) → measured (length s) (plain-length (getD s p 0) (drop (p + 1) s)) ≡ x → measured (length s) (plain (drop p s)) ≡ x
@@ -193,7 +191,7 @@ module _ (s : List ℕ) (p : ℕ) where
 module _ (s : List ℕ) (p k : ℕ) where
   pub threes-end : p ≡ length s → leading-threes k (drop p s) ≡ 0
   unfolding leading-threes
-  threes-end h = rw (none-left s p h) (go k)
+  threes-end h = rw (none-left s p (omega arith)) (go k)
     where
       go : (k : ℕ) → leading-threes k [] ≡ 0
       go zero = refl
@@ -263,65 +261,6 @@ threes-few (suc k) (b ∷ s) = go (eqb b 0x03) (leading-threes k s) (threes-few 
     go true j h = (omega arith, omega arith)
     go false j h = (omega arith, omega arith)
 
--- What a length expression leaves is the stream from some place on.
-
-Behind : List ℕ → List ℕ → Type 0
-Behind s t = (e : ℕ) × (e ≤ length s) × (t ≡ drop e s)
-
-abbrev Left : {A : Type 0} → List ℕ → Taken A → Type 0
-Left s (taken a t) = Behind s t
-Left s (failed w t) = Unit {0}
-
-behind-tail : (s t : List ℕ) (b : ℕ) → Behind s (b ∷ t) → Behind s t
-unfolding Behind
-behind-tail s t b (e, l, h) =
-    let size : suc (length t) ≡ length s - e = ap length h ∙ length-drop e s in
-    let both : b ∷ t ≡ getD s e 0 ∷ drop (e + 1) s = h ∙ first-left s e (omega arith) in
-    (e + 1, omega arith, cc)
-
-take-left : (s t : List ℕ) (n : ℕ) → Behind s t → Left s (take-bytes n t)
-unfolding take-bytes Behind
-take-left s t n (e, l, h) = go (leb n (length t)) refl
-  where
-    go : (c : Bool) → leb n (length t) ≡ c → Left s (if c then taken (take n t) (drop n t) else failed 2 [])
-    go true c =
-        let size : length t ≡ length s - e = ap length h ∙ length-drop e s in
-        let fits = leb-true n (length t) c in
-        (e + n, omega arith, ap (drop n) h ∙ drop-drop n e s)
-    go false c = tt
-
-length-left : (s : List ℕ) {A B : Type 0} (x : Taken A) (f : A → B) → Left s x → Left s (and-then x (λ a t. taken (f a) t))
-length-left s (taken a t) f h = h
-length-left s (failed w t) f h = tt
-
-plain-left : (s t : List ℕ) (b : ℕ) → Behind s t → Left s (plain-length b t)
-unfolding plain-length
-plain-left s t b h = go (ltb b 0x80) (ltb b 0xC0)
-  where
-    go : (c d : Bool) → Left s (if c then failed 5 (b ∷ t) else if d then taken (b - 0x80) t else and-then (take-bytes (b - 0xC0) t) as-length)
-    go true d = tt
-    go false true = h
-    go false false = length-left s (take-bytes (b - 0xC0) t) (natural 0) (take-left s t (b - 0xC0) h)
-
-expr-left : (s : List ℕ) (k : ℕ) (t : List ℕ) → Behind s t → Left s (length-expr k t)
-unfolding length-expr
-expr-left s zero [] h = tt
-expr-left s (suc k) [] h = tt
-expr-left s zero (b ∷ t) h = go (eqb b 0x03)
-  where
-    go : (c : Bool) → Left s (if c then failed 6 (b ∷ t) else plain-length b t)
-    go true = tt
-    go false = plain-left s t b (behind-tail s t b h)
-expr-left s (suc k) (b ∷ t) h = go (eqb b 0x03) (length-expr k t) (expr-left s k t (behind-tail s t b h))
-  where
-    inner : (x : Taken ℕ) → Left s x → Left s (and-then x take-bytes)
-    inner (taken n u) l = take-left s u n l
-    inner (failed w u) l = tt
-
-    go : (c : Bool) (x : Taken ℕ) → Left s x → Left s (if c then and-then (and-then x take-bytes) as-length else plain-length b t)
-    go true x l = length-left s (and-then x take-bytes) (natural 0) (inner x l)
-    go false x l = plain-left s t b (behind-tail s t b h)
-
 -- what the code was told of a length
 pub record ToldLength (s : List ℕ) (x : Taken ℕ) (v e : ℕ) : Type 0 where
   pub exact : ℕ
@@ -329,27 +268,32 @@ pub record ToldLength (s : List ℕ) (x : Taken ℕ) (v e : ℕ) : Type 0 where
   pub held : v ≡ min exact 65537
   pub inside : e ≤ length s
 
-told : (s : List ℕ) (x : Taken ℕ) (v e : ℕ) → Left s x → measured (length s) x ≡ Is v e → ToldLength s x v e
-unfolding Behind
-told s (taken n t) v e (q, l, h) m =
+-- a length is spelled by the bytes that it was read from, so that those left begin where these end
+told : (s : List ℕ) (p : ℕ) (x : Taken ℕ) (v e : ℕ) → p ≤ length s
+    → ((n : ℕ) (t : List ℕ) → x ≡ taken n t → SplitOff (SpellsLength 7 n) (drop p s) t) → measured (length s) x ≡ Is v e → ToldLength s x v e
+told s p (taken n t) v e h split m =
+    let o = split n t refl in
     let place : length s - length t ≡ e = cc in
-    let size : length t ≡ length s - q = ap length h ∙ length-drop q s in
-    let same : q ≡ e = omega arith in
-    record { exact = n; is = ap (taken n) (h ∙ ap (λ (k : ℕ). drop k s) same); held = cc; inside = omega arith }
-told s (failed w t) v e h m = impossible (cc)
+    let size = split-size s p (o .front) t (o .is) in
+    let same : p + length (o .front) ≡ e = omega arith in
+    record {
+      exact = n;
+      is = ap (taken n) (split-rest s p (o .front) t (o .is) ∙ ap (λ (k : ℕ). drop k s) same);
+      held = cc;
+      inside = omega arith;
+    }
+told s p (failed w t) v e h split m = impossible (cc)
 
-pub told-plain : (s : List ℕ) (p v e : ℕ) → p ≤ length s → measured (length s) (plain (drop p s)) ≡ Is v e → ToldLength s (plain (drop p s)) v e
-unfolding Behind
-told-plain s p v e h m = told s (plain (drop p s)) v e (go (drop p s) (p, h, refl)) m
-  where
-    go : (t : List ℕ) → Behind s t → Left s (plain t)
-    go [] l = tt
-    go (b ∷ t) l = plain-left s t b (behind-tail s t b l)
+module _ (s : List ℕ) (p v e : ℕ) (stream : Bytes s) (inside : p ≤ length s) where
+  pub told-length : measured (length s) (length-expr 7 (drop p s)) ≡ Is v e → ToldLength s (length-expr 7 (drop p s)) v e
+  told-length m = told s p (length-expr 7 (drop p s)) v e inside (λ n t q. length-taken 7 (drop p s) n t (bytes-drop p s stream) q) m
 
-pub told-length : (s : List ℕ) (p v e : ℕ) → p ≤ length s → measured (length s) (length-expr 7 (drop p s)) ≡ Is v e
-    → ToldLength s (length-expr 7 (drop p s)) v e
-unfolding Behind
-told-length s p v e h m = told s (length-expr 7 (drop p s)) v e (expr-left s 7 (drop p s) (p, h, refl)) m
+  pub told-plain : measured (length s) (plain (drop p s)) ≡ Is v e → ToldLength s (plain (drop p s)) v e
+  told-plain m = told s p (plain (drop p s)) v e inside (go (drop p s) (bytes-drop p s stream)) m
+    where
+      go : (l : List ℕ) → Bytes l → (n : ℕ) (t : List ℕ) → plain l ≡ taken n t → SplitOff (SpellsLength 7 n) l t
+      go [] b n t q = impossible (cc)
+      go (c ∷ l) b n t q = plain-taken 7 c l n t (b .0) q
 
 -- a length that is wrong is wrong for what stands around it
 pub around-wrong : (end k : ℕ) (x : Taken ℕ) (w p : ℕ) → measured end x ≡ Wrong w p → measured end (around k x) ≡ Wrong w p
@@ -366,7 +310,7 @@ array-wrong q end (failed v t) w p m = let number : v ≡ w = cc in let place : 
 module _ (s : List ℕ) (p m : ℕ) where
   pub marker-end : p ≡ length s → marker m (drop p s) ≡ failed 2 []
   unfolding marker
-  marker-end h = rw (none-left s p h)
+  marker-end h = rw (none-left s p (omega arith))
 
   pub marker-more : p < length s → getD s p 0 ≡ 0xFF → marker m (drop p s) ≡ marker (m + getD s p 0) (drop (p + 1) s)
   unfolding marker
@@ -400,7 +344,7 @@ module _ (s : List ℕ) (p : ℕ) where
   module _ (m q : ℕ) where
     pub shown-nameless : q ≡ length s → shown-atom p (length s) (name (drop p s) m (drop q s)) ≡ Bad 2 q
     unfolding name
-    shown-nameless h = rw (none-left s q h) (ap (Bad 2) (omega arith))
+    shown-nameless h = rw (none-left s q (omega arith)) (ap (Bad 2) (omega arith))
 
     pub shown-above : p ≤ length s → q < length s → 65535 < m → shown-atom p (length s) (name (drop p s) m (drop q s)) ≡ Bad 7 p
     unfolding name

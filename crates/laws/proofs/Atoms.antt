@@ -47,7 +47,7 @@ off-take n m s b h = off-choice (SomeBytes n (length s)) m (leb n (length s)) (t
 -- lengths
 
 -- how many canonical bytes an array has before its own
-abbrev head-size : ℕ → ℕ
+abbrev pub head-size : ℕ → ℕ
 head-size n = length (array-head n)
 
 head-small : (n : ℕ) → n < 64 → head-size n ≡ 1
@@ -59,7 +59,7 @@ head-small n h = go (array-head-is n)
     go (four-bytes k) = absurd (omega arith)
 
 -- it has one at least, four at most, and three at most for a length of one byte
-head-bounds : (n : ℕ) → (1 ≤ head-size n) × (head-size n ≤ 4) × (n < 256 → head-size n ≤ 3)
+pub head-bounds : (n : ℕ) → (1 ≤ head-size n) × (head-size n ≤ 4) × (n < 256 → head-size n ≤ 3)
 head-bounds n = go (array-head-is n)
   where
     go : {hs : List ℕ} → Head n hs → (1 ≤ length hs) × (length hs ≤ 4) × (n < 256 → length hs ≤ 3)

@@ -222,7 +222,7 @@ pub record SplitOff (P : List ℕ → Type 0) (s t : List ℕ) : Type 0 where
   pub is : s ≡ front ++ t
   pub holds : P front
 
-plain-taken : (k b : ℕ) (s : List ℕ) (n : ℕ) (t : List ℕ) → b < 256 → plain-length b s ≡ taken n t → SplitOff (SpellsLength k n) (b ∷ s) t
+pub plain-taken : (k b : ℕ) (s : List ℕ) (n : ℕ) (t : List ℕ) → b < 256 → plain-length b s ≡ taken n t → SplitOff (SpellsLength k n) (b ∷ s) t
 unfolding plain-length
 plain-taken k b s n t h e =
     by-choice (ltb b 0x80) _ _ (taken n t) (λ c q. absurd (never-taken 5 (b ∷ s) t n q)) (λ c q.
@@ -249,7 +249,7 @@ plain-taken k b s n t h e =
           holds = as-small {n = n} ds (omega (arith, u .1)) (sym number) (ap (λ (x : ℕ). x ∷ ds) byte);
         }
 
-length-taken : (k : ℕ) (s : List ℕ) (n : ℕ) (t : List ℕ) → Bytes s → length-expr k s ≡ taken n t → SplitOff (SpellsLength k n) s t
+pub length-taken : (k : ℕ) (s : List ℕ) (n : ℕ) (t : List ℕ) → Bytes s → length-expr k s ≡ taken n t → SplitOff (SpellsLength k n) s t
 unfolding length-expr
 length-taken zero [] n t b e = absurd (never-taken 2 [] t n e)
 length-taken (suc k) [] n t b e = absurd (never-taken 2 [] t n e)

@@ -21,6 +21,26 @@ use Rattle.laws.proofs.Reading.{tokens-atom}
 abbrev pub tokens-from : List ℕ → ℕ → List Token
 tokens-from s p = tokens p 0 (drop p s)
 
+-- Places
+
+-- nothing is left at the end
+pub none-left : (s : List ℕ) (p : ℕ) → length s ≤ p → drop p s ≡ []
+none-left s p h = go (drop p s) (length-drop p s ∙ omega arith)
+  where
+    go : (l : List ℕ) → length l ≡ 0 → l ≡ []
+    go [] e = refl
+    go (b ∷ l) e = absurd (omega arith)
+
+-- what is left at p begins with x: how long both are, and where u begins
+module _ (s : List ℕ) (p : ℕ) (x u : List ℕ) (here : drop p s ≡ x ++ u) where
+  pub split-size : length x + length u ≡ length s - p
+  split-size = sym (length-append x u) ∙ ap length (sym here) ∙ length-drop p s
+
+  pub split-rest : u ≡ drop (p + length x) s
+  split-rest = sym (drop-at x u (length x) refl) ∙ ap (drop (length x)) (sym here) ∙ drop-drop (length x) p s
+
+-- Tokens
+
 -- an atom that goes from p to e
 pub record WholeAt (s : List ℕ) (p : ℕ) (a : Atom) (e : ℕ) : Type 0 where
   pub is : tokens-from s p ≡ whole a p e ∷ tokens-from s e
@@ -58,11 +78,10 @@ module _ (s : List ℕ) (p : ℕ) (stream : Bytes s) (inside : p < length s) whe
       let x = o .front in
       let e : ℕ = p + 1 + length (drop (suc p) s) - length u in
       let here : drop p s ≡ x ++ u = from-here ∙ o .is in
-      let size : length x + length u ≡ length s - p = sym (length-append x u) ∙ ap length (sym here) ∙ length-drop p s in
+      let size = split-size s p x u here in
       let behind-size = length-drop (suc p) s in
       let end : e ≡ p + length x = omega arith in
-      let rest : u ≡ drop e s =
-      sym (drop-at x u (length x) refl) ∙ ap (drop (length x)) (sym here) ∙ drop-drop (length x) p s ∙ ap (λ (k : ℕ). drop k s) (sym end) in
+      let rest : u ≡ drop e s = split-rest s p x u here ∙ ap (λ (k : ℕ). drop k s) (sym end) in
       let part : x ≡ take (e - p) (drop p s) = sym (take-at x u (e - p) (omega arith)) ∙ ap (take (e - p)) (sym here) in
       let step : tokens-from s p ≡ whole a p e ∷ tokens-from s e =
       ap (λ (l : List ℕ). tokens p 0 l) here
@@ -91,11 +110,7 @@ module _ (s : List ℕ) (p : ℕ) (stream : Bytes s) (inside : p < length s) whe
 
 pub tokens-end : (s : List ℕ) (p : ℕ) → length s ≤ p → tokens-from s p ≡ []
 unfolding tokens
-tokens-end s p h = go (drop p s) (length-drop p s ∙ omega arith)
-  where
-    go : (l : List ℕ) → length l ≡ 0 → tokens p 0 l ≡ []
-    go [] e = refl
-    go (b ∷ l) e = absurd (omega arith)
+tokens-end s p h = rw (none-left s p h)
 
 -- elements that are bytes, as code knows it
 pub all-bytes : (s : List ℕ) → ((i : ℕ) → getD s i 0 < 256) → Bytes s

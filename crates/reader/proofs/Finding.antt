@@ -4,8 +4,8 @@ use mathlib.Core.Path.{_≡_, refl, sym, ap, _∙_, subst}
 use mathlib.Core.List.{List, [], _∷_, _++_, append-nil}
 use native.Mathlib.Omega.{arith}
 use native.Mathlib.Decide.{decLe}
-use lib.ListN.{length, drop, getD, length-append, length-drop}
-use lib.Seq.{drop-drop, drop-at, getD-drop}
+use lib.ListN.{length, drop, getD, length-drop}
+use lib.Seq.{drop-at, getD-drop}
 use Rattle.spec.specs.Expr.{Expr, atom, form, Exprs, none, more, size, rows, rows-all, deepest}
 use Rattle.spec.specs.Reading.{tokens, check, ends, rows-of}
 use Rattle.spec.specs.Calls.{Buffer, part, no-part, row-at, item}
@@ -15,7 +15,7 @@ use Rattle.laws.proofs.Spelling.{front}
 use Rattle.laws.proofs.Tokens.{right-end, right-opening, right-closing, right-whole, right-bad}
 use Rattle.laws.proofs.Reading.{read-readable, read-meant, check-all}
 use Rattle.laws.proofs.Parsing.{read-spells}
-use Rattle.laws.proofs.Steps.{tokens-from, tokens-end}
+use Rattle.laws.proofs.Steps.{split-size, split-rest, tokens-from, tokens-end}
 use Rattle.laws.proofs.Items.{rows-expr, expr-rows-count, expr-first, item-past}
 use Rattle.atoms.specs.Tokens.{token-at, shown}
 use Rattle.atoms.specs.declared.Token.{Token as Answer}
@@ -171,7 +171,7 @@ module _ (s : List ℕ) (k p n : ℕ) (f : Finding s k p n) where
       go : (es : Exprs) → SpellsAll es (drop p s) → item b (rows-of (tokens-from s p)) n es ≡ no-part
       go none sp = item-past b n none (rows-of (tokens-from s p)) (unfold size in omega arith)
       go (more e es) sp =
-          let size : length (sp .0) + length (sp .1) ≡ length s - p = sym (length-append (sp .0) (sp .1)) ∙ ap length (sym (sp .2)) ∙ length-drop p s in
+          let size = split-size s p (sp .0) (sp .1) (sp .2) in
           absurd (omega (arith, spelled-some e (sp .0) (sp .3)))
 
   pub finding-turn : (e : ℕ) → p < length s → e ≡ row-at (rows-of (tokens-from s p)) 0 .end → Passed s k p n e
@@ -185,9 +185,9 @@ module _ (s : List ℕ) (k p n : ℕ) (f : Finding s k p n) where
           let x = sp .0 in
           let y = sp .1 in
           let q : ℕ = p + length x in
-          let size : length x + length y ≡ length s - p = sym (length-append x y) ∙ ap length (sym (sp .2)) ∙ length-drop p s in
+          let size = split-size s p x y (sp .2) in
           let some = spelled-some c x (sp .3) in
-          let rest : y ≡ drop q s = sym (drop-at x y (length x) refl) ∙ ap (drop (length x)) (sym (sp .2)) ∙ drop-drop (length x) p s in
+          let rest : y ≡ drop q s = split-rest s p x y (sp .2) in
           let own = expr-rows c x (sp .3) p in
           let split : rows-of (tokens-from s p) ≡ own ++ rows-of (tokens-from s q) =
           ap (λ (l : List ℕ). rows-of (tokens p 0 l)) (sp .2)

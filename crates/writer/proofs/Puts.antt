@@ -6,8 +6,6 @@ use lib.ListN.{length, take, drop, length-append, length-drop, take-append-drop}
 use lib.Seq.{length-take-le, take-length, take-at, drop-at, drop-drop, drop-append-le, sets, sets-eq}
 use borrow.Rule.Slice.PartMut.{midOf, postOf, putMid, mid-len}
 use native.Mathlib.Omega.{arith}
-use Rattle.spec.specs.Expr.{array-head}
-use Rattle.laws.proofs.Canonical.{Head, one-byte, three-bytes, four-bytes, array-head-is}
 use Rattle.writer.specs.Bytes.{put-at, Put}
 
 module _ (out : List ℕ) (to : ℕ) (bs : List ℕ) (room : to + length bs ≤ length out) where
@@ -61,12 +59,3 @@ written-on {out} {to} {bs} {new} {mid} {cs} room p q = record {
   place = q .place ∙ rw (p .place, length-append bs cs) (omega arith);
   is = q .is ∙ rw (p .is, p .place) (put-at-more out to bs room cs);
 }
-
--- an array has a head
-pub head-length : (n : ℕ) → 1 ≤ length (array-head n)
-head-length n = go (array-head-is n)
-  where
-    go : {hs : List ℕ} → Head n hs → 1 ≤ length hs
-    go (one-byte h) = omega arith
-    go (three-bytes h k) = omega arith
-    go (four-bytes h) = omega arith

@@ -1,15 +1,15 @@
 -- `atoms::array_at` meets its contract: a length that is wrong, or the array of that many bytes.
 -- Assumes nothing.
 use borrow.Author.Needs.{needs}
-use Prim.Native.Nat.{ℕ, suc, _+_, _≤_, _<_}
+use Prim.Native.Nat.{ℕ, suc, _≤_}
 use mathlib.Core.Path.{_≡_, sym, ap, _∙_}
 use mathlib.Core.List.{List}
 use native.Mathlib.Omega.{arith}
 use native.Mathlib.Numerals.{add-one}
 use lib.ListN.{length, drop, length-drop}
 use Rattle.spec.specs.Reading.{Taken, and-then, take-bytes, length-expr, as-array}
-use Rattle.atoms.specs.Tokens.{shown-atom, measured}
-use Rattle.atoms.specs.declared.Length.{Length}
+use Rattle.laws.proofs.Steps.{all-bytes}
+use Rattle.atoms.specs.Tokens.{shown-atom}
 use Rattle.atoms.specs.declared.Length.the-variants.{Is}
 use Rattle.atoms.proofs.Places.{take-held, ToldLength, told-length, array-wrong}
 use Rattle.atoms.proofs.array_at.Statement.{statement}
@@ -28,14 +28,15 @@ enum-known-value : tie.Need-enum-known-value
 enum-known-value c = search needs
 
 -- what was told of the length
-told-at : (s : List ℕ) (at v e : ℕ) (r : Length) → at < length s → r ≡ measured (length s) (length-expr 7 (drop (at + 1) s)) → r ≡ Is v e
-    → ToldLength s (length-expr 7 (drop (suc at) s)) v e
-told-at s at v e r h m k = told-length s (suc at) v e h (rw (← add-one at) (sym m ∙ k))
+at-length : (c : tie.After-length-at) (v e : ℕ) → c .length-at .result ≡ Is v e
+    → ToldLength (c .before .before .args .s .now) (length-expr 7 (drop (suc (c .before .before .args .at)) (c .before .before .args .s .now))) v e
+at-length c v e told =
+    let a = c .before .before .args in
+    let stream = all-bytes (a .s .now) (λ i. c .before .shared-slice-known .given i .fits) in
+    told-length (a .s .now) (suc (a .at)) v e stream (omega arith) (rw (← add-one (a .at)) (sym (c .length-at .ensures) ∙ told))
 
 bytes-at-requires : tie.Need-bytes-at-requires
-bytes-at-requires c κs =
-    let a = c .before .before .before .before .before .args in
-    told-at (a .s .now) (a .at) _ _ _ (omega arith) (c .before .before .before .length-at .ensures) (c .before .value .given .1) .inside
+bytes-at-requires c κs = at-length (c .before .before .before) _ _ (c .before .value .given .1) .inside
 
 returns : tie.Need-returns
 returns c =
@@ -55,7 +56,7 @@ returns-2 : tie.Need-returns-2
 returns-2 c =
     let a = c .before .before .before .before .before .before .args in
     let s = a .s .now in
-    let t = told-at s (a .at) _ _ _ (omega arith) (c .before .before .before .before .length-at .ensures) (c .before .before .value .given .1) in
+    let t = at-length (c .before .before .before .before) _ _ (c .before .before .value .given .1) in
     c .bytes-at .ensures (a .at)
     ∙ ap (λ (y : Taken (List ℕ)). shown-atom (a .at) (length s) (and-then y as-array)) (told-bytes s _ _ _ (omega arith) t)
 

@@ -8,6 +8,7 @@ use native.Mathlib.Omega.{arith}
 use lib.ListN.{length, drop, length-drop}
 use lib.Seq.{drop-drop}
 use Rattle.spec.specs.Reading.{Taken, taken, failed, length-expr}
+use Rattle.laws.proofs.Steps.{all-bytes}
 use Rattle.atoms.specs.Tokens.{measured, leading-threes, plain, around}
 use Rattle.atoms.proofs.Places.{measured-wrong, threes-few, length-threes, length-many, around-wrong, around-held, ToldLength, told-plain}
 use Rattle.atoms.proofs.length_at.Statement.{statement}
@@ -68,7 +69,8 @@ nested-length-requires : tie.Need-nested-length-requires
 nested-length-requires c κs =
     let a = c .before .before .before .before .before .before .before .args in
     let k = counted (a .s .now) (a .at) _ (omega arith) (c .before .before .before .before .before .threes .ensures) (c .before .before .before .before .if1 .left) in
-    let t = told-plain (a .s .now) _ _ _ (k .inside) (sym (c .before .before .before .plain-length .ensures) ∙ c .before .value .given .1) in
+    let stream = all-bytes (a .s .now) (λ i. c .before .before .before .before .before .before .shared-slice-known .given i .fits) in
+    let t = told-plain (a .s .now) _ _ _ stream (k .inside) (sym (c .before .before .before .plain-length .ensures) ∙ c .before .value .given .1) in
     (omega arith, t .inside, omega (arith, t .held))
 
 returns-2 : tie.Need-returns-2
@@ -93,7 +95,8 @@ returns-3 c =
     let a = c .before .before .before .before .before .before .before .before .args in
     let s = a .s .now in
     let k = counted s (a .at) _ (omega arith) (c .before .before .before .before .before .before .threes .ensures) (c .before .before .before .before .before .if1 .left) in
-    let t = told-plain s _ _ _ (k .inside) (sym (c .before .before .before .before .plain-length .ensures) ∙ c .before .before .value .given .1) in
+    let stream = all-bytes s (λ i. c .before .before .before .before .before .before .before .shared-slice-known .given i .fits) in
+    let t = told-plain s _ _ _ stream (k .inside) (sym (c .before .before .before .before .plain-length .ensures) ∙ c .before .before .value .given .1) in
     c .nested-length .ensures ∙ told-around s _ _ _ _ (omega arith) t ∙ sym (ap (measured (length s)) (k .is))
 
 pub length-at-spec : {M : Type 1} → statement M

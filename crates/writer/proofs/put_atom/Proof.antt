@@ -8,7 +8,8 @@ use native.Mathlib.Omega.{arith}
 use lib.ListN.{length, length-append}
 use Rattle.spec.specs.Expr.{array-head}
 use Rattle.writer.specs.Bytes.{with-head}
-use Rattle.writer.proofs.Puts.{written-on, head-length}
+use Rattle.laws.proofs.Atoms.{head-bounds}
+use Rattle.writer.proofs.Puts.{written-on}
 use Rattle.writer.proofs.put_atom.Statement.{statement}
 use Rattle.writer.proofs.put_atom.Tie as tie
 
@@ -28,7 +29,7 @@ head-room c =
     let n : ℕ = length (a .body .now) in
     let size = ap length (headed (a .kind) (a .body .now) (c .if1 .taken)) ∙ length-append (array-head n) (a .body .now) in
     let pre = c .before .before .before .pre in
-    omega (arith, head-length n)
+    omega (arith, head-bounds n .0)
 
 put-head-requires : tie.Need-put-head-requires
 put-head-requires c κs = omega (arith, head-room (c .before))
