@@ -201,12 +201,12 @@ pub reading-fits : (s t : List ℕ) (rs : List Row) (es : Exprs) → Bytes s →
 reading-fits s t rs es b r = read-meant s (length t / 4) rs es b (read-readable s (length t / 4) rs es r) .fits
 
 -- a run that is cut is refused with 16, 17 or a rule's number
-data CutNumber (v : ℕ) : Type 0 where
+pub data CutNumber (v : ℕ) : Type 0 where
   for-steps : v ≡ 16 → CutNumber v
   for-work : v ≡ 17 → CutNumber v
   for-rule : RuleNumber v → CutNumber v
 
-cut-refused : (es : Exprs) → FitsAll es → (n w v r : ℕ) → cut n w (run es .events) (run es .end) ≡ stopped v r → CutNumber v
+pub cut-refused : (es : Exprs) → FitsAll es → (n w v r : ℕ) → cut n w (run es .events) (run es .end) ≡ stopped v r → CutNumber v
 cut-refused es f n w v r h = go (cut-stopped (run es .events) (run es .end) n w v r h)
   where
     go : StoppedBy (run es .end) v r → CutNumber v
@@ -214,7 +214,7 @@ cut-refused es f n w v r h = go (cut-stopped (run es .events) (run es .end) n w 
     go (by-work k) = for-work k
     go (by-rule k) = for-rule (run-proper es f .stops v r k .0)
 
-not-accepted : (v : ℕ) → CutNumber v → v ≡ 0 → ⊥
+pub not-accepted : (v : ℕ) → CutNumber v → v ≡ 0 → ⊥
 not-accepted v (for-steps k) h = omega arith
 not-accepted v (for-work k) h = omega arith
 not-accepted v (for-rule k) h = not-rule {v = 0} refl k h

@@ -40,7 +40,7 @@ mutual
   expr-rows-count (atom a) x sp p = refl
   expr-rows-count (form es) x sp p = omega (arith, all-rows-count es (sp .0) (sp .2) (p + 1))
 
-  all-rows-count : (es : Exprs) (x : List ℕ) (sp : SpellsAll es x) (p : ℕ) → length (all-rows es x sp p) ≡ rows-all es
+  pub all-rows-count : (es : Exprs) (x : List ℕ) (sp : SpellsAll es x) (p : ℕ) → length (all-rows es x sp p) ≡ rows-all es
   all-rows-count none x sp p = refl
   all-rows-count (more e es) x sp p =
       length-append (expr-rows e (sp .0) (sp .3) p) (all-rows es (sp .1) (sp .4) (p + length (sp .0)))

@@ -12,6 +12,8 @@ pub mod Steps
 pub mod Items
 pub mod Runs
 pub mod Charges
+pub mod Singles
+pub mod Holding
 pub mod Values
 pub mod Prefix
 pub mod Calls

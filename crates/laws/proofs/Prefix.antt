@@ -30,7 +30,7 @@ pub run-first : (q : ℕ) (es : Exprs) (ls : List Exprs) → run es .end ≡ don
 unfolding run
 run-first q es ls e = top-level-first q es 0 [] _ ls e
 
-append-append : (es fs gs : Exprs) → append (append es fs) gs ≡ append es (append fs gs)
+pub append-append : (es fs gs : Exprs) → append (append es fs) gs ≡ append es (append fs gs)
 unfolding append
 append-append none fs gs = refl
 append-append (more e es) fs gs = ap (more e) (append-append es fs gs)

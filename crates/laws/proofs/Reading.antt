@@ -284,7 +284,7 @@ read-spelled es s room sp h l r =
 mutual
   unfolding bytes
 
-  canonical-expr : (e : Expr) → FitsExpr e → Spells e (bytes e)
+  pub canonical-expr : (e : Expr) → FitsExpr e → Spells e (bytes e)
   canonical-expr (atom a) f = canonical-atom a f
   canonical-expr (form es) f = (canonical es, refl, canonical-spells es f)
 

@@ -49,7 +49,7 @@ length-generic : (k : ℕ) (s : List ℕ) → length-expr (suc k) (0x03 ∷ s) �
 unfolding length-expr
 length-generic k s = refl
 
-length-spelled : {k n : ℕ} {x : List ℕ} → SpellsLength k n x → (s : List ℕ) → length-expr k (x ++ s) ≡ taken n s
+pub length-spelled : {k n : ℕ} {x : List ℕ} → SpellsLength k n x → (s : List ℕ) → length-expr k (x ++ s) ≡ taken n s
 length-spelled {k} {n} (as-int h e) s = rw e (length-plain k (0x80 + n) s (λ z. omega arith) ∙ plain-int n s h)
 length-spelled {k} (as-small ds h q e) s = rw (e, q) (length-plain k (0xC0 + length ds) (ds ++ s) (λ z. omega arith) ∙ plain-small ds s)
 length-spelled (as-generic {k = j} ds x l q e) s =

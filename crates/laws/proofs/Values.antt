@@ -3,23 +3,24 @@
 use Prim.Native.Nat.{ℕ, zero, suc, _+_, _≤_, _<_}
 use mathlib.Core.Path.{_≡_, refl}
 use mathlib.Core.List.{List, [], _∷_, _++_}
-use mathlib.Core.Bool.{Bool, true, false, _&&_}
+use mathlib.Core.Bool.{Bool, true, false}
 use native.Mathlib.Omega.{arith}
 use lib.ListN.{drop}
-use lib.Dec.{eqb}
 use Rattle.spec.specs.Expr.{if_then_else_, if-ref, Atom, nil, array, int, ref, Expr, atom, form, Exprs, none, more, only, append, first, without, rows, rows-all, depth, deepest}
 use Rattle.spec.specs.Nodes.{Word, ns, define, concat, subst, arg, rest, plain, Node, leaf, branch, Nodes, empty, cons, number, number-all, elements, tail, head-word, markers}
 use Rattle.spec.specs.Runs.{Event, step, charge, End, done, stopped, Run, stop, give, before, follow, bind}
-use Rattle.spec.specs.Plan.{Defined, value, function, Definition, Scope, Found, latest, nothing, look-up, Place, top, element, inner, Arguments, outside, given, Here, Finish, as-form, as-definition, as-concat, as-call, Plan, refuse, leave, associate, define-function, inside, expect-one, expect-two, expect-ref, expect-array, expect-int, plan-ns, plan-define, plan-definition, plan-concat, plan-arg, plan-rest, plan-head, plan-other, plan-form, plan-reference, plan-atom}
+use Rattle.spec.specs.Plan.{Defined, value, function, Definition, Scope, Found, latest, nothing, look-up, Place, top, element, inner, Arguments, outside, given, Here, Finish, as-form, as-definition, as-concat, as-call, Plan, refuse, leave, associate, define-function, inside, expect-one, expect-two, expect-ref, expect-array, expect-int, plan-ns, plan-define, plan-definition, plan-concat, plan-arg, plan-rest, plan-head, plan-other, plan-form, plan-reference, plan-atom, plan}
 use Rattle.spec.specs.Evaluation.{Left, complete, join, Call, one-value, finish, Meaning, in-order, ns-form, perform, eval, eval-all, run-code, top-level, standing, start, run, result}
 use Rattle.laws.specs.Demands.{Bytes}
+use Rattle.laws.specs.Holding.{beyond, in-list}
 use Rattle.laws.specs.Sanity.{RowsBelow, rule-number, RuleNumber, Proper}
 use Rattle.laws.proofs.Basics.{impossible}
 use Rattle.laws.proofs.Fits.{bytes-append, Fits, FitsExpr, FitsAll}
 use Rattle.laws.proofs.Charges.{Ends, complete-cases}
+use Rattle.laws.proofs.Singles.{EachDefined, EachFound, look-up-each}
 
 -- values that fit and have at most 64 forms one inside another
-abbrev Sound : Exprs → Type 0
+abbrev pub Sound : Exprs → Type 0
 Sound vs = FitsAll vs × (deepest vs ≤ 64)
 
 none-sound : Sound none
@@ -65,13 +66,13 @@ not-rule n p q = impossible (cc)
 -- What is so in a stream of so many rows
 module _ (bound : ℕ) where
   -- a rule's number, at a row of the stream
-  abbrev Stops : ℕ → ℕ → Type 0
+  abbrev pub Stops : ℕ → ℕ → Type 0
   Stops w r = RuleNumber w × (r < bound)
 
   -- a run that names rows of the stream and stops only as a rule says; P holds of its result
-  record Goes {A : Type 0} (P : A → Type 0) (run : Run A) : Type 0 where
-    rows-below : RowsBelow bound (run .events)
-    holds : Ends Stops P (run .end)
+  pub record Goes {A : Type 0} (P : A → Type 0) (run : Run A) : Type 0 where
+    pub rows-below : RowsBelow bound (run .events)
+    pub holds : Ends Stops P (run .end)
 
   rows-append : (es fs : List Event) → RowsBelow bound es → RowsBelow bound fs → RowsBelow bound (es ++ fs)
   rows-append [] fs p q = q
@@ -99,13 +100,16 @@ module _ (bound : ℕ) where
     step-goes : {r : ℕ} {run : Run A} → r < bound → Goes P run → Goes P (before (step r) run)
     step-goes p g = record { rows-below = (p, g .rows-below); holds = g .holds }
 
+  pub goes-proper : {A : Type 0} {P : A → Type 0} {run : Run A} → Goes P run → Proper bound run
+  goes-proper g = record { rows-below = g .rows-below; stops = λ w r p. rw p at (g .holds) }
+
   -- nodes that fit, at rows of the stream
   abbrev mutual
-    FitsNode : Node → Type 0
+    pub FitsNode : Node → Type 0
     FitsNode (leaf r a) = (r < bound) × Fits a
     FitsNode (branch r es) = (r < bound) × FitsNodes es
 
-    FitsNodes : Nodes → Type 0
+    pub FitsNodes : Nodes → Type 0
     FitsNodes empty = Unit {0}
     FitsNodes (cons e es) = FitsNode e × FitsNodes es
 
@@ -116,7 +120,7 @@ module _ (bound : ℕ) where
     number-fits r (atom a) h f = (omega arith, f)
     number-fits r (form es) h f = (omega arith, number-all-fits (r + 1) es (omega arith) f)
 
-    number-all-fits : (r : ℕ) (es : Exprs) → r + rows-all es ≤ bound → FitsAll es → FitsNodes (number-all r es)
+    pub number-all-fits : (r : ℕ) (es : Exprs) → r + rows-all es ≤ bound → FitsAll es → FitsNodes (number-all r es)
     number-all-fits r none h f = tt
     number-all-fits r (more e es) h f = (number-fits r e (omega arith) (f .0), number-all-fits (r + rows e) es (omega arith) (f .1))
 
@@ -130,43 +134,32 @@ module _ (bound : ℕ) where
 
   -- Where an expression is evaluated: values and arguments are sound, and code fits
 
-  abbrev SoundDefined : Defined → Type 0
+  abbrev pub SoundDefined : Defined → Type 0
   SoundDefined (value vs) = Sound vs
   SoundDefined (function es) = FitsNodes es
 
-  abbrev SoundScope : Scope → Type 0
-  SoundScope [] = Unit {0}
-  SoundScope (d ∷ ds) = SoundDefined (d .content) × SoundScope ds
+  abbrev pub SoundScope : Scope → Type 0
+  SoundScope = EachDefined SoundDefined
 
-  abbrev SoundArguments : Arguments → Type 0
+  abbrev pub SoundArguments : Arguments → Type 0
   SoundArguments outside = Unit {0}
   SoundArguments (given vs) = Sound vs
 
-  abbrev SoundHere : Here → Type 0
+  abbrev pub SoundHere : Here → Type 0
   SoundHere h = SoundScope (h .scope) × SoundArguments (h .arguments)
 
-  abbrev SoundFound : Found → Type 0
-  SoundFound (latest d behind) = SoundDefined d × SoundScope behind
-  SoundFound nothing = Unit {0}
-
-  look-up-sound : (m n : ℕ) (ds : Scope) → SoundScope ds → SoundFound (look-up m n ds)
-  unfolding look-up
-  look-up-sound m n [] s = tt
-  look-up-sound m n (d ∷ ds) s = go (eqb (d .marker) m && eqb (d .name) n) (look-up-sound m n ds (s .1))
-    where
-      go : (b : Bool) → SoundFound (look-up m n ds) → SoundFound (if b then latest (d .content) ds else look-up m n ds)
-      go true t = s
-      go false t = t
+  look-up-sound : (m n : ℕ) (ds : Scope) → SoundScope ds → EachFound SoundDefined (look-up m n ds)
+  look-up-sound m n ds s = look-up-each SoundDefined m n ds s
 
   -- Plans: what is to be done for an expression that fits
 
-  abbrev SoundFinish : Finish → Type 0
+  abbrev pub SoundFinish : Finish → Type 0
   SoundFinish as-form = Unit {0}
   SoundFinish (as-definition m n) = Unit {0}
   SoundFinish as-concat = Unit {0}
   SoundFinish (as-call code scope) = FitsNodes code × SoundScope scope
 
-  data SoundPlan : Plan → Type 0 where
+  pub data SoundPlan : Plan → Type 0 where
     refuses : {w : ℕ} → RuleNumber w → SoundPlan (refuse w)
     leaves : {vs : Exprs} → Sound vs → SoundPlan (leave vs)
     associates : {m n : ℕ} {i : List ℕ} → FitsAll (ns-form m n i) → SoundPlan (associate m n i)
@@ -249,7 +242,7 @@ module _ (bound : ℕ) where
   plan-rest-sound n outside s = refuses refl
   plan-rest-sound n (given vs) s = search (if-sound, refuses, leaves (without-sound n vs s))
 
-  plan-head-sound : (f : Found) → SoundFound f → SoundPlan (plan-head f)
+  plan-head-sound : (f : Found) → EachFound SoundDefined f → SoundPlan (plan-head f)
   plan-head-sound (latest (value vs) behind) s = goes-inside tt
   plan-head-sound (latest (function es) behind) s = goes-inside s
   plan-head-sound nothing s = goes-inside tt
@@ -262,7 +255,7 @@ module _ (bound : ℕ) where
       let code : FitsNodes (tail fs) = tail-fits fs (g .0 .1) in
       search (if-sound, goes-inside, tt)
 
-  plan-form-sound : (w : Word) (es : Nodes) (h : Here) → FitsNodes es → SoundHere h → SoundPlan (plan-form w es h)
+  pub plan-form-sound : (w : Word) (es : Nodes) (h : Here) → FitsNodes es → SoundHere h → SoundPlan (plan-form w es h)
   unfolding plan-form
   plan-form-sound ns es h g s = plan-ns-sound (h .place) es h g
   plan-form-sound define es h g s = plan-define-sound (h .place) es h g
@@ -272,24 +265,36 @@ module _ (bound : ℕ) where
   plan-form-sound rest es h g s = expect-one-sound es g λ a fa. expect-int-sound a λ n. plan-rest-sound n (h .arguments) (s .1)
   plan-form-sound plain es h g s = plan-other-sound es (h .scope) g (s .0)
 
-  plan-reference-sound : (f : Found) (a : Atom) → SoundFound f → Fits a → SoundPlan (plan-reference f a)
+  plan-reference-sound : (f : Found) (a : Atom) → EachFound SoundDefined f → Fits a → SoundPlan (plan-reference f a)
   plan-reference-sound (latest (value vs) behind) a s g = leaves (s .0)
   plan-reference-sound (latest (function es) behind) a s g = refuses refl
   plan-reference-sound nothing a s g = leaves (atom-sound a g)
 
-  plan-atom-sound : (a : Atom) (ds : Scope) → Fits a → SoundScope ds → SoundPlan (plan-atom a ds)
+  pub plan-atom-sound : (a : Atom) (ds : Scope) → Fits a → SoundScope ds → SoundPlan (plan-atom a ds)
   unfolding plan-atom
   plan-atom-sound a ds g s =
       if-ref-sound a g
       (λ m n f. search (if-sound, refuses, plan-reference-sound (look-up m n ds) a (look-up-sound m n ds s) g))
       (leaves (atom-sound a g))
 
+  pub plan-sound : (e : Node) (h : Here) → FitsNode e → SoundHere h → SoundPlan (plan e h)
+  plan-sound (leaf r a) h f s = plan-atom-sound a (h .scope) (f .1) (s .0)
+  plan-sound (branch r es) h f s = plan-form-sound (head-word es) es h (f .1) s
+
+  -- a call's code, and the definitions that it sees
+  pub call-sound : (e : Node) (h : Here) (k : ℕ) (p : Place) (code : Nodes) (scope : Scope) → plan e h ≡ inside k p (as-call code scope)
+      → FitsNode e → SoundHere h → FitsNodes code × SoundScope scope
+  call-sound e h k p code scope q f s = go (rw q at (plan-sound e h f s))
+    where
+      go : SoundPlan (inside k p (as-call code scope)) → FitsNodes code × SoundScope scope
+      go (goes-inside g) = g
+
   -- Evaluation: an expression that fits leaves sound values, and what follows is evaluated where all is sound too
 
-  abbrev SoundLeft : Left → Type 0
+  abbrev pub SoundLeft : Left → Type 0
   SoundLeft left = Sound (left .values) × SoundHere (left .here)
 
-  abbrev SoundMeaning : Meaning → Type 0
+  abbrev pub SoundMeaning : Meaning → Type 0
   SoundMeaning m = (h : Here) → SoundHere h → Goes SoundLeft (m h)
 
   abbrev SoundMeanings : List Meaning → Type 0
@@ -322,7 +327,7 @@ module _ (bound : ℕ) where
       bind-goes (m .0 h s) λ left l. bind-goes (in-order-sound es (left .here) (m .1) (l .1))
       λ later k. give-goes (append-sound (left .values) (later .values) (l .0) (k .0), k .1)
 
-  abbrev SoundCall : Call → Type 0
+  abbrev pub SoundCall : Call → Type 0
   SoundCall call = (r : ℕ) (code : Nodes) (h : Here) → r < bound → FitsNodes code → SoundHere h → Goes SoundLeft (call r code h)
 
   module _ (call : Call) (calls : SoundCall call) where
@@ -349,21 +354,34 @@ module _ (bound : ℕ) where
     mutual
       unfolding eval
 
-      eval-sound : (e : Node) → FitsNode e → SoundMeaning (eval call e)
-      eval-sound (leaf r a) f h s = step-goes (f .0) (perform-sound r [] h (f .0) (plan-atom-sound a (h .scope) (f .1) (s .0)) tt s)
+      pub eval-sound : (e : Node) → FitsNode e → SoundMeaning (eval call e)
+      eval-sound (leaf r a) f h s = step-goes (f .0) (perform-sound r [] h (f .0) (plan-sound (leaf r a) h f s) tt s)
       eval-sound (branch r es) f h s =
           step-goes (f .0)
-          (perform-sound r (eval-all call es) h (f .0) (plan-form-sound (head-word es) es h (f .1) s) (eval-all-sound es (f .1)) s)
+          (perform-sound r (eval-all call es) h (f .0) (plan-sound (branch r es) h f s) (eval-all-sound es (f .1)) s)
 
       eval-all-sound : (es : Nodes) → FitsNodes es → SoundMeanings (eval-all call es)
       eval-all-sound empty f = tt
       eval-all-sound (cons e es) f = (λ h s. eval-sound e (f .0) h s, eval-all-sound es (f .1))
 
-  run-code-sound : (k : ℕ) → SoundCall (run-code k)
+  pub run-code-sound : (k : ℕ) → SoundCall (run-code k)
   unfolding run-code
   run-code-sound zero r code h q f s = stop-goes refl q
   run-code-sound (suc k) r code h q f s =
       in-order-sound (eval-all (run-code k) code) h (eval-all-sound (run-code k) (run-code-sound k) code f) s
+
+  module _ (k : ℕ) where
+    pub in-list-sound : (es : Nodes) (p : Place) (h : Here) → FitsNodes es → SoundHere h → Goes SoundLeft (in-list (run-code k) es p h)
+    unfolding in-list
+    in-list-sound empty p h f s = give-goes (none-sound, s)
+    in-list-sound (cons e es) p h f s =
+        bind-goes (eval-sound (run-code k) (run-code-sound k) e (f .0) (standing p h) s)
+        λ left l. bind-goes (in-list-sound es (beyond e p) (left .here) (f .1) (l .1))
+        λ later m. give-goes (append-sound (left .values) (later .values) (l .0) (m .0), m .1)
+
+    pub in-list-left : (es : Nodes) (p : Place) (h : Here) (left : Left) → FitsNodes es → SoundHere h → in-list (run-code k) es p h .end ≡ done left
+        → Sound (left .values) × SoundHere (left .here)
+    in-list-left es p h left f s q = rw q at (in-list-sound es p h f s .holds)
 
   top-level-sound : (earlier : List ℕ) (es : Nodes) (h : Here) → FitsNodes es → SoundHere h →
       Goes (λ ls. Sound (result ls)) (top-level earlier es h)
@@ -384,4 +402,4 @@ pub run-fits : (es : Exprs) (ls : List Exprs) → FitsAll es → run es .end ≡
 run-fits es ls f p = rw p at (run-goes es f .holds)
 
 pub run-proper : (es : Exprs) → FitsAll es → Proper (rows-all es) (run es)
-run-proper es f = let g = run-goes es f in record { rows-below = g .rows-below; stops = λ w r p. rw p at (g .holds) }
+run-proper es f = goes-proper (rows-all es) (run-goes es f)

@@ -1,3 +1,4 @@
 pub mod Demands
 pub mod Grammar
+pub mod Holding
 pub mod Sanity

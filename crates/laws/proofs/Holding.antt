@@ -1,0 +1,303 @@
+-- Laws of `hold`: how a run in two parts is held, what one event costs, and that it ends as `cut` says. And how a list of nodes is held:
+-- a form's elements, a call's code, the top level.
+use Prim.Native.Nat.{ℕ, zero, suc, _+_, _-_, _≤_, _<_}
+use mathlib.Core.Path.{_≡_, refl, sym, ap, _∙_}
+use mathlib.Core.List.{List, [], _∷_, _++_}
+use mathlib.Core.Bool.{Bool, true, false}
+use lib.ListN.{length, drop}
+use lib.Dec.{ltb, eqb}
+use borrow.Author.Tests.{ltb-false, eqb-false, lt-ltb, le-ltb, ne-eqb}
+use native.Mathlib.Omega.{arith}
+use Rattle.spec.specs.Expr.{if_then_else_, Exprs, none, append, deepest, canonical}
+use Rattle.spec.specs.Nodes.{Node, Nodes, empty, cons, number-all, markers}
+use Rattle.spec.specs.Runs.{Event, step, charge, End, done, stopped, Run, give, stop, before, follow, bind, cut, steps-in}
+use Rattle.spec.specs.Plan.{Place, top, element, inner, Here}
+use Rattle.spec.specs.Evaluation.{Left, standing, complete, Call, in-order, eval, eval-all, run-code, top-level, start, run, result}
+use Rattle.laws.specs.Holding.{Held, kept, ceased, hold-events, hold, and-hold, forget, beyond, NotTop, together, in-list, skip}
+use Rattle.laws.specs.Sanity.{RowsBelow, Proper}
+use Rattle.laws.proofs.Basics.{impossible}
+use Rattle.laws.proofs.Runs.{charges}
+use Rattle.laws.proofs.Singles.{eval-place}
+
+-- and-hold
+
+module _ {A B : Type 0} where
+  -- the same, if what follows is the same
+  pub and-hold-same : (x : Held A) {f g : A → ℕ → ℕ → Held B} → ((a : A) (s w : ℕ) → x ≡ kept a s w → f a s w ≡ g a s w)
+      → and-hold x f ≡ and-hold x g
+  and-hold-same (kept a s w) h = h a s w refl
+  and-hold-same (ceased v r) h = refl
+
+  pub and-hold-twice : {C : Type 0} (x : Held A) (f : A → ℕ → ℕ → Held B) (g : B → ℕ → ℕ → Held C)
+      → and-hold (and-hold x f) g ≡ and-hold x (λ a s w. and-hold (f a s w) g)
+  and-hold-twice (kept a s w) f g = refl
+  and-hold-twice (ceased v r) f g = refl
+
+  -- what follows, in two parts
+  pub and-hold-then : {C : Type 0} (x : Held A) {f : A → ℕ → ℕ → Held C} (g : A → ℕ → ℕ → Held B) (k : B → ℕ → ℕ → Held C)
+      → ((a : A) (s w : ℕ) → x ≡ kept a s w → f a s w ≡ and-hold (g a s w) k) → and-hold x f ≡ and-hold (and-hold x g) k
+  and-hold-then (kept a s w) g k h = h a s w refl
+  and-hold-then (ceased v r) g k h = refl
+
+  and-hold-if : (b : Bool) (v r : ℕ) (x : Held A) {y : Held B} (f : A → ℕ → ℕ → Held B) → y ≡ and-hold x f
+      → (if b then ceased v r else y) ≡ and-hold (if b then ceased v r else x) f
+  and-hold-if true v r x f h = refl
+  and-hold-if false v r x f h = h
+
+  -- a run, then what follows from its result
+
+  hold-follow : (es : List Event) (e : End A) (f : A → Run B) (s w : ℕ)
+      → hold s w (follow es e f) ≡ and-hold (hold-events s w es e) (λ a s′ w′. hold s′ w′ (f a))
+  unfolding hold-events
+  hold-follow [] (done a) f s w = refl
+  hold-follow [] (stopped v r) f s w = refl
+  hold-follow (step r ∷ es) (done a) f s w =
+      and-hold-if (eqb s 0) 16 r (hold-events (s - 1) w es (done a)) _ (hold-follow es (done a) f (s - 1) w)
+  hold-follow (step r ∷ es) (stopped v q) f s w =
+      and-hold-if (eqb s 0) 16 r (hold-events (s - 1) w es (stopped v q)) _ (hold-follow es (stopped v q) f (s - 1) w)
+  hold-follow (charge r n ∷ es) (done a) f s w =
+      and-hold-if (ltb w n) 17 r (hold-events s (w - n) es (done a)) _ (hold-follow es (done a) f s (w - n))
+  hold-follow (charge r n ∷ es) (stopped v q) f s w =
+      and-hold-if (ltb w n) 17 r (hold-events s (w - n) es (stopped v q)) _ (hold-follow es (stopped v q) f s (w - n))
+
+  pub hold-bind : (s w : ℕ) (run : Run A) (f : A → Run B) → hold s w (bind run f) ≡ and-hold (hold s w run) (λ a s′ w′. hold s′ w′ (f a))
+  hold-bind s w run f = hold-follow (run .events) (run .end) f s w
+
+-- the result turned into another
+abbrev held-map : {A B : Type 0} → Held A → (A → B) → Held B
+held-map x f = and-hold x (λ a s w. kept (f a) s w)
+
+held-map-twice : {A B C : Type 0} (x : Held A) (f : A → B) (g : B → C) → held-map (held-map x f) g ≡ held-map x (λ a. g (f a))
+held-map-twice x f g = and-hold-twice x (λ a s w. kept (f a) s w) (λ b s w. kept (g b) s w)
+
+-- hold, by a run's beginning
+
+module _ {A : Type 0} (s w : ℕ) where
+  pub hold-give : (a : A) → hold s w (give a) ≡ kept a s w
+  unfolding hold-events
+  hold-give a = refl
+
+  pub hold-stop : (v r : ℕ) → hold s w (stop {A = A} v r) ≡ ceased v r
+  unfolding hold-events
+  hold-stop v r = refl
+
+  module _ (r : ℕ) (run : Run A) where
+    -- "if they would take one more, it is 16"
+    pub hold-step-none : s ≡ 0 → hold s w (before (step r) run) ≡ ceased 16 r
+    unfolding hold-events
+    hold-step-none h = rw h
+
+    pub hold-step : 0 < s → hold s w (before (step r) run) ≡ hold (s - 1) w run
+    unfolding hold-events
+    hold-step h = rw (ne-eqb s 0 (λ e. omega arith))
+
+    -- 17: "workspace charge doesn't fit"
+    pub hold-charge-none : (n : ℕ) → w < n → hold s w (before (charge r n) run) ≡ ceased 17 r
+    unfolding hold-events
+    hold-charge-none n h = rw (lt-ltb w n h)
+
+    pub hold-charge : (n : ℕ) → n ≤ w → hold s w (before (charge r n) run) ≡ hold s (w - n) run
+    unfolding hold-events
+    hold-charge n h = rw (le-ltb w n h)
+
+module _ (s w r : ℕ) (vs : Exprs) (h : Here) where
+  pub hold-complete-deep : 64 < deepest vs → hold s w (complete r vs h) ≡ ceased 6 r
+  hold-complete-deep d = rw (lt-ltb 64 (deepest vs) d) (hold-stop s w 6 r)
+
+  pub hold-complete-none : deepest vs ≤ 64 → w < length (canonical vs) → hold s w (complete r vs h) ≡ ceased 17 r
+  hold-complete-none d l = rw (le-ltb 64 (deepest vs) d) (hold-charge-none s w r _ (length (canonical vs)) l)
+
+  pub hold-complete : deepest vs ≤ 64 → length (canonical vs) ≤ w
+      → hold s w (complete r vs h) ≡ kept (record { values = vs; here = h }) s (w - length (canonical vs))
+  hold-complete d l =
+      let left : Left = record { values = vs; here = h } in
+      rw (le-ltb 64 (deepest vs) d) (hold-charge s w r (give left) (length (canonical vs)) l ∙ hold-give s (w - length (canonical vs)) left)
+
+-- hold, by its answer
+
+module _ {A : Type 0} where
+  forget-if : (b : Bool) (v r : ℕ) {x : End A} (y : Held A) → x ≡ forget y → (if b then stopped v r else x) ≡ forget (if b then ceased v r else y)
+  forget-if true v r y h = refl
+  forget-if false v r y h = h
+
+  hold-events-cut : (es : List Event) (e : End A) (s w : ℕ) → cut s w es e ≡ forget (hold-events s w es e)
+  unfolding cut hold-events
+  hold-events-cut [] (done a) s w = refl
+  hold-events-cut [] (stopped v r) s w = refl
+  hold-events-cut (step r ∷ es) e s w = forget-if (eqb s 0) 16 r (hold-events (s - 1) w es e) (hold-events-cut es e (s - 1) w)
+  hold-events-cut (charge r n ∷ es) e s w = forget-if (ltb w n) 17 r (hold-events s (w - n) es e) (hold-events-cut es e s (w - n))
+
+  pub hold-cut : (s w : ℕ) (run : Run A) → cut s w (run .events) (run .end) ≡ forget (hold s w run)
+  hold-cut s w run = hold-events-cut (run .events) (run .end) s w
+
+  not-ceased : (b : Bool) (v r : ℕ) (x : Held A) (a : A) (s w : ℕ) → (if b then ceased v r else x) ≡ kept a s w → (b ≡ false) × (x ≡ kept a s w)
+  not-ceased true v r x a s w h = impossible (cc)
+  not-ceased false v r x a s w h = (refl, h)
+
+  hold-events-kept : (es : List Event) (e : End A) (s w : ℕ) (a : A) (s′ w′ : ℕ) → hold-events s w es e ≡ kept a s′ w′
+      → (e ≡ done a) × (s′ + steps-in es ≡ s) × (w′ + charges es ≡ w)
+  unfolding hold-events steps-in charges
+  hold-events-kept [] (done b) s w a s′ w′ h =
+      let p : b ≡ a = cc in let q : s ≡ s′ = cc in let t : w ≡ w′ = cc in
+      (rw p, omega arith, omega arith)
+  hold-events-kept [] (stopped v r) s w a s′ w′ h = impossible (cc)
+  hold-events-kept (step r ∷ es) e s w a s′ w′ h =
+      let k = not-ceased (eqb s 0) 16 r (hold-events (s - 1) w es e) a s′ w′ h in
+      let on = hold-events-kept es e (s - 1) w a s′ w′ (k .1) in
+      (on .0, omega (arith, eqb-false s 0 (k .0), on .1), on .2)
+  hold-events-kept (charge r n ∷ es) e s w a s′ w′ h =
+      let k = not-ceased (ltb w n) 17 r (hold-events s (w - n) es e) a s′ w′ h in
+      let on = hold-events-kept es e s (w - n) a s′ w′ (k .1) in
+      (on .0, on .1, omega (arith, ltb-false w n (k .0), on .2))
+
+  pub hold-kept : (s w : ℕ) (run : Run A) (a : A) (s′ w′ : ℕ) → hold s w run ≡ kept a s′ w′
+      → (run .end ≡ done a) × (s′ + steps-in (run .events) ≡ s) × (w′ + charges (run .events) ≡ w)
+  hold-kept s w run a s′ w′ h = hold-events-kept (run .events) (run .end) s w a s′ w′ h
+
+  -- the row named is one of the run's
+  module _ (n : ℕ) (e : End A) (stops : (v r : ℕ) → e ≡ stopped v r → r < n) where
+    ceased-choice : (b : Bool) (u q : ℕ) (x : Held A) (v r : ℕ) → q < n → (x ≡ ceased v r → r < n)
+        → (if b then ceased u q else x) ≡ ceased v r → r < n
+    ceased-choice true u q x v r l f h = let p : q ≡ r = cc in omega arith
+    ceased-choice false u q x v r l f h = f h
+
+    hold-events-row : (es : List Event) (s w v r : ℕ) → RowsBelow n es → hold-events s w es e ≡ ceased v r → r < n
+    unfolding hold-events
+    hold-events-row [] s w v r b h = go e refl h
+      where
+        go : (x : End A) → e ≡ x → hold-events s w [] x ≡ ceased v r → r < n
+        go (done a) p h = impossible (cc)
+        go (stopped u q) p h = stops v r (cc)
+    hold-events-row (step q ∷ es) s w v r b h =
+        ceased-choice (eqb s 0) 16 q (hold-events (s - 1) w es e) v r (b .0) (λ k. hold-events-row es (s - 1) w v r (b .1) k) h
+    hold-events-row (charge q m ∷ es) s w v r b h =
+        ceased-choice (ltb w m) 17 q (hold-events s (w - m) es e) v r (b .0) (λ k. hold-events-row es s (w - m) v r (b .1) k) h
+
+  pub hold-ceased-row : (n s w : ℕ) (run : Run A) (v r : ℕ) → Proper n run → hold s w run ≡ ceased v r → r < n
+  hold-ceased-row n s w run v r p h = hold-events-row n (run .end) (λ v r q. p .stops v r q .1) (run .events) s w v r (p .rows-below) h
+
+-- Lists of nodes
+
+beyond-same : (e : Node) (p : Place) → NotTop p → beyond e p ≡ p
+beyond-same e element t = refl
+beyond-same e inner t = refl
+
+standing-same : (p : Place) (h : Here) → h .place ≡ p → standing p h ≡ h
+standing-same p h q = rw (← q)
+
+-- what is left, as standing in a place
+abbrev settled : Place → Left → Left
+settled p left = record { values = left .values; here = standing p (left .here) }
+
+module _ (call : Call) where
+  pub hold-list-empty : (p : Place) (h : Here) (s w : ℕ) → hold s w (in-list call empty p h) ≡ kept (record { values = none; here = h }) s w
+  unfolding in-list hold-events
+  hold-list-empty p h s w = refl
+
+  -- the first of a list, then the others
+  pub hold-list : (e : Node) (es : Nodes) (p : Place) (h : Here) (s w : ℕ) → hold s w (in-list call (cons e es) p h)
+      ≡ and-hold (hold s w (eval call e (standing p h))) (λ one s′ w′.
+      and-hold (hold s′ w′ (in-list call es (beyond e p) (one .here))) (λ others s″ w″. kept (together one others) s″ w″))
+  unfolding in-list hold-events
+  hold-list e es p h s w =
+      let ev : Run Left = eval call e (standing p h) in
+      let ls : Left → Run Left = λ one. in-list call es (beyond e p) (one .here) in
+      rw (hold-bind s w ev (λ one. bind (ls one) λ others. give (together one others)))
+      (and-hold-same (hold s w ev) λ one s′ w′ q. hold-bind s′ w′ (ls one) (λ others. give (together one others)))
+
+  pub drop-skip : (k : ℕ) (es : Nodes) → drop k (eval-all call es) ≡ eval-all call (skip k es)
+  unfolding eval skip
+  drop-skip zero es = refl
+  drop-skip (suc k) empty = refl
+  drop-skip (suc k) (cons e es) = drop-skip k es
+
+  module _ (p : Place) (inside : NotTop p) where
+    -- `in-order` is held as `in-list` is, but for the place that what follows would stand in
+    abbrev Ordered : Nodes → Type 0
+    Ordered es = (h : Here) (s w : ℕ) → hold s w (in-order (eval-all call es) (standing p h))
+        ≡ held-map (hold s w (in-list call es p h)) (settled p)
+
+    others-ordered : (es : Nodes) → Ordered es → (one : Left) → one .here .place ≡ p → (s w : ℕ)
+        → hold s w (bind (in-order (eval-all call es) (one .here)) (λ later. give (together one later)))
+        ≡ held-map (hold s w (bind (in-list call es p (one .here)) (λ later. give (together one later)))) (settled p)
+    unfolding hold-events
+    others-ordered es on one q s w =
+        let ms : Run Left = in-order (eval-all call es) (one .here) in
+        let ls : Run Left = in-list call es p (one .here) in
+        let a : hold s w ms ≡ held-map (hold s w ls) (settled p) = rw (standing-same p (one .here) q) at (on (one .here) s w) in
+        rw (hold-bind s w ms (λ later. give (together one later)), hold-bind s w ls (λ later. give (together one later)), a)
+        (held-map-twice (hold s w ls) (settled p) (together one) ∙ sym (held-map-twice (hold s w ls) (together one) (settled p)))
+
+    in-order-list : (es : Nodes) → Ordered es
+    unfolding in-order in-list eval hold-events
+    in-order-list empty h s w = refl
+    in-order-list (cons e es) h s w =
+        let ev : Run Left = eval call e (standing p h) in
+        rw (
+          beyond-same e p inside,
+          hold-bind s w ev (λ one. bind (in-order (eval-all call es) (one .here)) λ later. give (together one later)),
+          hold-bind s w ev (λ one. bind (in-list call es p (one .here)) λ later. give (together one later)),
+        )
+        (and-hold-then (hold s w ev) _ _ λ one s′ w′ q.
+        others-ordered es (in-order-list es) one (eval-place call e (standing p h) one (hold-kept s w ev one s′ w′ q .0)) s′ w′)
+
+  -- the elements of a form, without the first so many, then what follows from their values
+  pub hold-inside : {B : Type 0} (p : Place) → NotTop p → (k : ℕ) (es : Nodes) (h : Here) (f : Exprs → Run B) (s w : ℕ)
+      → hold s w (bind (in-order (drop k (eval-all call es)) (standing p h)) (λ left. f (left .values)))
+      ≡ and-hold (hold s w (in-list call (skip k es) p h)) (λ left s′ w′. hold s′ w′ (f (left .values)))
+  hold-inside p t k es h f s w =
+      let ms : Run Left = in-order (eval-all call (skip k es)) (standing p h) in
+      let ls : Run Left = in-list call (skip k es) p h in
+      rw (drop-skip k es, hold-bind s w ms (λ left. f (left .values)), in-order-list p t (skip k es) h s w)
+      (and-hold-twice (hold s w ls) (λ left s′ w′. kept (settled p left) s′ w′) (λ left s′ w′. hold s′ w′ (f (left .values))))
+
+-- 19: "more than [..] 32 codes in progress"
+pub hold-code-none : {B : Type 0} (r : ℕ) (code : Nodes) (h : Here) (f : Left → Run B) (s w : ℕ)
+    → hold s w (bind (run-code zero r code h) f) ≡ ceased 19 r
+unfolding run-code hold-events
+hold-code-none r code h f s w = refl
+
+-- the code of a call, then what follows from its values
+pub hold-code : {B : Type 0} (k r : ℕ) (code : Nodes) (h : Here) → h .place ≡ inner → (f : Exprs → Run B) (s w : ℕ)
+    → hold s w (bind (run-code (suc k) r code h) (λ left. f (left .values)))
+    ≡ and-hold (hold s w (in-list (run-code k) code inner h)) (λ left s′ w′. hold s′ w′ (f (left .values)))
+unfolding run-code skip
+hold-code k r code h q f s w = rw (standing-same inner h q) at (hold-inside (run-code k) inner tt 0 code h f s w)
+
+-- the top level, and its values
+
+abbrev TopLevel : Nodes → Type 0
+TopLevel es = (earlier : List ℕ) (h : Here) (s w : ℕ) → held-map (hold s w (top-level earlier es h)) result
+    ≡ held-map (hold s w (in-list (run-code 32) es (top earlier) h)) (λ left. left .values)
+
+others-top-level : (es : Nodes) → TopLevel es → (earlier : List ℕ) (one : Left) (s w : ℕ)
+    → held-map (hold s w (bind (top-level earlier es (one .here)) (λ ls. give (one .values ∷ ls)))) result
+    ≡ held-map (hold s w (bind (in-list (run-code 32) es (top earlier) (one .here)) (λ later. give (together one later)))) (λ left. left .values)
+unfolding result hold-events
+others-top-level es on earlier one s w =
+    let ts : Run (List Exprs) = top-level earlier es (one .here) in
+    let ls : Run Left = in-list (run-code 32) es (top earlier) (one .here) in
+    let a : held-map (hold s w ts) (λ ls. append (one .values) (result ls))
+    ≡ held-map (hold s w ls) (λ left. append (one .values) (left .values))
+    = sym (held-map-twice (hold s w ts) result (append (one .values)))
+    ∙ (ap (λ (x : Held Exprs). held-map x (append (one .values))) (on earlier (one .here) s w)
+    ∙ held-map-twice (hold s w ls) (λ left. left .values) (append (one .values))) in
+    rw (hold-bind s w ts (λ ls. give (one .values ∷ ls)), hold-bind s w ls (λ later. give (together one later)))
+    (held-map-twice (hold s w ts) (λ ls. one .values ∷ ls) result
+    ∙ (a ∙ sym (held-map-twice (hold s w ls) (together one) (λ left. left .values))))
+
+top-level-list : (es : Nodes) → TopLevel es
+unfolding top-level result in-list hold-events
+top-level-list empty earlier h s w = refl
+top-level-list (cons e es) earlier h s w =
+    let ev : Run Left = eval (run-code 32) e (standing (top earlier) h) in
+    let next : List ℕ = markers e ++ earlier in
+    let ts : Left → Run (List Exprs) = λ one. bind (top-level next es (one .here)) λ ls. give (one .values ∷ ls) in
+    let ls : Left → Run Left = λ one. bind (in-list (run-code 32) es (top next) (one .here)) λ later. give (together one later) in
+    rw (hold-bind s w ev ts, hold-bind s w ev ls)
+    (and-hold-twice (hold s w ev) _ _ ∙ and-hold-then (hold s w ev) _ _ λ one s′ w′ q. others-top-level es (top-level-list es) next one s′ w′)
+
+pub hold-run : (es : Exprs) (s w : ℕ) → hold s w (bind (run es) (λ ls. give (result ls)))
+    ≡ and-hold (hold s w (in-list (run-code 32) (number-all 0 es) (top []) start)) (λ left s′ w′. kept (left .values) s′ w′)
+unfolding run hold-events
+hold-run es s w = hold-bind s w (run es) (λ ls. give (result ls)) ∙ top-level-list (number-all 0 es) [] start s w
