@@ -32,7 +32,7 @@ pub left-at : (s : List ℕ) (p : ℕ) → p ≤ length s → length s - length 
 left-at s p h = rw (length-drop p s) (omega arith)
 
 -- the first of the bytes that are left
-first-left : (s : List ℕ) (p : ℕ) → p < length s → drop p s ≡ getD s p 0 ∷ drop (p + 1) s
+pub first-left : (s : List ℕ) (p : ℕ) → p < length s → drop p s ≡ getD s p 0 ∷ drop (p + 1) s
 first-left s p h = rw (add-one p) (drop-cons s p 0 h)
 
 measured-is : (s : List ℕ) (n p : ℕ) → p ≤ length s → measured (length s) (taken n (drop p s)) ≡ Is (min n 65537) p
@@ -89,13 +89,13 @@ take-held n s h =
 
 -- Lengths from the inside out
 
-around-failed : (k w : ℕ) (s : List ℕ) → around k (failed w s) ≡ failed w s
+pub around-failed : (k w : ℕ) (s : List ℕ) → around k (failed w s) ≡ failed w s
 unfolding around
 around-failed zero w s = refl
 around-failed (suc k) w s = rw (around-failed k w s)
 
 -- the innermost array first
-around-inner : (k n : ℕ) (s : List ℕ) → around (suc k) (taken n s) ≡ around k (and-then (take-bytes n s) as-length)
+pub around-inner : (k n : ℕ) (s : List ℕ) → around (suc k) (taken n s) ≡ around k (and-then (take-bytes n s) as-length)
 unfolding around
 around-inner zero n s = refl
 around-inner (suc k) n s = ap (λ x. and-then (and-then x take-bytes) as-length) (around-inner k n s)
@@ -215,7 +215,7 @@ unfolding leading-threes
 threes-none s = refl
 
 -- bytes 03, and then no 03
-pub length-threes : (k : ℕ) (s : List ℕ) → leading-threes (suc k) s < suc k
+length-threes : (k : ℕ) (s : List ℕ) → leading-threes (suc k) s < suc k
     → length-expr k s ≡ around (leading-threes (suc k) s) (plain (drop (leading-threes (suc k) s) s))
 unfolding length-expr leading-threes around
 length-threes zero [] h = refl
@@ -260,6 +260,24 @@ threes-few (suc k) (b ∷ s) = go (eqb b 0x03) (leading-threes k s) (threes-few 
     go : (c : Bool) (j : ℕ) → (j ≤ k) × (j ≤ length s) → ((if c then suc j else 0) ≤ suc k) × ((if c then suc j else 0) ≤ suc (length s))
     go true j h = (omega arith, omega arith)
     go false j h = (omega arith, omega arith)
+
+-- with fewer than eight bytes 03: what stands behind them
+pub record Counted (s : List ℕ) (at depth : ℕ) : Type 0 where
+  pub inside : at + depth ≤ length s
+  pub is : length-expr 7 (drop at s) ≡ around depth (plain (drop (at + depth) s))
+
+pub counted : (s : List ℕ) (at depth : ℕ) → at ≤ length s → depth ≡ leading-threes 8 (drop at s) → (depth ≡ 8 → ⊥) → Counted s at depth
+counted s at depth h e n =
+    let few = threes-few 8 (drop at s) in
+    let size = length-drop at s in
+    let below : leading-threes 8 (drop at s) < 8 = omega (arith, n) in
+    record {
+      inside = omega arith;
+      is =
+          length-threes 7 (drop at s) below
+          ∙ ap (λ (k : ℕ). around k (plain (drop k (drop at s)))) (sym e)
+          ∙ ap (λ (t : List ℕ). around depth (plain t)) (drop-drop depth at s);
+    }
 
 -- what the code was told of a length
 pub record ToldLength (s : List ℕ) (x : Taken ℕ) (v e : ℕ) : Type 0 where

@@ -20,7 +20,7 @@ enum Length {
 }
 
 // The big-endian number of the bytes from `from` up to `to`, 65,537 if it is larger.
-fn number(s: &[u8], from: usize, to: usize) -> usize
+pub fn number(s: &[u8], from: usize, to: usize) -> usize
     requires { ⌜ (from ≤ to) × (to ≤ length (now s)) ⌝ }
     ensures { λ r. ⌜ r ≡ min (natural 0 (take (to - from) (drop from (now (s .entry))))) 65537 ⌝ }
 {
@@ -37,7 +37,7 @@ fn number(s: &[u8], from: usize, to: usize) -> usize
 }
 
 // How many bytes 03 stand in a row at a place; 8 where there are more.
-fn threes(s: &[u8], at: usize) -> usize
+pub fn threes(s: &[u8], at: usize) -> usize
     requires { ⌜ at ≤ length (now s) ⌝ }
     ensures { λ r. ⌜ r ≡ leading-threes 8 (drop at (now (s .entry))) ⌝ }
 {

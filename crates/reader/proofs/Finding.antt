@@ -119,7 +119,7 @@ top-turn s p stream inside passes r told = go r (next s p r stream inside told)
 
 -- The expression asked for
 
-spelled-some : (e : Expr) (x : List ℕ) → Spells e x → 0 < length x
+pub spelled-some : (e : Expr) (x : List ℕ) → Spells e x → 0 < length x
 spelled-some (atom a) x sp = omega (arith, ap length (front a x sp .is))
 spelled-some (form es) x sp = omega (arith, ap length (sp .1))
 

@@ -22,7 +22,7 @@ pub enum Checked {
 }
 
 // How many bytes an array's head takes.
-fn head_size(n: usize) -> usize
+pub fn head_size(n: usize) -> usize
     ensures { λ r. ⌜ r ≡ length (array-head n) ⌝ }
 {
     if n < 64 {
@@ -213,7 +213,7 @@ fn form_end(s: &[u8], start: usize) -> usize
 }
 
 // Where the top-level expression at a place ends.
-fn expression_end(s: &[u8], at: usize) -> usize
+pub fn expression_end(s: &[u8], at: usize) -> usize
     requires { ⌜ (length (now s) ≤ 65536) × (at < length (now s)) × RightFrom (now s) at 0 ⌝ }
     ensures { λ r. ⌜ r ≡ row-at (rows-of (tokens at 0 (drop at (now (s .entry))))) 0 .end ⌝ }
 {

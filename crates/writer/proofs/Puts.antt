@@ -10,7 +10,7 @@ use Rattle.writer.specs.Bytes.{put-at, Put}
 
 module _ (out : List ℕ) (to : ℕ) (bs : List ℕ) (room : to + length bs ≤ length out) where
   -- what stands up to the end of the bytes
-  length-upto : length (take to out ++ bs) ≡ to + length bs
+  pub length-upto : length (take to out ++ bs) ≡ to + length bs
   length-upto = length-append (take to out) bs ∙ ap (λ (k : ℕ). k + length bs) (length-take-le to out (omega arith))
 
   pub length-put-at : length (put-at out to bs) ≡ length out
@@ -18,7 +18,7 @@ module _ (out : List ℕ) (to : ℕ) (bs : List ℕ) (room : to + length bs ≤ 
   length-put-at =
       length-append (take to out ++ bs) (drop (to + length bs) out) ∙ rw (length-upto, length-drop (to + length bs) out) (omega arith)
 
-  put-at-more : (cs : List ℕ) → put-at (put-at out to bs) (to + length bs) cs ≡ put-at out to (bs ++ cs)
+  pub put-at-more : (cs : List ℕ) → put-at (put-at out to bs) (to + length bs) cs ≡ put-at out to (bs ++ cs)
   unfolding put-at
   put-at-more cs =
       let mid : ℕ = to + length bs in

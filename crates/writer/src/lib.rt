@@ -17,7 +17,7 @@ fn put_bytes(part: &[u8], out: &mut [u8], to: usize) -> usize
 }
 
 // Writes the head of an array of n bytes.
-fn put_head(n: usize, out: &mut [u8], to: usize) -> usize
+pub fn put_head(n: usize, out: &mut [u8], to: usize) -> usize
     requires { ⌜ n < 65536 ⌝ }
     requires { ⌜ to + length (array-head n) ≤ length (now out) ⌝ }
     ensures { λ r. ⌜ Put (now (out .entry)) to (array-head n) (now (out .exit)) r ⌝ }
@@ -35,7 +35,7 @@ fn put_head(n: usize, out: &mut [u8], to: usize) -> usize
 }
 
 // Writes an atom of that kind and body.
-fn put_atom(kind: u32, body: &[u8], out: &mut [u8], to: usize) -> usize
+pub fn put_atom(kind: u32, body: &[u8], out: &mut [u8], to: usize) -> usize
     requires { ⌜ length (with-head kind (now body)) ≤ 65536 ⌝ }
     requires { ⌜ to + length (with-head kind (now body)) ≤ length (now out) ⌝ }
     ensures { λ r. ⌜ Put (now (out .entry)) to (with-head kind (now (body .entry))) (now (out .exit)) r ⌝ }

@@ -1,16 +1,16 @@
 -- `atoms::length_at` meets its contract: too many bytes 03; or the innermost length, and what stands around it.
 -- Assumes nothing.
 use borrow.Author.Needs.{needs}
-use Prim.Native.Nat.{ℕ, _+_, _≤_, _<_}
+use Prim.Native.Nat.{ℕ, _+_, _≤_}
 use mathlib.Core.Path.{_≡_, sym, ap, _∙_}
 use mathlib.Core.List.{List}
 use native.Mathlib.Omega.{arith}
 use lib.ListN.{length, drop, length-drop}
 use lib.Seq.{drop-drop}
-use Rattle.spec.specs.Reading.{Taken, taken, failed, length-expr}
+use Rattle.spec.specs.Reading.{Taken, taken, failed}
 use Rattle.laws.proofs.Steps.{all-bytes}
-use Rattle.atoms.specs.Tokens.{measured, leading-threes, plain, around}
-use Rattle.atoms.proofs.Places.{measured-wrong, threes-few, length-threes, length-many, around-wrong, around-held, ToldLength, told-plain}
+use Rattle.atoms.specs.Tokens.{measured, around}
+use Rattle.atoms.proofs.Places.{measured-wrong, threes-few, length-many, counted, around-wrong, around-held, ToldLength, told-plain}
 use Rattle.atoms.proofs.length_at.Statement.{statement}
 use Rattle.atoms.proofs.length_at.Tie as tie
 
@@ -30,24 +30,6 @@ returns c =
     sym
     (ap (measured (length s)) (length-many 7 (drop (a .at) s) (sym count ∙ c .if1 .taken) ∙ ap (failed 6) (drop-drop 7 (a .at) s))
     ∙ measured-wrong s 6 (a .at + 7) (omega (arith, c .if1 .taken)))
-
--- with fewer than eight bytes 03: what stands behind them
-record Counted (s : List ℕ) (at depth : ℕ) : Type 0 where
-  inside : at + depth ≤ length s
-  is : length-expr 7 (drop at s) ≡ around depth (plain (drop (at + depth) s))
-
-counted : (s : List ℕ) (at depth : ℕ) → at ≤ length s → depth ≡ leading-threes 8 (drop at s) → (depth ≡ 8 → ⊥) → Counted s at depth
-counted s at depth h e n =
-    let few = threes-few 8 (drop at s) in
-    let size = length-drop at s in
-    let below : leading-threes 8 (drop at s) < 8 = omega (arith, n) in
-    record {
-      inside = omega arith;
-      is =
-          length-threes 7 (drop at s) below
-          ∙ ap (λ (k : ℕ). around k (plain (drop k (drop at s)))) (sym e)
-          ∙ ap (λ (t : List ℕ). around depth (plain t)) (drop-drop depth at s);
-    }
 
 add-plain-length : tie.Need-add-plain-length
 add-plain-length c =
