@@ -6,8 +6,10 @@ use lib.ListN.{take, drop}
 use Rattle.spec.specs.Calls.{Answer, refusal, acceptance, Buffer, of-stream, of-result, Part, part, no-part, chosen}
 use Rattle.bulk.specs.declared.Answer.{Answer as Given}
 use Rattle.bulk.specs.declared.Answer.the-variants.{Accepted, Refused}
+use Rattle.bulk.specs.declared.Evaluation.{Evaluation}
+use Rattle.bulk.specs.declared.Evaluation.the-variants.{Accepted as Result, Refused as Refusal}
 use Rattle.bulk.specs.declared.Buffer.{Buffer as Which}
-use Rattle.bulk.specs.declared.Buffer.the-variants.{Stream, Result}
+use Rattle.bulk.specs.declared.Buffer.the-variants.{Stream, Result as OfResult}
 use Rattle.bulk.specs.declared.Part.{Part as Place}
 use Rattle.bulk.specs.declared.Part.the-variants.{Of, Empty}
 
@@ -27,10 +29,24 @@ pub record Answered (a : Answer) (r : Given) (table output : List ℕ) : Type 0 
   pub is : stated r table output ≡ a
   pub numbered : Numbered r
 
+-- What Evaluate answers: "gives length and steps taken". "The count is the steps taken on acceptance, else zero."
+abbrev pub stated-evaluation : Evaluation → List ℕ → List ℕ → Answer
+stated-evaluation (Result size steps) table output = acceptance size steps table output
+stated-evaluation (Refusal number place) table output = refusal number place table output
+
+abbrev pub NumberedEvaluation : Evaluation → Type 0
+NumberedEvaluation (Result size steps) = Unit {0}
+NumberedEvaluation (Refusal number place) = 1 ≤ number
+
+-- Evaluate has answered as the definition does
+pub record AnsweredEvaluation (a : Answer) (r : Evaluation) (table output : List ℕ) : Type 0 where
+  pub is : stated-evaluation r table output ≡ a
+  pub numbered : NumberedEvaluation r
+
 -- "which of the two"
 abbrev pub asked : Which → Buffer
 asked Stream = of-stream
-asked Result = of-result
+asked OfResult = of-result
 
 -- a place in the buffer that was asked for
 abbrev pub of-buffer : Buffer → Place → Part

@@ -1,13 +1,16 @@
 // The public calls. Each answers for every input, and asks nothing of its caller.
+use evaluator::Result;
 use reader::Checked;
 use reader::Found;
 ghost use mathlib.Core.Path.{_≡_};
 ghost use mathlib.Core.List.{List, []};
 ghost use Prim.Native.Nat.{ℕ, _/_};
 ghost use lib.ListN.{length};
-ghost use Rattle.spec.specs.Reading.{row-width};
-ghost use Rattle.spec.specs.Calls.{Read, Write, Item, Buffer as Chosen, chosen};
-ghost use Rattle.bulk.specs.Answers.{Answered, asked, of-buffer, part-bytes};
+ghost use Rattle.spec.specs.Expr.{Exprs};
+ghost use Rattle.spec.specs.Reading.{Row, row-width, readable};
+ghost use Rattle.spec.specs.Calls.{filled, reading, Read, Write, Evaluate, Item, Buffer as Chosen, chosen};
+ghost use Rattle.evaluator.specs.Evaluated.{HasRead};
+ghost use Rattle.bulk.specs.Answers.{Answered, AnsweredEvaluation, asked, of-buffer, part-bytes};
 
 // The numbers of a row.
 pub const ROW_WIDTH: usize = reader::ROW_WIDTH;
@@ -15,6 +18,12 @@ pub const ROW_WIDTH: usize = reader::ROW_WIDTH;
 // What Read and Write answer: the number of rows or the length, or a refusal's number and place.
 pub enum Answer {
     Accepted { given: usize },
+    Refused { number: u32, place: usize },
+}
+
+// What Evaluate answers: the result's length and the steps taken, or a refusal's number and place.
+pub enum Evaluation {
+    Accepted { length: usize, steps: u64 },
     Refused { number: u32, place: usize },
 }
 
@@ -67,6 +76,60 @@ pub fn write(stream: &[u8], table: &mut [u32], output: &mut [u8]) -> Answer
             }
             writer::emit(stream, output);
             Answer::Accepted { given: length }
+        }
+    }
+}
+
+// Evaluates a stream whose rows are in the table, then writes the result.
+fn evaluate_rows(
+    stream: &[u8],
+    table: &[u32],
+    rows: usize,
+    workspace: &mut [u8],
+    output: &mut [u8],
+    steps: u64,
+) -> Evaluation
+    requires { ⌜ HasRead (now stream) (now table) rows ⌝ }
+    ensures { λ r. ⌜ ((t : List ℕ) (rs : List Row) (es : Exprs) → reading (now (stream .entry)) t ≡ readable rs es → now (table .entry) ≡ filled rs t
+        → AnsweredEvaluation (Evaluate (now (stream .entry)) t (length (now (workspace .entry))) (now (output .entry)) steps) r (now (table .entry)) (now (output .exit))) ⌝ }
+{
+    match evaluator::evaluate(stream, table, rows, workspace, steps) {
+        Result::Refused { number, place } => Evaluation::Refused { number, place },
+        Result::Is {
+            length: size,
+            steps: taken,
+        } => {
+            if output.len() < size {
+                return Evaluation::Refused {
+                    number: 18,
+                    place: 0,
+                };
+            }
+            bytes::copy(&workspace[..size], output);
+            Evaluation::Accepted {
+                length: size,
+                steps: taken,
+            }
+        }
+    }
+}
+
+// Reads a stream and evaluates it in a workspace, with so many steps, then writes the result. Gives its length and the steps taken. A refusal leaves the output as it was; what the workspace holds afterwards is free.
+pub fn evaluate(
+    stream: &[u8],
+    table: &mut [u32],
+    workspace: &mut [u8],
+    output: &mut [u8],
+    steps: u64,
+) -> Evaluation
+    ensures { λ r.
+        ⌜ AnsweredEvaluation (Evaluate (now (stream .entry)) (now (table .entry)) (length (now (workspace .entry))) (now (output .entry)) steps) r (now (table .exit)) (now (output .exit)) ⌝ }
+{
+    match reader::check(stream, rows_available(table)) {
+        Checked::Wrong { number, place } => Evaluation::Refused { number, place },
+        Checked::Right { rows, length: _ } => {
+            reader::fill(stream, table);
+            evaluate_rows(stream, table, rows, workspace, output, steps)
         }
     }
 }

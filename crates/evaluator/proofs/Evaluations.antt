@@ -1,0 +1,204 @@
+-- Laws of the evaluation of a whole stream: how its first expression is looked at, how its run begins and ends, and what is answered.
+use Prim.Native.Nat.{ℕ, _+_, _-_, _/_, _≤_, _<_, min}
+use mathlib.Core.Path.{_≡_, refl, sym, ap, _∙_}
+use mathlib.Core.List.{List, [], _++_}
+use mathlib.Core.Bool.{Bool, true, false, not, _&&_}
+use lib.ListN.{length, take, drop, length-append, length-take}
+use lib.Seq.{take-append-le}
+use lib.Dec.{eqb}
+use borrow.Author.Tests.{eqb-true, eqb-false, eq-eqb, ne-eqb}
+use native.Mathlib.Omega.{arith}
+use Rattle.spec.specs.Expr.{same, nil, array, int, ref, Expr, atom, form, Exprs, none, more, rows, rows-all, canonical}
+use Rattle.spec.specs.Reading.{Row, row-width, readable}
+use Rattle.spec.specs.Nodes.{core, version, Node, elements, number, number-all, empty, markers-all}
+use Rattle.spec.specs.Runs.{End, stopped, cut, steps-in, give}
+use Rattle.spec.specs.Plan.{top}
+use Rattle.spec.specs.Evaluation.{Left, run-code, start, run, result}
+use Rattle.spec.specs.Calls.{filled, reading, is-versioned, version-bytes, end-answer, Evaluate}
+use Rattle.laws.specs.Demands.{Bytes, Lent}
+use Rattle.laws.specs.Holding.{Held, kept, ceased, hold-events, hold, and-hold, forget, in-list}
+use Rattle.laws.proofs.Basics.{impossible}
+use Rattle.laws.proofs.Reading.{Meant, read-readable, read-meant}
+use Rattle.laws.proofs.Values.{number-all-fits, run-proper}
+use Rattle.laws.proofs.Holding.{hold-bind, hold-cut, hold-kept, hold-ceased-row, hold-run}
+use Rattle.laws.proofs.Calls.{unversioned, wrong-version, runs, evaluation-answered, cut-refused, not-accepted}
+use Rattle.evaluator.specs.Stands.{cell, NodeAt, NodesAt, key-of, head-key}
+use Rattle.evaluator.specs.Entries.{entries}
+use Rattle.evaluator.specs.Named.{Named}
+use Rattle.evaluator.specs.Planned.{Shows, no-code, at-top}
+use Rattle.evaluator.specs.Listed.{Ready, Over, Met}
+use Rattle.evaluator.specs.Evaluated.{HasRead, ResultStands, Ended, Evaluated}
+use Rattle.evaluator.specs.declared.Result.the-variants.{Is, Refused}
+use Rattle.evaluator.specs.declared.scope.Scope.{Scope}
+use Rattle.evaluator.specs.declared.values.State.{State}
+use Rattle.evaluator.specs.declared.values.Out.{Out}
+use Rattle.evaluator.specs.declared.values.Out.the-variants.{Done, Refused as Stopped}
+use Rattle.evaluator.specs.declared.plan.Stands.the-variants.{Top}
+use Rattle.evaluator.proofs.Nodes.{nodes-first}
+use Rattle.evaluator.proofs.Table.{filled-nodes, filled-starts}
+use Rattle.evaluator.proofs.Keys.{key-same, HeadFits, head-fits}
+
+-- The first expression
+
+key-test : (m n k l : ℕ) → n < 256 → l < 256 → eqb (key-of m n) (key-of k l) ≡ eqb m k && eqb n l
+key-test m n k l h g = go (eqb m k) (eqb n l) refl refl
+  where
+    go : (a b : Bool) → eqb m k ≡ a → eqb n l ≡ b → eqb (key-of m n) (key-of k l) ≡ a && b
+    go true true p q = eq-eqb (key-of m n) (key-of k l) (omega (arith, eqb-true m k p, eqb-true n l q))
+    go true false p q = ne-eqb (key-of m n) (key-of k l) (λ e. eqb-false n l q (key-same m n k l h g e .1))
+    go false b p q = ne-eqb (key-of m n) (key-of k l) (λ e. eqb-false m k p (key-same m n k l h g e .0))
+
+-- it is headed by `version` if its head's key is that name's
+version-key : (r : ℕ) (e : Expr) (es : Exprs) → HeadFits (elements (number r e))
+    → eqb (head-key (elements (number r e))) (key-of core version) ≡ is-versioned (more e es)
+unfolding number
+version-key r (atom a) es h = refl
+version-key r (form none) es h = refl
+version-key r (form (more (atom nil) fs)) es h = refl
+version-key r (form (more (atom (array bs)) fs)) es h = refl
+version-key r (form (more (atom (int v)) fs)) es h = refl
+version-key r (form (more (atom (ref m n)) fs)) es h = key-test m n core version (h .2) (omega arith)
+version-key r (form (more (form gs) fs)) es h = refl
+
+module _ (s u : List ℕ) (n : ℕ) where
+  pub versioned-none : (es : Exprs) → NodesAt s u 0 n (number-all 0 es) → n ≡ 0 → false ≡ is-versioned es
+  unfolding number
+  versioned-none none at h = refl
+  versioned-none (more e es) at h = absurd (omega (arith, nodes-first s u 0 n (number 0 e) (number-all (0 + rows e) es) at .0))
+
+  pub versioned-first : Bytes s → (es : Exprs) → NodesAt s u 0 n (number-all 0 es) → 0 < n → (k : ℕ)
+      → ((e : Node) → NodeAt s u 0 e → k ≡ head-key (elements e)) → eqb k (key-of core version) ≡ is-versioned es
+  unfolding number NodeAt
+  versioned-first b none at h k is = absurd (omega (arith, at))
+  versioned-first b (more e es) at h k is =
+      let here = nodes-first s u 0 n (number 0 e) (number-all (0 + rows e) es) at .1 in
+      rw (is (number 0 e) here) (version-key 0 e es (head-fits s u 0 b (number 0 e) here))
+
+-- A stream that was read
+
+-- before the first expression
+abbrev first-state : ℕ → List ℕ → State
+first-state steps w = record { steps = steps; room = length w; top = 0; floor = length w; names = 0 }
+
+module _ (s t u : List ℕ) (n : ℕ) (rs : List Row) (es : Exprs) (b : Bytes s) (has : HasRead s u n) (reads : reading s t ≡ readable rs es)
+    (fills : u ≡ filled rs t) where
+  abbrev room : ℕ
+  room = length t / row-width
+
+  meant : Meant s room rs es
+  meant = read-meant s room rs es b (read-readable s room rs es reads)
+
+  -- there is one way to read it
+  counted : n ≡ length rs
+  counted =
+      let other = read-readable s (length (has .before) / row-width) (has .rows) (has .means) (has .is) in
+      has .counted ∙ ap (λ (l : List Row). length l) (other .rows-are ∙ sym (read-readable s room rs es reads .rows-are))
+
+  pub stream-nodes : NodesAt s u 0 n (number-all 0 es)
+  stream-nodes = rw (counted, fills) (filled-nodes s t room rs es b reads)
+
+  -- there is no definition, no namespace and no value yet
+  pub stream-ready : (w names args : List ℕ) (sc : Scope) (steps count to : ℕ) → entries sc ≡ [] → length w ≤ 65536
+      → Ready s u n 32 w names args sc (first-state steps w) Top (record { depth = 0; count = count; to = to }) 0 n (number-all 0 es) (top []) start
+  unfolding Shows Named NodeAt markers-all
+  stream-ready w names args sc steps count to e short = record {
+    nodes = stream-nodes;
+    setting = record {
+      scope = rw e tt;
+      few = rw e (omega arith);
+      namespaces = tt;
+      counted = refl;
+      most = omega arith;
+      arguments = no-code refl;
+      place = at-top empty refl (λ m. refl);
+    };
+    fitting = record { paid = omega arith; below = omega arith; short = short };
+    fit = number-all-fits n 0 es (omega (arith, counted, meant .counted)) (meant .fits);
+    sound = (tt, tt);
+    single = tt;
+    entered = refl;
+  }
+
+  module _ (steps : ℕ) (w w′ names′ : List ℕ) where
+    abbrev held : Held Left
+    held = hold steps (length w) (in-list (run-code 32) (number-all 0 es) (top []) start)
+
+    -- the run's own result, and the values of the list
+    run-held : {x : Held Left} → held ≡ x
+        → and-hold (hold steps (length w) (run es)) (λ ls a c. kept (result ls) a c) ≡ and-hold x (λ left a c. kept (left .values) a c)
+    unfolding hold-events
+    run-held q =
+        sym (hold-bind steps (length w) (run es) (λ ls. give (result ls)))
+        ∙ hold-run es steps (length w)
+        ∙ ap (λ (y : Held Left). and-hold y (λ left a c. kept (left .values) a c)) q
+
+    run-done : (st : State) → Over s u w w′ names′ (first-state steps w) held st → ResultStands steps w w′ es st
+    run-done st over = go (hold steps (length w) (run es)) refl (run-held (over .is))
+      where
+        go : (x : Held (List Exprs)) → hold steps (length w) (run es) ≡ x
+            → and-hold x (λ ls a c. kept (result ls) a c) ≡ kept (over .left .values) (st .steps) (st .room) → ResultStands steps w w′ es st
+        go (kept ls a c) e q =
+            let values : result ls ≡ over .left .values = cc in
+            let left : a ≡ st .steps = cc in
+            let k = hold-kept steps (length w) (run es) ls a c e in
+            record {
+              left = ls;
+              is = hold-cut steps (length w) (run es) ∙ ap forget e;
+              inside = over .stand .inside;
+              bytes = over .stand .bytes ∙ ap canonical (sym values);
+              fewer = omega (arith, k .1, left);
+              taken = omega (arith, k .1, left);
+            }
+        go (ceased v r) e q = impossible (cc)
+
+    run-ceased : (v r : ℕ) → held ≡ ceased v r → Ended steps w w′ rs es (Stopped v r)
+    run-ceased v r is = go (hold steps (length w) (run es)) refl (run-held is)
+      where
+        go : (x : Held (List Exprs)) → hold steps (length w) (run es) ≡ x → and-hold x (λ ls a c. kept (result ls) a c) ≡ ceased v r
+            → Ended steps w w′ rs es (Stopped v r)
+        go (kept ls a c) e q = impossible (cc)
+        go (ceased x y) e q =
+            let stops : hold steps (length w) (run es) ≡ ceased v r = cc in
+            let cuts : cut steps (length w) (run es .events) (run es .end) ≡ stopped v r = hold-cut steps (length w) (run es) ∙ ap forget stops in
+            let low = hold-ceased-row (rows-all es) steps (length w) (run es) v r (run-proper es (meant .fits)) stops in
+            (omega (arith, not-accepted v (cut-refused es (meant .fits) steps (length w) v r cuts)), omega (arith, low, meant .counted), cuts)
+
+    pub stream-ended : (out : Out) → Met s u w w′ names′ (first-state steps w) held out → Ended steps w w′ rs es out
+    stream-ended (Done st) over = run-done st over
+    stream-ended (Stopped v r) is = run-ceased v r is
+
+-- What is answered
+
+module _ (s t w out : List ℕ) (steps : ℕ) (rs : List Row) (es : Exprs) (reads : reading s t ≡ readable rs es) where
+  abbrev lent : Lent
+  lent = record { table = t; work = length w; output = out; steps = steps }
+
+  -- a refusal says nothing of the workspace
+  pub answer-unversioned : not (is-versioned es) ≡ true → Evaluated s t w w out steps rs (Refused 9 0)
+  answer-unversioned v = (omega arith, evaluation-answered s lent (unversioned rs es reads v))
+
+  module _ (v : not (is-versioned es) ≡ false) where
+    pub answer-wrong-version : not (same (take 6 s) version-bytes) ≡ true → Evaluated s t w w out steps rs (Refused 10 0)
+    answer-wrong-version h = (omega arith, evaluation-answered s lent (wrong-version rs es reads v h))
+
+    -- the run had the first bytes of the workspace, so many as count
+    module _ (h : not (same (take 6 s) version-bytes) ≡ false) (size : ℕ) (is : size ≡ min (length w) 65536) where
+      ends : {e : End (List Exprs)} → cut steps (length (take size w)) (run es .events) (run es .end) ≡ e
+          → Evaluate s t (length w) out steps ≡ end-answer rs (steps-in (run es .events)) (filled rs t) out e
+      ends q =
+          let counts : min (length w) 65536 ≡ length (take size w) = omega (arith, is, length-take size w) in
+          evaluation-answered s lent (runs rs es reads v h)
+          ∙ ap (end-answer rs (steps-in (run es .events)) (filled rs t) out)
+          (ap (λ (k : ℕ). cut steps k (run es .events) (run es .end)) counts ∙ q)
+
+      -- it left them as w′
+      pub answer-done : (w′ : List ℕ) (st : State) → ResultStands steps (take size w) w′ es st
+          → Evaluated s t w (w′ ++ drop size w) out steps rs (Is (st .top) (steps - st .steps))
+      answer-done w′ st f = (
+        omega (arith, length-append w′ (drop size w), f .inside),
+        rw (take-append-le (st .top) w′ (drop size w) (f .inside), f .bytes, f .taken) (ends (f .is)),
+      )
+
+      pub answer-stopped : (n r p : ℕ) → Ended steps (take size w) w rs es (Stopped n r) → p ≡ cell (filled rs t) r 1
+          → Evaluated s t w w out steps rs (Refused n p)
+      answer-stopped n r p e q = (e .0, rw (q, filled-starts rs t r (e .1)) (ends (e .2)))

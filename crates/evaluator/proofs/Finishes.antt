@@ -1,0 +1,184 @@
+-- Laws of finishing a form by the values of what is inside it: a data form, a definition, a concat; and whether a code gives one value.
+use Prim.Native.Nat.{ℕ, _+_, _≤_, _<_}
+use mathlib.Core.Path.{_≡_, refl, sym, ap, _∙_}
+use mathlib.Core.List.{List, [], _∷_, _++_}
+use mathlib.Core.Bool.{false, not}
+use lib.ListN.{length, length-append}
+use lib.Seq.{length-slice}
+use lib.Dec.{eqb}
+use native.Mathlib.Omega.{arith}
+use Rattle.spec.specs.Expr.{nil, array, int, ref, Expr, atom, form, Exprs, none, more, only, array-head, marker-bytes, atom-bytes, bytes, canonical}
+use Rattle.spec.specs.Nodes.{rest, Node, Nodes, cons, elements}
+use Rattle.spec.specs.Runs.{stop}
+use Rattle.spec.specs.Plan.{Definition, value, Here, Finish}
+use Rattle.spec.specs.Evaluation.{add-definition, complete, join, one-value}
+use Rattle.laws.specs.Demands.{Bytes}
+use Rattle.laws.specs.Holding.{hold}
+use Rattle.laws.proofs.Atoms.{head-bounds}
+use Rattle.laws.proofs.Fits.{FitsAll}
+use Rattle.laws.proofs.Holding.{hold-give, hold-stop}
+use Rattle.laws.proofs.Singles.{Single}
+use Rattle.evaluator.specs.Stands.{next, NodeAt, head-key}
+use Rattle.evaluator.specs.Entries.{pack}
+use Rattle.evaluator.specs.Completed.{Stand, with-top, Completed, Joined, joined, no-arrays, Defined as Moved}
+use Rattle.evaluator.specs.Planned.{CodeAt, value-at}
+use Rattle.evaluator.specs.Listed.{LeftBy, NoCall, FinishedBy, by-form, by-define, by-concat, Finishing, CanFinish, Finished, left-by}
+use Rattle.evaluator.specs.declared.values.State.{State}
+use Rattle.evaluator.specs.declared.values.Out.{Out}
+use Rattle.evaluator.specs.declared.values.Out.the-variants.{Done}
+use Rattle.evaluator.specs.declared.plan.After.{After}
+use Rattle.evaluator.specs.declared.plan.After.the-variants.{Form, Define, Concat, Call as Enters}
+use Rattle.evaluator.specs.declared.element.Left.the-variants.{Defined}
+use Rattle.evaluator.proofs.Nodes.{MoreAt, nodes-done, nodes-more}
+use Rattle.evaluator.proofs.Keys.{headed-by-key, head-fits}
+use Rattle.evaluator.proofs.Begins.{completed-left}
+
+-- Values that stand
+
+-- an expression has bytes
+bytes-some : (e : Expr) → 0 < length (bytes e)
+unfolding bytes atom-bytes
+bytes-some (atom nil) = omega arith
+bytes-some (atom (array bs)) = omega (arith, length-append (array-head (length bs)) bs, head-bounds (length bs) .0)
+bytes-some (atom (int v)) = omega arith
+bytes-some (atom (ref m n)) = omega (arith, length-append (marker-bytes m) (n ∷ []))
+bytes-some (form es) = omega arith
+
+-- so has one value
+single-stands : {w : List ℕ} {from to : ℕ} {vs : Exprs} → Single vs → Stand w from to vs → from < to
+unfolding bytes
+single-stands {w} {from} {to} one there =
+    let v = one .value in
+    let size = ap (λ (l : List ℕ). length l) (there .bytes ∙ ap canonical (one .is)) in
+    omega (arith, bytes-some v, length-append (bytes v) [], size, length-slice from to w (there .inside))
+
+-- What may be finished
+
+module _ {w : List ℕ} {start : ℕ} {st : State} where
+  pub can-define : (key : ℕ) → CanFinish w start (Define key) (Done st) → start < st .top
+  can-define key (sc, f, vs, by, ready) = go by ready
+    where
+      go : {k : ℕ} {g : Finish} → FinishedBy sc (Define k) g → Finishing w st start g vs → start < st .top
+      go (by-define m n fits few) r = single-stands (r .finishable) (r .stand)
+
+  pub can-join : CanFinish w start Concat (Done st) → (a : Expr) × (b : Expr) × Stand w start (st .top) (more a (only b)) × FitsAll (more a (only b))
+  can-join (sc, f, vs, by, ready) = go by ready
+    where
+      go : {g : Finish} → FinishedBy sc Concat g → Finishing w st start g vs
+          → (a : Expr) × (b : Expr) × Stand w start (st .top) (more a (only b)) × FitsAll (more a (only b))
+      go by-concat r =
+          let two = r .finishable in
+          (two .0, two .1, rw (two .2) at (r .stand), rw (two .2) at (r .sound .0))
+
+  pub no-call : (code visible : ℕ) → CanFinish w start (Enters code visible) (Done st) → ⊥
+  no-call code visible (sc, f, vs, by, ready) = go by
+    where
+      go : {a : After} {g : Finish} → FinishedBy sc a g → NoCall a
+      go by-form = tt
+      go (by-define m n fits few) = tt
+      go by-concat = tt
+
+-- Two values joined
+
+join-arrays : (row : ℕ) (bs cs : List ℕ) (h : Here)
+    → join row [] (more (atom (array bs)) (only (atom (array cs)))) h ≡ complete row (only (atom (array (bs ++ cs)))) h
+unfolding join
+join-arrays row bs cs h = refl
+
+join-others : (row : ℕ) (a b : Expr) (h : Here) → ((bs cs : List ℕ) → a ≡ atom (array bs) → b ≡ atom (array cs) → ⊥)
+    → join row [] (more a (only b)) h ≡ stop 11 row
+unfolding join
+join-others row (form es) b h other = refl
+join-others row (atom nil) b h other = refl
+join-others row (atom (int v)) b h other = refl
+join-others row (atom (ref m n)) b h other = refl
+join-others row (atom (array bs)) (form es) h other = refl
+join-others row (atom (array bs)) (atom nil) h other = refl
+join-others row (atom (array bs)) (atom (int v)) h other = refl
+join-others row (atom (array bs)) (atom (ref m n)) h other = refl
+join-others row (atom (array bs)) (atom (array cs)) h other = absurd (other bs cs refl refl)
+
+-- What is finished
+
+module _ (w w′ : List ℕ) (st : State) (start row : ℕ) where
+  pub form-finished : (out : Out) → ((vs : Exprs) → Stand w start (st .top) vs → FitsAll vs → Completed w w′ st start row (only (form vs)) out)
+      → Finished w w′ start row Form (left-by out) (Done st)
+  form-finished out done s t names sc run h f vs by-form ready named counted most =
+      completed-left s t w w′ names sc st start row (only (form vs)) h h out (ready .fitting) (ready .stand .order) refl named counted most
+      (done vs (ready .stand) (ready .sound .0))
+
+  pub define-finished : (key : ℕ) (st′ : State) → Moved w w′ st start st′
+      → Finished w w′ start row (Define key) (Defined st′ key (pack (st′ .floor) (st .floor))) (Done st)
+  define-finished key st′ moved s t names sc run h f vs (by-define m n fits few) ready named counted most =
+      let d : Definition = record { marker = m; name = n; content = value vs } in
+      let paid = ready .fitting .paid in
+      let some = single-stands (ready .finishable) (ready .stand) in
+      record {
+        definition = d;
+        is =
+            hold-give (st .steps) (st .room) (record { values = none; here = add-definition d h })
+            ∙ rw (moved .steps, moved .room);
+        entry =
+            value-at
+            (st′ .floor)
+            (st .floor)
+            fits
+            refl
+            refl
+            (omega arith)
+            (omega (arith, moved .floor, some))
+            (record {
+              order = omega (arith, moved .floor);
+              inside = omega (arith, moved .others .size, ready .fitting .below);
+              bytes = moved .bytes ∙ ready .stand .bytes;
+            });
+        few = few;
+        others = moved .others;
+        top = moved .top;
+        floor = omega (arith, moved .floor);
+        paid = omega (arith, moved .top, moved .room, moved .floor, some, paid);
+        namespaces = named;
+        counted = moved .names;
+      }
+
+  pub concat-finished : (out : Out)
+      → ((a b : Expr) → Stand w start (st .top) (more a (only b)) → FitsAll (more a (only b)) → Joined w w′ st start row a b out)
+      → Finished w w′ start row Concat (left-by out) (Done st)
+  concat-finished out done s t names sc run h f vs by-concat ready named counted most =
+      let two = ready .finishable in
+      rw (two .2) (go (done (two .0) (two .1) (rw (two .2) at (ready .stand)) (rw (two .2) at (ready .sound .0))))
+    where
+      go : {a b : Expr} {r : Out} → Joined w w′ st start row a b r
+          → LeftBy s t w w′ names sc (with-top st (st .room) start) h (hold (st .steps) (st .room) (join row [] (more a (only b)) h)) (left-by r)
+      go {a} {b} {r} (joined bs cs is is′ done) =
+          rw (is, is′, join-arrays row bs cs h)
+          (completed-left s t w w′ names sc st start row (only (atom (array (bs ++ cs)))) h h r (ready .fitting) (ready .stand .order) refl named counted
+          most done)
+      go {a} {b} (no-arrays other) = rw (join-others row a b h other) (hold-stop (st .steps) (st .room) 11 row)
+
+-- A code
+
+module _ (s t : List ℕ) (code : ℕ) (body : Nodes) (at : CodeAt s t code body) where
+  pub code-none : next t code ≤ code + 2 → one-value body ≡ false
+  code-none h = rw (nodes-done s t (code + 2) (next t code) body (at .code) h)
+
+  module _ (some : code + 2 < next t code) where
+    pub code-first : MoreAt s t (code + 2) (next t code) body
+    code-first = nodes-more s t (code + 2) (next t code) body (at .code) some
+
+    pub code-many : next t (code + 2) < next t code → one-value body ≡ false
+    code-many h =
+        let one = code-first in
+        let two = nodes-more s t (next t (code + 2)) (next t code) (one .rest) (one .nodes) h in
+        rw (one .is, two .is)
+
+    -- k is the key of the first one's head
+    pub code-one : (k : ℕ) → Bytes s → next t code ≤ next t (code + 2)
+        → ((e : Node) → NodeAt s t (code + 2) e → k ≡ head-key (elements e)) → not (eqb k 0x200D) ≡ one-value body
+    code-one k stream h asked =
+        let one = code-first in
+        let e = one .head in
+        let last = nodes-done s t (next t (code + 2)) (next t code) (one .rest) (one .nodes) h in
+        ap (λ (j : ℕ). not (eqb j 0x200D)) (asked e (one .node))
+        ∙ ap not (headed-by-key rest (omega arith) e (head-fits s t (code + 2) stream e (one .node)))
+        ∙ sym (ap one-value (one .is ∙ ap (cons e) last))

@@ -1,0 +1,321 @@
+-- What is inside an expression, evaluated first: what is known there, and what the expression leaves when it is finished or its code was run.
+use Prim.Native.Nat.{ℕ, zero, suc, _+_, _-_, _≤_, _<_}
+use mathlib.Core.Path.{_≡_, refl, sym, ap, _∙_, subst}
+use mathlib.Core.List.{List}
+use mathlib.Core.Bool.{false}
+use native.Mathlib.Omega.{arith}
+use lib.ListN.{length, drop}
+use Rattle.spec.specs.Expr.{Exprs}
+use Rattle.spec.specs.Nodes.{rest, Node, leaf, branch, Nodes, empty, cons, elements, headed-by}
+use Rattle.spec.specs.Runs.{done, Run}
+use Rattle.spec.specs.Plan.{Scope as Definitions, Place, element, inner, Here, Finish, as-form, as-definition, as-concat, as-call, Plan, inside, plan}
+use Rattle.spec.specs.Evaluation.{Left, standing, Call, finish, eval, run-code}
+use Rattle.laws.specs.Holding.{Held, kept, ceased, hold, and-hold, NotTop, in-list, skip}
+use Rattle.laws.proofs.Basics.{impossible}
+use Rattle.laws.proofs.Holding.{hold-kept, hold-step, hold-inside}
+use Rattle.laws.proofs.Singles.{SingleScope, call-single, in-list-single, in-list-pair, in-list-stays}
+use Rattle.laws.proofs.Values.{Sound, FitsNode, FitsNodes, SoundHere, call-sound, in-list-left}
+use Rattle.evaluator.specs.Stands.{next, NodeAt, row-of}
+use Rattle.evaluator.specs.Entries.{Entry, entries}
+use Rattle.evaluator.specs.Named.{Named}
+use Rattle.evaluator.specs.Completed.{Fitting, Stand, Untouched, with-top}
+use Rattle.evaluator.specs.Planned.{CodeAt, Shows, Placed, at-element, at-inner, Finishes, form-finishes, define-finishes, concat-finishes, call-finishes, OneMore, one-more, TwoMore, two-more}
+use Rattle.evaluator.specs.Listed.{Ready, Over, Met, LeftValues, LeftDefinition, LeftBy, GoesInside, stands-in, NoCall, FinishedBy, by-form, by-define, by-concat, Finishable, Finishing, CanFinish, Finished, Calling, CanCall, Called}
+use Rattle.evaluator.specs.declared.scope.Scope.{Scope}
+use Rattle.evaluator.specs.declared.values.State.{State}
+use Rattle.evaluator.specs.declared.values.Out.{Out}
+use Rattle.evaluator.specs.declared.values.Out.the-variants.{Done, Refused}
+use Rattle.evaluator.specs.declared.plan.Stands.{Stands}
+use Rattle.evaluator.specs.declared.plan.Code.{Code}
+use Rattle.evaluator.specs.declared.plan.After.{After}
+use Rattle.evaluator.specs.declared.plan.After.the-variants.{Call as Enters}
+use Rattle.evaluator.specs.declared.element.Left.{Left as Answer}
+use Rattle.evaluator.specs.declared.element.Left.the-variants.{Values, Defined, Stopped}
+use Rattle.evaluator.proofs.Nodes.{node-row}
+use Rattle.evaluator.proofs.Entries.{entries-length}
+use Rattle.evaluator.proofs.Shown.{shows-kept}
+use Rattle.evaluator.proofs.Places.{untouched-less, untouched-then}
+use Rattle.evaluator.proofs.Turns.{Going, going-more, standing-here, held-next, going-begins}
+
+-- the run of an expression whose plan goes inside
+eval-inside : (run : Call) (e : Node) (h : Here) (k : ℕ) (p : Place) (f : Finish) (steps work : ℕ) → plan e h ≡ inside k p f → NotTop p → 0 < steps
+    → hold steps work (eval run e h)
+    ≡ and-hold (hold (steps - 1) work (in-list run (skip k (elements e)) p h)) (λ left s w. hold s w (finish run (row-of e) h f (left .values)))
+unfolding eval
+eval-inside run (leaf r a) h k p f steps work is not-top some =
+    hold-step steps work r _ some ∙ rw is (hold-inside run p not-top k empty h (finish run r h f) (steps - 1) work)
+eval-inside run (branch r es) h k p f steps work is not-top some =
+    hold-step steps work r _ some ∙ rw is (hold-inside run p not-top k es h (finish run r h f) (steps - 1) work)
+
+fits-skip : (bound k : ℕ) (es : Nodes) → FitsNodes bound es → FitsNodes bound (skip k es)
+unfolding skip
+fits-skip bound zero es f = f
+fits-skip bound (suc k) empty f = f
+fits-skip bound (suc k) (cons e es) f = fits-skip bound k es (f .1)
+
+fits-elements : (bound : ℕ) (e : Node) → FitsNode bound e → FitsNodes bound (elements e)
+fits-elements bound (leaf r a) f = tt
+fits-elements bound (branch r es) f = f .1
+
+-- where what is inside stands
+module _ {s t w : List ℕ} {floor : ℕ} {sc : List Entry} {es : Nodes} where
+  inside-placed : {after : After} {k : ℕ} {p : Place} {f : Finish} (row : ℕ) → Finishes s t w floor sc es after k p f → Placed s t row (stands-in after) p
+  inside-placed row form-finishes = at-element
+  inside-placed row (define-finishes m n fits few more) = at-inner
+  inside-placed row (concat-finishes more) = at-inner
+  inside-placed row (call-finishes code visible body behind at few shows) = at-inner
+
+  inside-not-top : {after : After} {k : ℕ} {p : Place} {f : Finish} → Finishes s t w floor sc es after k p f → NotTop p
+  inside-not-top form-finishes = tt
+  inside-not-top (define-finishes m n fits few more) = tt
+  inside-not-top (concat-finishes more) = tt
+  inside-not-top (call-finishes code visible body behind at few shows) = tt
+
+  -- how it is finished without running code
+  inside-finished : {after : After} {k : ℕ} {p : Place} {f : Finish} → NoCall after → Finishes s t w floor sc es after k p f → FinishedBy sc after f
+  inside-finished c form-finishes = by-form
+  inside-finished c (define-finishes m n fits few more) = by-define m n fits few
+  inside-finished c (concat-finishes more) = by-concat
+  inside-finished c (call-finishes code visible body behind at few shows) = absurd c
+
+-- the code that is entered
+record EnteredAt (s t w : List ℕ) (floor : ℕ) (sc : List Entry) (code visible : ℕ) (f : Finish) : Type 0 where
+  body : Nodes
+  behind : Definitions
+  is : f ≡ as-call body behind
+  at : CodeAt s t code body
+  few : visible ≤ length sc
+  shows : Shows s t w floor (drop (length sc - visible) sc) behind
+
+entered-at : {s t w : List ℕ} {floor : ℕ} {sc : List Entry} {es : Nodes} {code visible k : ℕ} {p : Place} {f : Finish}
+    → Finishes s t w floor sc es (Enters code visible) k p f → EnteredAt s t w floor sc code visible f
+entered-at (call-finishes code visible body behind at few shows) = record { body = body; behind = behind; is = refl; at = at; few = few; shows = shows }
+
+-- the values of what is inside are as many as the rule made sure of
+finishable : (s t w : List ℕ) (floor codes : ℕ) (sc : List Entry) (es : Nodes) (after : After) (k : ℕ) (p : Place) (f : Finish) (h : Here) (left : Left)
+    → Finishes s t w floor sc es after k p f → SingleScope (h .scope)
+    → in-list (run-code codes) (skip k es) p h .end ≡ done left → Finishable f (left .values)
+unfolding skip
+finishable s t w floor codes sc es after k p f h left form-finishes single e = tt
+finishable s t w floor codes sc es after k p f h left (define-finishes m n fits few (one-more a b v plain)) single e = in-list-single codes v h left plain single e
+finishable s t w floor codes sc es after k p f h left (concat-finishes (two-more a b v plain plain′)) single e = in-list-pair codes b v h left plain plain′ single e
+finishable s t w floor codes sc es after k p f h left (call-finishes code visible body behind at few shows) single e = tt
+
+-- the steps that are left with an answer are no more than there were
+abbrev pub steps-of : Out → ℕ
+steps-of (Done st) = st .steps
+steps-of (Refused n r) = 0
+
+pub met-steps : (s t w w′ names′ : List ℕ) (st : State) (run : Run Left) (out : Out) → Met s t w w′ names′ st (hold (st .steps) (st .room) run) out
+    → steps-of out ≤ st .steps
+met-steps s t w w′ names′ st run (Done st′) o = omega (arith, hold-kept (st .steps) (st .room) run (o .left) (st′ .steps) (st′ .room) (o .is) .1)
+met-steps s t w w′ names′ st run (Refused n r) e = omega arith
+
+-- what an expression leaves, counted from where its inside was done
+pub left-from : (s t w w₁ w₂ names : List ℕ) (sc : List Entry) (st st₁ : State) (start : ℕ) (h : Here) (held held₁ : Held Left) (left : Answer)
+    → Untouched w w₁ (st .top) (st .floor) → start ≡ st .top → st₁ .floor ≡ st .floor → st₁ .names ≡ st .names → held ≡ held₁
+    → LeftBy s t w₁ w₂ names sc (with-top st₁ (st₁ .room) start) h held₁ left → LeftBy s t w w₂ names sc st h held left
+left-from s t w w₁ w₂ names sc st st₁ start h held held₁ (Values st′) u top floor count same l =
+    let o = l .over in
+    record {
+      over = record {
+        left = o .left;
+        is = same ∙ o .is;
+        stand = rw top at (o .stand);
+        others = untouched-then u (rw (top, floor) at (o .others));
+        floor = o .floor ∙ floor;
+        paid = o .paid;
+        namespaces = o .namespaces;
+        counted = o .counted;
+        most = o .most;
+      };
+      scope = l .scope;
+    }
+left-from s t w w₁ w₂ names sc st st₁ start h held held₁ (Defined st′ key place) u top floor count same l = record {
+  definition = l .definition;
+  is = same ∙ l .is;
+  entry = l .entry;
+  few = l .few;
+  others = untouched-then u (rw (top, floor) at (l .others));
+  top = l .top ∙ top;
+  floor = rw floor at (l .floor);
+  paid = l .paid;
+  namespaces = l .namespaces;
+  counted = l .counted ∙ count;
+}
+left-from s t w w₁ w₂ names sc st st₁ start h held held₁ (Stopped n r) u top floor count same l = same ∙ l
+
+module _ {s t : List ℕ} {bound codes : ℕ} {args : List ℕ} {stands : Stands} {code : Code} {end : ℕ} {w₀ w names : List ℕ} {sc : Scope} {st₀ st : State}
+    {row : ℕ} {held : Held Left} (g : Going s t bound codes args stands code end w₀ w names sc st₀ st row held) (on : row < end) where
+  abbrev head : Node
+  head = going-more s t bound codes args stands code end g on .head
+
+  abbrev here : Here
+  here = standing-here s t bound codes args stands code end g on
+
+  abbrev next-held : Held Left
+  next-held = held-next s t bound codes args stands code end g on
+
+  module _ {st′ : State} {first : ℕ} {after : After} (i : GoesInside s t w (entries sc) st st′ row first head here after) where
+    pub inside-ready : Ready s t bound codes w names args sc st′ (stands-in after) code first (next t row) (skip (i .skipped) (elements head)) (i .place) here
+    inside-ready =
+        let r = g .ready in
+        let set = r .setting in
+        let b = going-begins s t bound codes args stands code end g on in
+        rw (i .state) (record {
+          nodes = i .nodes;
+          setting = record {
+            scope = set .scope;
+            few = set .few;
+            namespaces = set .namespaces;
+            counted = set .counted;
+            most = set .most;
+            arguments = set .arguments;
+            place = inside-placed first (i .finishes);
+          };
+          fitting = record { paid = r .fitting .paid; below = r .fitting .below; short = r .fitting .short };
+          fit = fits-skip bound (i .skipped) (elements head) (fits-elements bound head (b .fit));
+          sound = r .sound;
+          single = r .single;
+          entered = r .entered;
+        })
+
+    -- the same, by other names
+    pub inside-ready-as : (w′ names′ : List ℕ) (stands′ : Stands) (past : ℕ) → w′ ≡ w → names′ ≡ names → stands′ ≡ stands-in after → past ≡ next t row
+        → Ready s t bound codes w′ names′ args sc st′ stands′ code first past (skip (i .skipped) (elements head)) (i .place) here
+    inside-ready-as w′ names′ stands′ past e e′ e″ f = rw (e, e′, e″, f) inside-ready
+
+    pub inside-fewer : st′ .steps < st .steps
+    inside-fewer = rw (i .state) (omega (arith, i .stepped))
+
+    -- what the inside answers
+    abbrev inner-held : Held Left
+    inner-held = hold (st′ .steps) (st′ .room) (in-list (run-code codes) (skip (i .skipped) (elements head)) (i .place) here)
+
+    held-is : next-held ≡ and-hold inner-held (λ left steps work. hold steps work (finish (run-code codes) row here (i .finish) (left .values)))
+    held-is =
+        let b = going-begins s t bound codes args stands code end g on in
+        eval-inside (run-code codes) head here (i .skipped) (i .place) (i .finish) (st .steps) (st .room) (i .plan-is) (inside-not-top (i .finishes)) (i .stepped)
+        ∙ rw (i .state, node-row s t row head (b .node))
+
+    pub inside-refused : (n r : ℕ) → inner-held ≡ ceased n r → next-held ≡ ceased n r
+    inside-refused n r h = held-is ∙ rw h
+
+    module _ {w₁ names₁ : List ℕ} {st₁ : State} (o : Over s t w w₁ names₁ st′ inner-held st₁) where
+      ends-inside : in-list (run-code codes) (skip (i .skipped) (elements head)) (i .place) here .end ≡ done (o .left)
+      ends-inside = hold-kept (st′ .steps) (st′ .room) _ (o .left) (st₁ .steps) (st₁ .room) (o .is) .0
+
+      top-inside : st′ .top ≡ st .top
+      top-inside = rw (i .state)
+
+      floor-inside : st′ .floor ≡ st .floor
+      floor-inside = rw (i .state)
+
+      pub inside-steps : st₁ .steps ≤ st′ .steps
+      inside-steps = omega (arith, hold-kept (st′ .steps) (st′ .room) _ (o .left) (st₁ .steps) (st₁ .room) (o .is) .1)
+
+      same-namespaces : o .left .here .namespaces ≡ g .here .namespaces
+      same-namespaces = in-list-stays (run-code codes) (skip (i .skipped) (elements head)) (i .place) here (o .left) ends-inside .namespaces (inside-not-top (i .finishes))
+
+      pub inside-named : Named s t names₁ (g .here .namespaces)
+      inside-named = subst (λ ks. Named s t names₁ ks) same-namespaces (o .namespaces)
+
+      pub inside-counted : st₁ .names ≡ length (g .here .namespaces)
+      inside-counted = o .counted ∙ ap length same-namespaces
+
+      pub inside-finishing : Finishing w₁ st₁ (st .top) (i .finish) (o .left .values)
+      inside-finishing =
+          let r = g .ready in
+          let size = o .others .size in
+          record {
+            fitting = record {
+              paid = o .paid;
+              below = omega (arith, size, o .floor, floor-inside, r .fitting .below);
+              short = omega (arith, size, r .fitting .short);
+            };
+            stand = rw top-inside at (o .stand);
+            sound = in-list-left bound codes (skip (i .skipped) (elements head)) (i .place) here (o .left) (inside-ready .fit) (r .sound) ends-inside .0;
+            finishable = finishable s t w (st .floor) codes (entries sc) (elements head) after (i .skipped) (i .place) (i .finish) here (o .left) (i .finishes) (r .single) ends-inside;
+          }
+
+      -- what it leaves, if that is what finishing the values leaves
+      pub inside-left : (w₂ names₂ : List ℕ) (left : Answer)
+          → LeftBy s t w₁ w₂ names₂ (entries sc) (with-top st₁ (st₁ .room) (st .top)) here
+          (hold (st₁ .steps) (st₁ .room) (finish (run-code codes) row here (i .finish) (o .left .values))) left
+          → LeftBy s t w w₂ names₂ (entries sc) st here next-held left
+      inside-left w₂ names₂ left l =
+          left-from s t w w₁ w₂ names₂ (entries sc) st st₁ (st .top) here next-held _ left (rw (top-inside, floor-inside) at (o .others)) refl (o .floor ∙ floor-inside)
+          (inside-counted ∙ sym (g .ready .setting .counted))
+          (held-is ∙ rw (o .is)) l
+
+    -- finished without running code
+    module _ (plain : NoCall after) (w₁ names₁ : List ℕ) where
+      pub inside-can-finish : (out : Out) → Met s t w w₁ names₁ st′ inner-held out → CanFinish w₁ (st .top) after out
+      inside-can-finish (Done st₁) o = (entries sc, i .finish, o .left .values, inside-finished plain (i .finishes), inside-finishing o)
+      inside-can-finish (Refused n r) h = tt
+
+      pub inside-finishes : (out : Out) (w₂ : List ℕ) (left : Answer) → Met s t w w₁ names₁ st′ inner-held out → Finished w₁ w₂ (st .top) row after left out
+          → LeftBy s t w w₂ names₁ (entries sc) st here next-held left
+      inside-finishes (Done st₁) w₂ left o f =
+          inside-left o w₂ names₁ left
+          (f s t names₁ (entries sc) (run-code codes) here (i .finish) (o .left .values) (inside-finished plain (i .finishes)) (inside-finishing o)
+          (inside-named o) (inside-counted o) (o .most))
+      inside-finishes (Refused n r) w₂ left h f = subst (λ (x : Answer). LeftBy s t w w₂ names₁ (entries sc) st here next-held x) (sym f) (inside-refused n r h)
+
+  -- entering code
+  module _ {st′ : State} {first body-row visible : ℕ} (i : GoesInside s t w (entries sc) st st′ row first head here (Enters body-row visible)) where
+    entered : EnteredAt s t w (st .floor) (entries sc) body-row visible (i .finish)
+    entered = entered-at (i .finishes)
+
+    module _ {w₁ names₁ : List ℕ} {st₁ : State} (o : Over s t w w₁ names₁ st′ (inner-held i) st₁) where
+      calling : Calling s t bound codes w₁ names₁ sc visible st₁ (code .depth) body-row (st .top) (entered .body) (entered .behind) here (o .left .values)
+      calling =
+          let e = entered in
+          let f = inside-finishing i o in
+          let many = entries-length (sc .keys) (sc .places) (sc .len) in
+          let u = o .others in
+          let floor : st₁ .floor ≡ st .floor = o .floor ∙ floor-inside i o in
+          let b = going-begins s t bound codes args stands code end g on in
+          let plans : plan head here ≡ inside (i .skipped) (i .place) (as-call (e .body) (e .behind)) =
+          i .plan-is ∙ ap (λ (x : Finish). inside (i .skipped) (i .place) x) (e .is) in
+          let sound = call-sound bound head here (i .skipped) (i .place) (e .body) (e .behind) plans (b .fit) (b .sound) in
+          let shown : Shows s t w (st .floor) (drop (sc .len - visible) (entries sc)) (e .behind) = rw many at (e .shows) in
+          let upper : drop (st .floor) w₁ ≡ drop (st .floor) w = rw (floor-inside i o) at (u .upper) in
+          record {
+            at = e .at;
+            visible-in = rw many at (e .few);
+            few = rw many at (g .ready .setting .few);
+            shows = rw floor (shows-kept s t w (st .floor) w₁ upper (u .size) _ (e .behind) shown);
+            fitting = f .fitting;
+            stand = f .stand;
+            sound = f .sound;
+            fit = sound .0;
+            scope-sound = sound .1;
+            single = call-single head here (i .skipped) (i .place) (e .body) (e .behind) plans (g .ready .single);
+            namespaces = inside-named i o;
+            counted = inside-counted i o;
+            most = o .most;
+            entered = g .ready .entered;
+          }
+
+    module _ (w₁ names₁ : List ℕ) where
+      pub inside-can-call : (out : Out) → Met s t w w₁ names₁ st′ (inner-held i) out → CanCall s t w₁ names₁ sc visible (code .depth) body-row (st .top) out
+      inside-can-call (Done st₁) o = record {
+        bound = bound;
+        codes = codes;
+        body = entered .body;
+        behind = entered .behind;
+        here = here;
+        values = o .left .values;
+        calls = calling o;
+      }
+      inside-can-call (Refused n r) h = tt
+
+      pub inside-calls : (out : Out) (w₂ names₂ : List ℕ) (left : Answer) → Met s t w w₁ names₁ st′ (inner-held i) out
+          → Called s t w₁ w₂ names₁ names₂ sc visible (code .depth) body-row (st .top) row left out
+          → LeftBy s t w w₂ names₂ (entries sc) st here next-held left
+      inside-calls (Done st₁) w₂ names₂ left o f =
+          inside-left i o w₂ names₂ left
+          (subst (λ (x : Finish). LeftBy s t w₁ w₂ names₂ (entries sc) (with-top st₁ (st₁ .room) (st .top)) here (hold (st₁ .steps) (st₁ .room) (finish (run-code codes) row here x (o .left .values))) left)
+          (sym (entered .is)) (f bound codes (entered .body) (entered .behind) here (o .left .values) (entries sc) (calling o)))
+      inside-calls (Refused n r) w₂ names₂ left h f = subst (λ (x : Answer). LeftBy s t w w₂ names₂ (entries sc) st here next-held x) (sym f) (inside-refused i n r h)

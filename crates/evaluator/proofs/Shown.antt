@@ -1,0 +1,227 @@
+-- Laws of the visible definitions, as a scope's entries show them: what a key finds against what a name finds, and that a part of the
+-- workspace elsewhere may change. And the same of the arguments.
+use Prim.Native.Nat.{ℕ, zero, suc, _+_, _-_, _≤_, _<_}
+use mathlib.Core.Path.{_≡_, refl, sym, ap, _∙_, subst}
+use mathlib.Core.List.{List, [], _∷_, map}
+use mathlib.Core.Bool.{Bool, true, false}
+use native.Mathlib.Omega.{arith}
+use lib.ListN.{length, getD, take, drop}
+use lib.Seq.{slice, take-take, drop-drop}
+use lib.Dec.{eqb}
+use borrow.Author.Tests.{eq-eqb, eqb-true, eqb-false}
+use mir.Val.{Val}
+use denote.Shadow.{shadow}
+use denote.Array.{each}
+use denote.Struct.Field.{u32-field}
+use Rattle.spec.specs.Expr.{ref, Exprs, none, more}
+use Rattle.spec.specs.Nodes.{Nodes}
+use Rattle.spec.specs.Plan.{Defined, value, function, Definition, Scope, Found as Sought, latest, nothing, look-up, Arguments}
+use Rattle.laws.proofs.Fits.{Fits}
+use Rattle.evaluator.specs.Stands.{key-of}
+use Rattle.evaluator.specs.Entries.{Entry, entries-at, find}
+use Rattle.evaluator.specs.Completed.{Stand, ArgumentsAt}
+use Rattle.evaluator.specs.Planned.{CodeAt, EntryAt, value-at, function-at, Shows, Lent, no-code, in-code}
+use Rattle.evaluator.specs.declared.plan.Code.{Code}
+use Rattle.evaluator.specs.declared.scope.Found.{Found}
+use Rattle.evaluator.specs.declared.scope.Found.the-variants.{Value, Function, Nothing}
+use Rattle.evaluator.proofs.Entries.{from-packed, to-packed, find-value, find-function, find-other}
+use Rattle.evaluator.proofs.Keys.{key-same, key-small}
+
+-- Parts of the workspace
+
+slice-from : (f t : ℕ) (l : List ℕ) → slice f t l ≡ take (t - f) (drop f l)
+slice-from zero t l = let all : t - 0 ≡ t = omega arith in rw all
+slice-from (suc f) zero l = let none : 0 - suc f ≡ 0 = omega arith in rw none
+slice-from (suc f) (suc t) [] = go (suc t - suc f)
+  where
+    go : (k : ℕ) → [] ≡ take {A = ℕ} k []
+    go zero = refl
+    go (suc k) = refl
+slice-from (suc f) (suc t) (x ∷ l) = let back : suc t - suc f ≡ t - f = omega arith in rw back (slice-from f t l)
+
+-- a part above what changed, and one below it
+slice-above : (w w′ : List ℕ) (k f t : ℕ) → drop k w′ ≡ drop k w → k ≤ f → slice f t w′ ≡ slice f t w
+slice-above w w′ k f t e h =
+    let past : k + (f - k) ≡ f = omega arith in
+    let rest : drop f w′ ≡ drop f w = rw past at (sym (drop-drop (f - k) k w′) ∙ ap (drop (f - k)) e ∙ drop-drop (f - k) k w) in
+    slice-from f t w′ ∙ ap (take (t - f)) rest ∙ sym (slice-from f t w)
+
+slice-below : (w w′ : List ℕ) (k f t : ℕ) → take k w′ ≡ take k w → t ≤ k → slice f t w′ ≡ slice f t w
+slice-below w w′ k f t e h = ap (drop f) (sym (take-take t k w′ h) ∙ ap (take t) e ∙ take-take t k w h)
+
+-- Places
+
+-- every place is a number of 32 bits, as a scope has them
+abbrev pub Words : List Entry → Type 0
+Words [] = Unit {0}
+Words (e ∷ es) = (e .place < 0x100000000) × Words es
+
+-- what owning an array of such numbers tells
+pub array-words : (ps : List ℕ) (us : List Val) → shadow (each ℕ (u32-field .row .own) (map (λ (v : ℕ). v) ps) us) → (i : ℕ)
+    → getD ps i 0 < 0x100000000
+array-words [] us h i = omega arith
+array-words (p ∷ ps) [] h i = absurd h
+array-words (p ∷ ps) (u ∷ us) h zero = h .0 .1
+array-words (p ∷ ps) (u ∷ us) h (suc i) = array-words ps us (h .1) i
+
+pub entries-words : (keys places : List ℕ) → ((i : ℕ) → getD places i 0 < 0x100000000) → (n : ℕ) → Words (entries-at keys places n)
+unfolding entries-at
+entries-words keys places h zero = tt
+entries-words keys places h (suc n) = (h n, entries-words keys places h n)
+
+-- What a name finds
+
+module _ (m n : ℕ) (d : Definition) (ds : Scope) where
+  look-up-here : d .marker ≡ m → d .name ≡ n → latest (d .content) ds ≡ look-up m n (d ∷ ds)
+  unfolding look-up
+  look-up-here h h′ = rw (eq-eqb (d .marker) m h, eq-eqb (d .name) n h′)
+
+  look-up-past : (d .marker ≡ m → d .name ≡ n → ⊥) → look-up m n ds ≡ look-up m n (d ∷ ds)
+  unfolding look-up
+  look-up-past h = go (eqb (d .marker) m) refl (eqb (d .name) n) refl
+    where
+      go : (b : Bool) → eqb (d .marker) m ≡ b → (c : Bool) → eqb (d .name) n ≡ c → look-up m n ds ≡ look-up m n (d ∷ ds)
+      go true q true q′ = absurd (h (eqb-true _ _ q) (eqb-true _ _ q′))
+      go true q false q′ = rw (q, q′)
+      go false q c q′ = rw q
+
+-- what a key finds in the entries, and what the name of that key finds in the definitions
+pub data Answers (s t w : List ℕ) (floor : ℕ) (es : List Entry) : Found → Sought → Type 0 where
+  no-answer : Answers s t w floor es Nothing nothing
+  value-answer : (from to : ℕ) (vs : Exprs) (behind : Scope) → Stand w from to vs → from < to → floor ≤ from
+      → Answers s t w floor es (Value from to) (latest (value vs) behind)
+  function-answer : (code visible : ℕ) (body : Nodes) (behind : Scope) → CodeAt s t code body → visible ≤ length es
+      → Shows s t w floor (drop (length es - visible) es) behind → Answers s t w floor es (Function code visible) (latest (function body) behind)
+
+module _ (s t w : List ℕ) (floor : ℕ) where
+  -- Shows
+
+  pub shows-length : (es : List Entry) (ds : Scope) → Shows s t w floor es ds → length es ≡ length ds
+  unfolding Shows
+  shows-length [] [] h = refl
+  shows-length [] (d ∷ ds) h = absurd h
+  shows-length (e ∷ es) [] h = absurd h
+  shows-length (e ∷ es) (d ∷ ds) h = ap suc (shows-length es ds (h .1))
+
+  pub shows-more : (e : Entry) (es : List Entry) (d : Definition) (ds : Scope) → EntryAt s t w floor e (d .marker) (d .name) (d .content)
+      → Shows s t w floor es ds → Shows s t w floor (e ∷ es) (d ∷ ds)
+  unfolding Shows
+  shows-more e es d ds h l = (h, l)
+
+  -- a definition elsewhere in the workspace, or a lower floor
+  entry-kept : (w′ : List ℕ) → drop floor w′ ≡ drop floor w → length w′ ≡ length w → (e : Entry) (m n : ℕ) (c : Defined)
+      → EntryAt s t w floor e m n c → EntryAt s t w′ floor e m n c
+  entry-kept w′ same size e m n (value vs) (value-at from to f k p low order stand) =
+      value-at from to f k p low order
+      (record {
+        order = stand .order;
+        inside = omega (arith, size, stand .inside);
+        bytes = slice-above w w′ floor from to same low ∙ stand .bytes;
+      })
+  entry-kept w′ same size e m n (function body) (function-at f k code) = function-at f k code
+
+  pub shows-kept : (w′ : List ℕ) → drop floor w′ ≡ drop floor w → length w′ ≡ length w → (es : List Entry) (ds : Scope)
+      → Shows s t w floor es ds → Shows s t w′ floor es ds
+  unfolding Shows
+  shows-kept w′ same size [] [] h = tt
+  shows-kept w′ same size [] (d ∷ ds) h = absurd h
+  shows-kept w′ same size (e ∷ es) [] h = absurd h
+  shows-kept w′ same size (e ∷ es) (d ∷ ds) h =
+      (entry-kept w′ same size e (d .marker) (d .name) (d .content) (h .0), shows-kept w′ same size es ds (h .1))
+
+  entry-lower : (floor′ : ℕ) → floor′ ≤ floor → (e : Entry) (m n : ℕ) (c : Defined) → EntryAt s t w floor e m n c → EntryAt s t w floor′ e m n c
+  entry-lower floor′ less e m n (value vs) (value-at from to f k p low order stand) = value-at from to f k p (omega arith) order stand
+  entry-lower floor′ less e m n (function body) (function-at f k code) = function-at f k code
+
+  pub shows-lower : (floor′ : ℕ) → floor′ ≤ floor → (es : List Entry) (ds : Scope) → Shows s t w floor es ds → Shows s t w floor′ es ds
+  unfolding Shows
+  shows-lower floor′ less [] [] h = tt
+  shows-lower floor′ less [] (d ∷ ds) h = absurd h
+  shows-lower floor′ less (e ∷ es) [] h = absurd h
+  shows-lower floor′ less (e ∷ es) (d ∷ ds) h =
+      (entry-lower floor′ less e (d .marker) (d .name) (d .content) (h .0), shows-lower floor′ less es ds (h .1))
+
+  behind-more : (visible : ℕ) (e : Entry) (es : List Entry) (behind : Scope) → visible ≤ length es
+      → Shows s t w floor (drop (length es - visible) es) behind → Shows s t w floor (drop (length (e ∷ es) - visible) (e ∷ es)) behind
+  behind-more visible e es behind h sh = let one : length (e ∷ es) - visible ≡ suc (length es - visible) = omega arith in rw one sh
+
+  entry-fits : (e : Entry) (m n : ℕ) (c : Defined) → EntryAt s t w floor e m n c → Fits (ref m n)
+  entry-fits e m n (value vs) (value-at from to f k p low order stand) = f
+  entry-fits e m n (function body) (function-at f k code) = f
+
+  -- the latest definition is of the key, or it isn't
+
+  module _ (m n : ℕ) (fits : Fits (ref m n)) (e : Entry) (es : List Entry) where
+    abbrev key : ℕ
+    key = key-of m n
+
+    latest-here : (k l : ℕ) (c : Defined) (ds : Scope) → EntryAt s t w floor e k l c → Shows s t w floor es ds → e .place < 0x100000000
+        → key-of k l ≡ key → Answers s t w floor (e ∷ es) (find key (e ∷ es)) (latest c ds)
+    latest-here k l (value vs) ds (value-at from to f is p low order stand) sh small same =
+        let short : to ≤ 65536 = omega (arith, small, p) in
+        let found : find key (e ∷ es) ≡ Value from to = sym (find-value key e es (is ∙ same)) ∙ rw (p, from-packed from to order short, to-packed from to order short) in
+        rw found (value-answer from to vs ds stand order low)
+    latest-here k l (function body) ds (function-at f is code) sh small same =
+        let one : suc (length es) - length es ≡ 1 = omega arith in
+        let found : find key (e ∷ es) ≡ Function (e .place) (length es) = sym (find-function key e es (omega (arith, is, same))) in
+        rw found (function-answer (e .place) (length es) body ds code (omega arith) (rw one sh))
+
+    latest-other : (k l : ℕ) (c : Defined) → EntryAt s t w floor e k l c → (key-of k l ≡ key → ⊥) → find key es ≡ find key (e ∷ es)
+    latest-other k l (value vs) (value-at from to f is p low order stand) other =
+        find-other key e es (λ q. other (omega arith)) (λ q. omega (arith, is, q, key-small k l (f .1) (f .2)))
+    latest-other k l (function body) (function-at f is code) other =
+        find-other key e es (λ q. omega (arith, is, q, key-small m n (fits .1) (fits .2))) (λ q. other (omega arith))
+
+  answers-more : (e : Entry) (es : List Entry) {f : Found} {g : Sought} → Answers s t w floor es f g → Answers s t w floor (e ∷ es) f g
+  answers-more e es no-answer = no-answer
+  answers-more e es (value-answer from to vs behind stand order low) = value-answer from to vs behind stand order low
+  answers-more e es (function-answer code visible body behind at h sh) =
+      function-answer code visible body behind at (omega (arith, h)) (behind-more visible e es behind h sh)
+
+  answers-next : (m n : ℕ) → Fits (ref m n) → (e : Entry) (es : List Entry) (d : Definition) (ds : Scope) → e .place < 0x100000000
+      → EntryAt s t w floor e (d .marker) (d .name) (d .content) → Shows s t w floor es ds
+      → Answers s t w floor es (find (key-of m n) es) (look-up m n ds)
+      → Answers s t w floor (e ∷ es) (find (key-of m n) (e ∷ es)) (look-up m n (d ∷ ds))
+  answers-next m n fits e es d ds small here sh rest = go (eqb (key-of (d .marker) (d .name)) (key-of m n)) refl
+    where
+      go : (b : Bool) → eqb (key-of (d .marker) (d .name)) (key-of m n) ≡ b → Answers s t w floor (e ∷ es) (find (key-of m n) (e ∷ es)) (look-up m n (d ∷ ds))
+      go true q =
+          let same : key-of (d .marker) (d .name) ≡ key-of m n = eqb-true _ _ q in
+          let named = key-same (d .marker) (d .name) m n (entry-fits e (d .marker) (d .name) (d .content) here .2) (fits .2) same in
+          subst (λ (g : Sought). Answers s t w floor (e ∷ es) (find (key-of m n) (e ∷ es)) g) (look-up-here m n d ds (named .0) (named .1))
+          (latest-here m n fits e es (d .marker) (d .name) (d .content) ds here sh small same)
+      go false q =
+          let other : key-of (d .marker) (d .name) ≡ key-of m n → ⊥ = eqb-false _ _ q in
+          let past : look-up m n ds ≡ look-up m n (d ∷ ds) = look-up-past m n d ds (λ a b. other (omega (arith, a, b))) in
+          let left : find (key-of m n) es ≡ find (key-of m n) (e ∷ es) = latest-other m n fits e es (d .marker) (d .name) (d .content) here other in
+          rw (sym past, sym left) (answers-more e es rest)
+
+  pub answers : (m n : ℕ) → Fits (ref m n) → (es : List Entry) (ds : Scope) → Words es → Shows s t w floor es ds
+      → Answers s t w floor es (find (key-of m n) es) (look-up m n ds)
+  unfolding Shows find look-up
+  answers m n fits [] [] small sh = no-answer
+  answers m n fits [] (d ∷ ds) small sh = absurd sh
+  answers m n fits (e ∷ es) [] small sh = absurd sh
+  answers m n fits (e ∷ es) (d ∷ ds) small sh = answers-next m n fits e es d ds (small .0) (sh .0) (sh .1) (answers m n fits es ds (small .1) (sh .1))
+
+-- Arguments
+
+arguments-kept : (w w′ args : List ℕ) (top i from to : ℕ) (vs : Exprs) → take top w′ ≡ take top w → to ≤ top → ArgumentsAt w args i from to vs
+    → ArgumentsAt w′ args i from to vs
+unfolding ArgumentsAt
+arguments-kept w w′ args top i from to none same h a = a
+arguments-kept w w′ args top i from to (more v vs) same h a =
+    let mid = a .0 in (
+      mid,
+      a .1,
+      a .2,
+      slice-below w w′ top from mid same (omega (arith, a .2)) ∙ a .3,
+      a .4,
+      arguments-kept w w′ args top (i + 1) mid to vs same h (a .5),
+    )
+
+pub lent-kept : (w w′ args : List ℕ) (code : Code) (top top′ : ℕ) (xs : Arguments) → Lent w args code top xs → length w′ ≡ length w
+    → take top w′ ≡ take top w → top ≤ top′ → Lent w′ args code top′ xs
+lent-kept w w′ args code top top′ xs (no-code h) whole same up = no-code h
+lent-kept w w′ args code top top′ xs (in-code from h size below inside short at) whole same up =
+    in-code from h size (omega arith) (omega arith) (omega arith) (arguments-kept w w′ args top 0 from (code .to) _ same below at)

@@ -1,0 +1,42 @@
+-- `evaluator::element::begin` meets its contract: no step, or the task that is planned. Assumes nothing.
+use borrow.Author.Needs.{needs}
+use mathlib.Core.Path.{refl}
+use native.Mathlib.Omega.{arith}
+use Rattle.evaluator.specs.Entries.{entries}
+use Rattle.evaluator.proofs.Begins.{eval-none, begin-performs}
+use Rattle.evaluator.proofs.element.begin.Statement.{statement}
+use Rattle.evaluator.proofs.element.begin.Tie as tie
+
+returns : tie.Need-returns
+returns c bound run e h b =
+    let x = c .before .before .before .before .args in
+    eval-none (x .s .now) (x .table .now) (x .row) run h e (b .node) (x .state .steps) (x .state .room) (c .if1 .taken)
+
+sub-t16 : tie.Need-sub-t16
+sub-t16 c = search needs
+
+plan-requires : tie.Need-plan-requires
+plan-requires c κs = search needs
+
+perform-requires : tie.Need-perform-requires
+perform-requires c κs =
+    let k = c .before .before .before .before in
+    let x = k .before .before .before .before .args in
+    let b = k .before .before .before .before .pre .begins in
+    let planned = c .before .before .plan .ensures (x .w .now) (x .state .floor) (x .state .top) _ _ (b .node) (b .setting) in
+    (entries (x .scope), x .state, _, _, refl, begin-performs b (omega (arith, k .if1 .left)) planned)
+
+same-length : tie.Need-same-length
+same-length c = search needs
+
+returns-2 : tie.Need-returns-2
+returns-2 c bound run e h b =
+    let p = c .before .before .before .before .before in
+    let k = p .before .before in
+    let x = k .before .before .before .before .args in
+    let planned = p .plan .ensures (x .w .now) (x .state .floor) (x .state .top) e h (b .node) (b .setting) in
+    c .before .before .perform .ensures (entries (x .scope)) (x .state) run e h refl (begin-performs b (omega (arith, k .if1 .left)) planned)
+
+pub begin-spec : {M : Type 1} → statement M
+begin-spec =
+    tie.close (tie.spec returns sub-t16 plan-requires perform-requires same-length returns-2)

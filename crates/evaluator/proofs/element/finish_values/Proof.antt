@@ -1,0 +1,116 @@
+-- `element::finish_values` meets its contract: a data form, a join, or a definition's values moved. Assumes nothing.
+use borrow.Author.Needs.{needs}
+use native.Mathlib.Omega.{arith}
+use Rattle.evaluator.specs.Listed.{CanFinish}
+use Rattle.evaluator.specs.declared.values.Out.the-variants.{Done}
+use Rattle.evaluator.specs.declared.plan.After.the-variants.{Concat, Define, Call}
+use Rattle.evaluator.proofs.Finishes.{can-define, can-join, no-call, form-finished, define-finished, concat-finished}
+use Rattle.evaluator.proofs.element.finish_values.Statement.{statement}
+use Rattle.evaluator.proofs.element.finish_values.Tie as tie
+
+enum-told : tie.Need-enum-told
+enum-told c = search needs
+
+wrapped-requires : tie.Need-wrapped-requires
+wrapped-requires c κs = search needs
+
+leaves-requires : tie.Need-leaves-requires
+leaves-requires c κs = search needs
+
+enum-told-2 : tie.Need-enum-told-2
+enum-told-2 c = search needs
+
+joined-requires : tie.Need-joined-requires
+joined-requires c κs =
+    let start = c .before .before .before .before in
+    let a = start .args in
+    let can : CanFinish (a .w .now) (a .start) Concat (Done (a .state)) = rw (c .before .enum-told2 .given .1) at (start .pre) in
+    (start .pre .4 .fitting, can-join can)
+
+leaves-requires-2 : tie.Need-leaves-requires-2
+leaves-requires-2 c κs = search needs
+
+enum-known-after : tie.Need-enum-known-after
+enum-known-after c = search needs
+
+kept-requires : tie.Need-kept-requires
+kept-requires c κs = search needs
+
+pack-requires : tie.Need-pack-requires
+pack-requires c κs =
+    let told = c .before .before .before .before .before in
+    let start = told .before .before .before in
+    let a = start .args in
+    let key = told .after .given .0 .0 in
+    let can : CanFinish (a .w .now) (a .start) (Define key) (Done (a .state)) = rw (told .after .given .1) at (start .pre) in
+    let some = can-define key can in
+    let fits = start .pre .4 .fitting in
+    let moved = c .before .before .kept .ensures in
+    (omega (arith, some, moved .floor), omega (arith, fits .below, fits .short))
+
+enum-told-3 : tie.Need-enum-told-3
+enum-told-3 c = search needs
+
+same-length : tie.Need-same-length
+same-length c = search needs
+
+returns : tie.Need-returns
+returns c =
+    let k = c .before .before .before in
+    let told = k .before .before in
+    let a = told .before .before .before .args in
+    rw (c .leaves .ensures, told .enum-told .given .1)
+    (form-finished (a .w .now) (k .wrapped .last .0) (a .state) (a .start) (a .row) (k .wrapped .result) (k .wrapped .ensures))
+
+same-length-2 : tie.Need-same-length-2
+same-length-2 c = search needs
+
+returns-2 : tie.Need-returns-2
+returns-2 c =
+    let k = c .before .before .before in
+    let told = k .before .before in
+    let a = told .before .before .before .args in
+    rw (c .leaves2 .ensures, told .enum-told2 .given .1)
+    (concat-finished (a .w .now) (k .joined .last .0) (a .state) (a .start) (a .row) (k .joined .result) (k .joined .ensures))
+
+same-length-3 : tie.Need-same-length-3
+same-length-3 c = search needs
+
+returns-3 : tie.Need-returns-3
+returns-3 c =
+    let k = c .before .before .before in
+    let told = k .before .before .before in
+    let a = told .before .before .before .args in
+    rw (c .pack .ensures, told .after .given .1)
+    (define-finished (a .w .now) (k .kept .last .0) (a .state) (a .start) (a .row) (told .after .given .0 .0) (k .kept .result) (k .kept .ensures))
+
+returns-4 : tie.Need-returns-4
+returns-4 c =
+    let start = c .before .before .before in
+    let a = start .args in
+    let code = c .enum-told3 .given .0 .0 in
+    let visible = c .enum-told3 .given .0 .1 .0 in
+    let can : CanFinish (a .w .now) (a .start) (Call code visible) (Done (a .state)) = rw (c .enum-told3 .given .1) at (start .pre) in
+    absurd (no-call code visible can)
+
+pub finish-values-spec : {M : Type 1} → statement M
+finish-values-spec =
+    tie.close
+    (tie.spec
+    enum-told
+    wrapped-requires
+    leaves-requires
+    enum-told-2
+    joined-requires
+    leaves-requires-2
+    enum-known-after
+    kept-requires
+    pack-requires
+    enum-told-3
+    same-length
+    returns
+    same-length-2
+    returns-2
+    same-length-3
+    returns-3
+    returns-4)

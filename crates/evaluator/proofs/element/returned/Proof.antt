@@ -1,0 +1,75 @@
+-- `element::returned` meets its contract: a refusal stays; the values of a code are the call's, or the form of them. Assumes nothing.
+use borrow.Author.Needs.{needs}
+use mathlib.Core.Path.{sym, _∙_}
+use Rattle.evaluator.specs.Listed.{CanReturn}
+use Rattle.evaluator.specs.declared.values.Out.the-variants.{Done}
+use Rattle.evaluator.proofs.element.returned.Statement.{statement}
+use Rattle.evaluator.proofs.element.returned.Tie as tie
+
+enum-known-out : tie.Need-enum-known-out
+enum-known-out c = search needs
+
+refused-requires : tie.Need-refused-requires
+refused-requires c κs = search needs
+
+enum-known-out-2 : tie.Need-enum-known-out-2
+enum-known-out-2 c = search needs
+
+is-single-requires : tie.Need-is-single-requires
+is-single-requires c κs = search needs
+
+-- the values of the code
+ran : (c : tie.After-known-told2) → let a = c .before .before .before .before .before .before .args in
+    CanReturn (a .w .now) (a .start) (a .from) (Done (c .before .out2 .given .0 .0))
+ran c = rw (c .before .out2 .given .1) at (c .before .before .before .before .before .before .pre .1)
+
+lowered-requires : tie.Need-lowered-requires
+lowered-requires c κs =
+    let r = ran (c .before .before .before) .1 in
+    (r .fitting, (r .order, r .stand .order))
+
+same-length : tie.Need-same-length
+same-length c = search needs
+
+returns : tie.Need-returns
+returns c =
+    let k = c .before .before in
+    let test = k .before .before in
+    let single = test .before in
+    rw (single .before .before .out2 .given .1) (λ vs body r at.
+    rw (sym (single .is-single .ensures body at) ∙ test .if1 .taken) (k .lowered .ensures vs (r .stand) (r .sound .1)))
+
+wrapped-requires : tie.Need-wrapped-requires
+wrapped-requires c κs =
+    let r = ran (c .before .before .before) in
+    ((r .1 .fitting, r .1 .order), (r .0, r .1 .stand, r .1 .sound .0))
+
+returns-2 : tie.Need-returns-2
+returns-2 c = rw (c .before .before .out .given .1) (c .refused .ensures)
+
+same-length-2 : tie.Need-same-length-2
+same-length-2 c = search needs
+
+returns-3 : tie.Need-returns-3
+returns-3 c =
+    let k = c .before .before in
+    let test = k .before .before in
+    let single = test .before in
+    rw (single .before .before .out2 .given .1) (λ vs body r at.
+    rw (sym (single .is-single .ensures body at) ∙ test .if1 .left) (k .wrapped .ensures vs (r .stand) (r .sound .0)))
+
+pub returned-spec : {M : Type 1} → statement M
+returned-spec =
+    tie.close
+    (tie.spec
+    enum-known-out
+    refused-requires
+    enum-known-out-2
+    is-single-requires
+    lowered-requires
+    same-length
+    returns
+    wrapped-requires
+    returns-2
+    same-length-2
+    returns-3)

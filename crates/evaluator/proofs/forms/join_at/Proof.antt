@@ -1,0 +1,114 @@
+-- `forms::join_at` meets its contract: refused if there is no room, else put together above the top and moved down.
+-- Assumes nothing.
+use borrow.Author.Needs.{needs}
+use Prim.Native.Nat.{ℕ, _+_}
+use mathlib.Core.Path.{_≡_, refl}
+use native.Mathlib.Omega.{arith}
+use lib.ListN.{length}
+use Rattle.spec.specs.Expr.{array-head}
+use Rattle.laws.proofs.Atoms.{head-bounds}
+use Rattle.evaluator.proofs.Made.{join-length, join-unkept, join-kept}
+use Rattle.evaluator.proofs.forms.join_at.Statement.{statement}
+use Rattle.evaluator.proofs.forms.join_at.Tie as tie
+
+sub-k : tie.Need-sub-k
+sub-k c = search needs
+
+sub-k-2 : tie.Need-sub-k-2
+sub-k-2 c = search needs
+
+add-k : tie.Need-add-k
+add-k c = search needs
+
+head-size-requires : tie.Need-head-size-requires
+head-size-requires c κs = search needs
+
+add-n : tie.Need-add-n
+add-n c =
+    let a = c .before .before .args in
+    omega (arith, c .head-size .ensures, head-bounds (join-length (a .a) (a .b) (a .c) (a .d)))
+
+-- how many bytes the array has
+sized : (c : tie.After-head-size) → let a = c .before .before .args in let k : ℕ = join-length (a .a) (a .b) (a .c) (a .d) in
+    c .head-size .result + k ≡ length (array-head k) + k
+sized c = omega (arith, c .head-size .ensures)
+
+refused-requires : tie.Need-refused-requires
+refused-requires c κs = search needs
+
+returns : tie.Need-returns
+returns c =
+    let h = c .before .before .before in
+    let a = h .before .before .args in
+    let p = h .before .before .pre in
+    rw (c .refused .ensures)
+    (refl, join-unkept (a .w .now) (a .state) (a .a) (a .b) (a .c) (a .d) (p .0 .0) (p .1 .1) (p .1 .3) _ (sized h) (c .before .if1 .taken))
+
+put-head-requires : tie.Need-put-head-requires
+put-head-requires c κs =
+    let h = c .before .before .before in
+    let a = h .before .before .args in
+    omega (arith, h .head-size .ensures, head-bounds (join-length (a .a) (a .b) (a .c) (a .d)))
+
+move-bytes-requires : tie.Need-move-bytes-requires
+move-bytes-requires c κs = search needs
+
+sub-move-bytes : tie.Need-sub-move-bytes
+sub-move-bytes c = search needs
+
+add-move-bytes : tie.Need-add-move-bytes
+add-move-bytes c = search needs
+
+move-bytes-requires-2 : tie.Need-move-bytes-requires-2
+move-bytes-requires-2 c κs = search needs
+
+add-move-bytes-2 : tie.Need-add-move-bytes-2
+add-move-bytes-2 c = search needs
+
+move-bytes-requires-3 : tie.Need-move-bytes-requires-3
+move-bytes-requires-3 c κs = search needs
+
+add-charged : tie.Need-add-charged
+add-charged c = search needs
+
+charged-requires : tie.Need-charged-requires
+charged-requires c κs = search needs
+
+same-length : tie.Need-same-length
+same-length c = search needs
+
+returns-2 : tie.Need-returns-2
+returns-2 c =
+    let m₃ = c .before .before .before in
+    let m₂ = m₃ .before .before .before .before in
+    let m₁ = m₂ .before .before .before .before in
+    let m₀ = m₁ .before .before .before .before in
+    let h = m₀ .before .before .before .before in
+    let a = h .before .before .args in
+    let p = h .before .before .pre in
+    rw (c .charged .ensures)
+    (join-kept (a .w .now) (a .state) (a .a) (a .b) (a .c) (a .d) (p .0 .0) (p .1 .1) (p .1 .3) _ (sized h) (p .0 .1) (m₀ .before .before .if1 .left)
+    (m₀ .put-head .ensures) (m₁ .move-bytes .ensures) (m₂ .move-bytes2 .ensures) (m₃ .move-bytes3 .ensures))
+
+pub join-at-spec : {M : Type 1} → statement M
+join-at-spec =
+    tie.close
+    (tie.spec
+    sub-k
+    sub-k-2
+    add-k
+    head-size-requires
+    add-n
+    refused-requires
+    returns
+    put-head-requires
+    move-bytes-requires
+    sub-move-bytes
+    add-move-bytes
+    move-bytes-requires-2
+    add-move-bytes-2
+    move-bytes-requires-3
+    add-charged
+    charged-requires
+    same-length
+    returns-2)

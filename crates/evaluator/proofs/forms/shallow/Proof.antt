@@ -1,0 +1,109 @@
+-- `forms::shallow` meets its contract. The invariant is `Diving`, which each token keeps.
+-- Assumes nothing.
+use borrow.Author.Needs.{needs}
+use Prim.Native.Nat.{_-_}
+use mathlib.Core.Path.{_≡_, sym, _∙_}
+use native.Mathlib.Omega.{arith}
+use lib.ListN.{length}
+use Rattle.laws.proofs.Steps.{all-bytes}
+use Rattle.atoms.specs.declared.Token.{Token as Answer}
+use Rattle.atoms.specs.declared.Token.the-variants.{Opening, Closing}
+use Rattle.evaluator.proofs.Depths.{Diving, diving-start, diving-end, DivingTurn, diving-turn}
+use Rattle.evaluator.proofs.forms.shallow.Statement.{statement}
+use Rattle.evaluator.proofs.forms.shallow.Tie as tie
+
+abbrev Inv-loop : tie.InvT-loop
+Inv-loop values at₀ depth₀ at depth = Diving values at depth
+
+abbrev μ-loop : tie.MeasureT-loop
+μ-loop values at₀ depth₀ at depth = length values - at
+
+loop-holds : tie.Need-loop-holds Inv-loop μ-loop
+loop-holds c =
+    let a = c .before .args in
+    diving-start (a .values .now) (all-bytes (a .values .now) (λ i. c .shared-slice-known .given i .fits)) (c .before .pre .1)
+
+token-at-requires : tie.Need-token-at-requires Inv-loop μ-loop
+token-at-requires c κs = omega arith
+
+-- what is known of the turn where the token is this one
+at-token : (c : tie.After-token-at Inv-loop μ-loop) (r : Answer) → c .token-at .result ≡ r
+    → DivingTurn (c .before .before .before .before .args .values .now) (c .before .before .loop .at) (c .before .before .loop .depth) r
+at-token c r e = diving-turn _ _ _ (c .before .before .loop .inv) (c .before .loop-test .taken) r (sym e ∙ c .token-at .ensures)
+
+enum-told : tie.Need-enum-told Inv-loop μ-loop
+enum-told c = search needs
+
+returns : tie.Need-returns Inv-loop μ-loop
+returns c = at-token (c .before .before .before) Opening (c .before .enum-told .given .1) .0 (c .if1 .taken)
+
+add-depth : tie.Need-add-depth Inv-loop μ-loop
+add-depth c = omega arith
+
+add-at : tie.Need-add-at Inv-loop μ-loop
+add-at c = omega arith
+
+loop-less : tie.Need-loop-less Inv-loop μ-loop
+loop-less c = omega arith
+
+loop-again : tie.Need-loop-again Inv-loop μ-loop
+loop-again c = at-token (c .before .before .before) Opening (c .before .enum-told .given .1) .1 (c .if1 .left)
+
+enum-told-2 : tie.Need-enum-told-2 Inv-loop μ-loop
+enum-told-2 c = search needs
+
+sub-depth : tie.Need-sub-depth Inv-loop μ-loop
+sub-depth c = omega (arith, at-token (c .before .before) Closing (c .enum-told2 .given .1) .0)
+
+add-at-2 : tie.Need-add-at-2 Inv-loop μ-loop
+add-at-2 c = omega arith
+
+loop-less-2 : tie.Need-loop-less-2 Inv-loop μ-loop
+loop-less-2 c = omega arith
+
+loop-again-2 : tie.Need-loop-again-2 Inv-loop μ-loop
+loop-again-2 c = at-token (c .before .before) Closing (c .enum-told2 .given .1) .1
+
+enum-known-end : tie.Need-enum-known-end Inv-loop μ-loop
+enum-known-end c = search needs
+
+loop-less-3 : tie.Need-loop-less-3 Inv-loop μ-loop
+loop-less-3 c = omega (arith, at-token (c .before .before .before) _ (c .before .end .given .1) .0)
+
+loop-again-3 : tie.Need-loop-again-3 Inv-loop μ-loop
+loop-again-3 c = at-token (c .before .before .before) _ (c .before .end .given .1) .1
+
+enum-told-3 : tie.Need-enum-told-3 Inv-loop μ-loop
+enum-told-3 c = search needs
+
+returns-2 : tie.Need-returns-2 Inv-loop μ-loop
+returns-2 c = absurd (at-token (c .before .before) _ (c .enum-told3 .given .1))
+
+returns-3 : tie.Need-returns-3 Inv-loop μ-loop
+returns-3 c = diving-end _ _ _ (c .before .loop .inv) (c .loop-test .left)
+
+pub shallow-spec : {M : Type 1} → statement M
+shallow-spec =
+    tie.close
+    (tie.spec
+    Inv-loop
+    μ-loop
+    loop-holds
+    token-at-requires
+    enum-told
+    returns
+    add-depth
+    add-at
+    loop-less
+    loop-again
+    enum-told-2
+    sub-depth
+    add-at-2
+    loop-less-2
+    loop-again-2
+    enum-known-end
+    loop-less-3
+    loop-again-3
+    enum-told-3
+    returns-2
+    returns-3)

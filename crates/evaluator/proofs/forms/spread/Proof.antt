@@ -1,0 +1,68 @@
+-- `forms::spread` meets its contract. The invariant is `Spreading`, which each value that is passed keeps.
+-- Assumes nothing.
+use Prim.Native.Nat.{_-_}
+use native.Mathlib.Omega.{arith}
+use lib.ListN.{length}
+use Rattle.evaluator.proofs.Spread.{Spreading, spreading-start, spreading-right, spreading-end, Ended, spreading-turn}
+use Rattle.evaluator.proofs.forms.spread.Statement.{statement}
+use Rattle.evaluator.proofs.forms.spread.Tie as tie
+
+abbrev Inv-loop : tie.InvT-loop
+Inv-loop values base args₀ at₀ n₀ args at n = Spreading values base args at n
+
+abbrev μ-loop : tie.MeasureT-loop
+μ-loop values base args₀ at₀ n₀ args at n = length values - at
+
+loop-holds : tie.Need-loop-holds Inv-loop μ-loop
+loop-holds c =
+    let a = c .before .args in
+    let v = c .before .pre .1 in
+    spreading-start (a .values .now) (a .base) (a .args .now) (v .0, record { is = v .1; fits = v .2; shallow = v .3 })
+
+expression-end-requires : tie.Need-expression-end-requires Inv-loop μ-loop
+expression-end-requires c κs = (omega arith, omega arith, spreading-right _ _ _ _ _ (c .before .loop .inv))
+
+-- where the value ends
+at-end : (c : tie.After-put-place-arg Inv-loop μ-loop) → let l = c .before .before .before in let a = l .before .before .args in
+    Ended (a .values .now) (a .base) (l .loop .args) (l .loop .at) (l .loop .n) (c .before .expression-end .result)
+at-end c =
+    let l = c .before .before .before in
+    spreading-turn _ _ _ _ _ (l .loop .inv) _ (c .before .expression-end .ensures) (λ h. omega (arith, c .put-place-arg .given)) (c .before .before .loop-test .taken)
+
+add-put-place : tie.Need-add-put-place Inv-loop μ-loop
+add-put-place c = omega arith
+
+add-put-place-2 : tie.Need-add-put-place-2 Inv-loop μ-loop
+add-put-place-2 c = omega (arith, at-end c .inside)
+
+put-place-requires : tie.Need-put-place-requires Inv-loop μ-loop
+put-place-requires c κs = omega (arith, at-end c .forward, at-end c .inside, c .put-place-arg .given)
+
+add-n : tie.Need-add-n Inv-loop μ-loop
+add-n c = omega arith
+
+loop-less : tie.Need-loop-less Inv-loop μ-loop
+loop-less c = omega (arith, at-end (c .before) .forward)
+
+loop-again : tie.Need-loop-again Inv-loop μ-loop
+loop-again c = rw (c .put-place .ensures) (at-end (c .before) .next)
+
+returns : tie.Need-returns Inv-loop μ-loop
+returns c = λ w vs here is fits shallow.
+    spreading-end _ _ _ _ _ (c .before .loop .inv) (c .loop-test .left) w vs (record { is = is; fits = fits; shallow = shallow }) here
+
+pub spread-spec : {M : Type 1} → statement M
+spread-spec =
+    tie.close
+    (tie.spec
+    Inv-loop
+    μ-loop
+    loop-holds
+    expression-end-requires
+    add-put-place
+    add-put-place-2
+    put-place-requires
+    add-n
+    loop-less
+    loop-again
+    returns)

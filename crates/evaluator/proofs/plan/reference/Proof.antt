@@ -1,0 +1,108 @@
+-- `plan::reference` meets its contract: a function name is refused, else what the key found says what is done. Assumes nothing.
+use borrow.Author.Needs.{needs}
+use Prim.Native.Nat.{ℕ}
+use mathlib.Core.Path.{_≡_, sym, ap, _∙_}
+use mathlib.Core.List.{List}
+use native.Mathlib.Omega.{arith}
+use Rattle.spec.specs.Expr.{ref}
+use Rattle.spec.specs.Nodes.{empty}
+use Rattle.spec.specs.Plan.{Scope, plan-atom}
+use Rattle.laws.proofs.Fits.{Fits}
+use Rattle.laws.proofs.Steps.{all-bytes}
+use Rattle.evaluator.specs.Stands.{LeafAt, key-of}
+use Rattle.evaluator.specs.Entries.{entries, find}
+use Rattle.evaluator.specs.Planned.{Shows, Planned, refuses}
+use Rattle.evaluator.specs.declared.scope.Found.{Found}
+use Rattle.evaluator.proofs.Nodes.{leaf-fits}
+use Rattle.evaluator.proofs.Keys.{key-small}
+use Rattle.evaluator.proofs.Shown.{array-words, entries-words, answers}
+use Rattle.evaluator.proofs.Heads.{plan-name, reference-task, reference-planned}
+use Rattle.evaluator.proofs.plan.reference.Statement.{statement}
+use Rattle.evaluator.proofs.plan.reference.Tie as tie
+
+-- a reference there fits
+fits : (c : tie.After-key) (m n : ℕ) → let a = c .before .before .before .args in LeafAt (a .s .now) (a .table .now) (a .row) (ref m n) → Fits (ref m n)
+fits c m n l =
+    leaf-fits (all-bytes (c .before .before .before .args .s .now) (λ i. c .before .before .shared-slice-known .given i .fits)) l
+
+-- what is done with what was found
+done : (c : tie.After-look-up) (f : Found) → c .look-up .result ≡ f → (w : List ℕ) (floor m n : ℕ) (ds : Scope)
+    → let a = c .before .before .before .before .before .before .args in
+    LeafAt (a .s .now) (a .table .now) (a .row) (ref m n) → Shows (a .s .now) (a .table .now) w floor (entries (a .scope)) ds
+    → Planned (a .s .now) (a .table .now) w floor (entries (a .scope)) (a .row) empty (reference-task f) (plan-atom (ref m n) ds)
+done c f is w floor m n ds at sh =
+    let k = c .before .before .before in
+    let start = k .before .before .before in
+    let a = start .args in
+    let sc = a .scope in
+    let owned = start .good .1 .1 .0 .1 .1 .1 .0 in
+    let small = entries-words (sc .keys) (sc .places) (array-words (sc .places) (owned .0) (owned .1 .1)) (sc .len) in
+    let key = k .key .ensures m n at in
+    let fit = fits k m n at in
+    let found : find (key-of m n) (entries sc) ≡ f = ap (λ (x : ℕ). find x (entries sc)) (sym key) ∙ sym (c .look-up .ensures) ∙ is in
+    let plans = plan-name (k .key .result) m n ds key fit (c .before .before .is-function .result) (c .before .before .is-function .ensures) in
+    rw (plans, c .before .if1 .left)
+    (reference-planned (a .s .now) (a .table .now) w floor (entries sc) (a .row) (ref m n) empty at
+    (rw found at (answers (a .s .now) (a .table .now) w floor m n fit (entries sc) ds small sh)))
+
+key-requires : tie.Need-key-requires
+key-requires c κs = search needs
+
+is-function-requires : tie.Need-is-function-requires
+is-function-requires c κs = search needs
+
+refuse-requires : tie.Need-refuse-requires
+refuse-requires c κs = search needs
+
+returns : tie.Need-returns
+returns c = λ w floor m n ds at sh.
+    let k = c .before .before .before in
+    let name = c .before .before .is-function in
+    let plans = plan-name (k .key .result) m n ds (k .key .ensures m n at) (fits k m n at) (name .result) (name .ensures) in
+    rw (c .refuse .ensures, plans, c .before .if1 .taken) (refuses 12)
+
+look-up-requires : tie.Need-look-up-requires
+look-up-requires c κs =
+    let k = c .before .before in
+    let start = k .before .before .before in
+    let at = start .pre .0 in
+    let fit = fits k (at .0) (at .1) (at .2) in
+    (start .pre .1, omega (arith, k .key .ensures (at .0) (at .1) (at .2), key-small (at .0) (at .1) (fit .1) (fit .2)))
+
+enum-known-from : tie.Need-enum-known-from
+enum-known-from c = search needs
+
+enum-told : tie.Need-enum-told
+enum-told c = search needs
+
+refuse-requires-2 : tie.Need-refuse-requires-2
+refuse-requires-2 c κs = search needs
+
+enum-told-2 : tie.Need-enum-told-2
+enum-told-2 c = search needs
+
+returns-2 : tie.Need-returns-2
+returns-2 c = done (c .before .before .before) _ (c .before .from .given .1)
+
+returns-3 : tie.Need-returns-3
+returns-3 c = rw (c .refuse2 .ensures) (done (c .before .before .before) _ (c .before .enum-told .given .1))
+
+returns-4 : tie.Need-returns-4
+returns-4 c = done (c .before .before) _ (c .enum-told2 .given .1)
+
+pub reference-spec : {M : Type 1} → statement M
+reference-spec =
+    tie.close
+    (tie.spec
+    key-requires
+    is-function-requires
+    refuse-requires
+    returns
+    look-up-requires
+    enum-known-from
+    enum-told
+    refuse-requires-2
+    enum-told-2
+    returns-2
+    returns-3
+    returns-4)

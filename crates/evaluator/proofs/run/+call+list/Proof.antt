@@ -1,0 +1,462 @@
+-- `run::list` and `run::call` meet their contracts, by recursion on the steps that are left: at each call they are fewer, or as many and it is
+-- the code of a call. Assumes nothing.
+use Prim.Native.Nat.{ℕ, _+_, _-_, _*_, _<_}
+use mathlib.Core.Path.{_≡_, refl, sym, ap, _∙_, subst}
+use mathlib.Core.List.{List}
+use mathlib.Core.Logic.{⊎-elim}
+use native.Mathlib.Omega.{arith}
+use lib.ListN.{length}
+use borrow.Author.Needs.{needs}
+use borrow.Fn.Kinds.{In}
+use borrow.Fn.PlainCycle.{Measures, is, falls, and}
+use Rattle.spec.specs.Expr.{Exprs}
+use Rattle.spec.specs.Nodes.{Nodes, elements}
+use Rattle.spec.specs.Plan.{Scope as Definitions, Place, inner, Here, as-call}
+use Rattle.spec.specs.Evaluation.{Left, finish, run-code}
+use Rattle.laws.specs.Holding.{Held, hold, in-list, skip}
+use Rattle.evaluator.specs.Stands.{next}
+use Rattle.evaluator.specs.Entries.{entries}
+use Rattle.evaluator.specs.Completed.{with-top}
+use Rattle.evaluator.specs.Listed.{Ready, SomeReady, Met, LeftBy, GoesInside, stands-in, Begun, Beginning, SomeBeginning, CanFinish, Finished, Calling, SomeCalling, CanCall, Called}
+use Rattle.evaluator.specs.declared.values.State.{State}
+use Rattle.evaluator.specs.declared.plan.Stands.{Stands}
+use Rattle.evaluator.specs.declared.plan.Stands.the-variants.{Inner}
+use Rattle.evaluator.specs.declared.plan.After.{After}
+use Rattle.evaluator.specs.declared.values.Out.{Out}
+use Rattle.evaluator.specs.declared.values.Out.the-variants.{Done, Refused}
+use Rattle.evaluator.specs.declared.element.Left.{Left as Answer}
+use Rattle.evaluator.specs.declared.element.Left.the-variants.{Stopped}
+use Rattle.evaluator.specs.declared.element.Step.{Step}
+use Rattle.evaluator.specs.declared.element.Step.the-variants.{Leaves, Inside, Enter}
+use Rattle.evaluator.proofs.Nodes.{node-whole}
+use Rattle.evaluator.proofs.Entries.{entries-length}
+use Rattle.evaluator.proofs.Turns.{Going, going-start, going-over, going-more, standing-here, held-next, going-begins, going-ceased, going-values, going-definition}
+use Rattle.evaluator.proofs.Insides.{steps-of, met-steps, inside-ready-as, inside-fewer, inside-can-finish, inside-finishes, inside-can-call, inside-calls}
+use Rattle.evaluator.proofs.Calling.{in-body, part-is, part-size, call-arguments, call-refused, call-ready, call-can-return, call-returns}
+use Rattle.evaluator.proofs.run.call.Reads as call
+use Rattle.evaluator.proofs.run.call.Kinds as call-kinds
+use Rattle.evaluator.proofs.run.+call+list.Lts-call as call-lts
+use Rattle.evaluator.proofs.run.list.Reads as list
+use Rattle.evaluator.proofs.run.list.Kinds as list-kinds
+use Rattle.evaluator.proofs.run.+call+list.Lts-list as list-lts
+use Rattle.evaluator.proofs.element.begin.Reads as begin-reads
+use Rattle.evaluator.proofs.element.finish.Reads as finish-reads
+use Rattle.evaluator.proofs.element.leaves.Reads as leaves-reads
+use Rattle.evaluator.proofs.element.returned.Reads as returned-reads
+use Rattle.evaluator.proofs.forms.spread.Reads as spread-reads
+use Rattle.evaluator.proofs.rows.next.Reads as next-reads
+use Rattle.evaluator.proofs.run.over.Reads as over-reads
+use Rattle.evaluator.proofs.run.stands_in.Reads as stands-in-reads
+use Rattle.evaluator.proofs.scope.Scope.add.Reads as add-reads
+use Rattle.evaluator.proofs.scope.Scope.back_to.Reads as back-to-reads
+use Rattle.evaluator.proofs.values.refused.Reads as refused-reads
+use Rattle.evaluator.proofs.run.+call+list.{statement}
+use Rattle.evaluator.proofs.run.+call+list.Tie.{close}
+
+abbrev μ-call : Measures 4 call-kinds.ps ℕ
+μ-call κs a = 2 * steps-of (a .1 .1 .1 .1 .1 .1 .0) + 1
+
+abbrev μ-list : Measures 5 list-kinds.ps ℕ
+μ-list κs a = 2 * (a .1 .1 .1 .1 .1 .1 .0 .steps)
+
+abbrev call-at : ℕ → In 4 call-kinds.ps
+call-at t = and 4 call-kinds.ps (is 4 call-kinds.ps μ-call t) call.Pre
+
+abbrev call-below : ℕ → In 4 call-kinds.ps
+call-below t = and 4 call-kinds.ps (falls 4 call-kinds.ps _<_ μ-call t) call.Pre
+
+abbrev list-at : ℕ → In 5 list-kinds.ps
+list-at t = and 5 list-kinds.ps (is 5 list-kinds.ps μ-list t) list.Pre
+
+abbrev list-below : ℕ → In 5 list-kinds.ps
+list-below t = and 5 list-kinds.ps (falls 5 list-kinds.ps _<_ μ-list t) list.Pre
+
+abbrev list-Inv-loop : list-lts.InvT-loop
+list-Inv-loop s table w₀ names₀ args scope₀ state₀ stands code first end floor depth row₀ w names scope state row =
+    ((bound codes : ℕ) (es : Nodes) (p : Place) (h : Here) → Ready s table bound codes w₀ names₀ args scope₀ state₀ stands code first end es p h
+    → Going s table bound codes args stands code end w₀ w names scope state₀ state row (hold (state₀ .steps) (state₀ .room) (in-list (run-code codes) es p h)))
+    × (floor ≡ state₀ .floor) × (depth ≡ code .depth) × (length w ≡ length w₀)
+
+abbrev list-μ-loop : list-lts.MeasureT-loop
+list-μ-loop s table w₀ names₀ args scope₀ state₀ stands code first end floor depth row₀ w names scope state row = end - row
+
+module _ (t : ℕ) where
+  abbrev list-calls : list-lts.Claims
+  list-calls = (next-reads.Asked, next-reads.Learnt, begin-reads.Asked, begin-reads.Learnt, stands-in-reads.Asked, stands-in-reads.Learnt, list-below t, list.Post, finish-reads.Asked, finish-reads.Learnt, call-below t, call.Post, refused-reads.Asked, refused-reads.Learnt, add-reads.Asked, add-reads.Learnt, over-reads.Asked, over-reads.Learnt)
+
+  list-loop-holds : list-lts.Need-loop-holds list-calls (list-at t) list.Post list-Inv-loop list-μ-loop
+  list-loop-holds c = (λ bound codes es p h r. going-start _ _ bound codes _ _ _ _ es p h r, refl, refl, refl)
+
+  -- before an expression
+  module _ (c : list-lts.In-loop list-calls (list-at t) list.Post list-Inv-loop list-μ-loop) where
+    abbrev start : list-lts.Start list-calls (list-at t) list.Post list-Inv-loop list-μ-loop
+    start = c .before .before .before .before .before
+
+    abbrev stream : List ℕ
+    stream = start .args .s .now
+
+    abbrev table : List ℕ
+    table = start .args .table .now
+
+    -- what is known of the list
+    module _ (bound codes : ℕ) (es : Nodes) (p : Place) (h : Here)
+        (r : Ready stream table bound codes (start .args .w .now) (start .args .names .now) (start .args .args .now) (start .args .scope) (start .args .state) (start .args .stands) (start .args .code) (start .args .first) (start .args .end) es p h) where
+      abbrev held : Held Left
+      held = hold (start .args .state .steps) (start .args .state .room) (in-list (run-code codes) es p h)
+
+      going : Going stream table bound codes (start .args .args .now) (start .args .stands) (start .args .code) (start .args .end) (start .args .w .now) (c .before .loop .w) (c .before .loop .names) (c .before .loop .scope) (start .args .state) (c .before .loop .state) (c .before .loop .row) held
+      going = c .before .loop .inv .0 bound codes es p h r
+
+      abbrev on : c .before .loop .row < start .args .end
+      on = c .loop-test .taken
+
+      begins : Beginning stream table bound (c .before .loop .w) (c .before .loop .names) (start .args .args .now) (c .before .loop .scope) (c .before .loop .state) (start .args .stands) (start .args .code) (c .before .loop .row) (going-more _ _ _ _ _ _ _ _ going on .head) (standing-here _ _ _ _ _ _ _ _ going on)
+      begins = going-begins _ _ _ _ _ _ _ _ going on
+
+    -- some nodes are listed
+    abbrev some : SomeReady stream table (start .args .w .now) (start .args .names .now) (start .args .args .now) (start .args .scope) (start .args .state) (start .args .stands) (start .args .code) (start .args .first) (start .args .end)
+    some = start .pre .1
+
+    some-begins : SomeBeginning stream table (c .before .loop .w) (c .before .loop .names) (start .args .args .now) (c .before .loop .scope) (c .before .loop .state) (start .args .stands) (start .args .code) (c .before .loop .row)
+    some-begins = let y = some in record { bound = y .bound; node = _; here = _; begins = begins (y .bound) (y .codes) (y .nodes) (y .place) (y .here) (y .ready) }
+
+  list-next-requires : list-lts.Need-next-requires list-calls (list-at t) list.Post list-Inv-loop list-μ-loop
+  list-next-requires c κs = let b = some-begins c in node-whole _ _ _ (b .node) (b .begins .node) .0
+
+  list-begin-requires : list-lts.Need-begin-requires list-calls (list-at t) list.Post list-Inv-loop list-μ-loop
+  list-begin-requires c κs = some-begins (c .before .before .before)
+
+  -- after its step
+  module _ (c : list-lts.After-slice-known2 list-calls (list-at t) list.Post list-Inv-loop list-μ-loop) where
+    abbrev turn : list-lts.In-loop list-calls (list-at t) list.Post list-Inv-loop list-μ-loop
+    turn = c .before .before .before .before .before .before
+
+    abbrev w₁ : List ℕ
+    w₁ = c .before .before .begin .last .1 .1 .0
+
+    abbrev names₁ : List ℕ
+    names₁ = c .before .before .begin .last .1 .1 .1 .0
+
+    module _ (bound codes : ℕ) (es : Nodes) (p : Place) (h : Here)
+        (r : Ready (stream turn) (table turn) bound codes (start turn .args .w .now) (start turn .args .names .now) (start turn .args .args .now) (start turn .args .scope) (start turn .args .state) (start turn .args .stands) (start turn .args .code) (start turn .args .first) (start turn .args .end) es p h) where
+      abbrev g : Going (stream turn) (table turn) bound codes (start turn .args .args .now) (start turn .args .stands) (start turn .args .code) (start turn .args .end) (start turn .args .w .now) (c .before .before .before .before .before .before .before .loop .w) (c .before .before .before .before .before .before .before .loop .names) (c .before .before .before .before .before .before .before .loop .scope) (start turn .args .state) (c .before .before .before .before .before .before .before .loop .state) (c .before .before .before .before .before .before .before .loop .row) (held turn bound codes es p h r)
+      g = going turn bound codes es p h r
+
+      begun : (step : Step) → c .before .before .begin .result ≡ step
+          → Begun (stream turn) (table turn) (c .before .before .before .before .before .before .before .loop .w) w₁ (c .before .before .before .before .before .before .before .loop .names) names₁ (entries (c .before .before .before .before .before .before .before .loop .scope)) (c .before .before .before .before .before .before .before .loop .state) (c .before .before .before .before .before .before .before .loop .row)
+          (going-more _ _ _ _ _ _ _ _ g (c .before .before .before .before .before .before .loop-test .taken) .head) (standing-here _ _ _ _ _ _ _ _ g (c .before .before .before .before .before .before .loop-test .taken)) (held-next _ _ _ _ _ _ _ _ g (c .before .before .before .before .before .before .loop-test .taken)) step
+      begun step e =
+          subst (λ (x : Step). Begun (stream turn) (table turn) (c .before .before .before .before .before .before .before .loop .w) w₁ (c .before .before .before .before .before .before .before .loop .names) names₁ (entries (c .before .before .before .before .before .before .before .loop .scope)) (c .before .before .before .before .before .before .before .loop .state) (c .before .before .before .before .before .before .before .loop .row)
+          (going-more _ _ _ _ _ _ _ _ g (c .before .before .before .before .before .before .loop-test .taken) .head) (standing-here _ _ _ _ _ _ _ _ g (c .before .before .before .before .before .before .loop-test .taken)) (held-next _ _ _ _ _ _ _ _ g (c .before .before .before .before .before .before .loop-test .taken)) x) e
+          (c .before .before .begin .ensures bound (run-code codes) _ _ (begins turn bound codes es p h r))
+
+      -- what is inside it
+      module _ {st′ : State} {first : ℕ} {after : After}
+          (i : GoesInside (stream turn) (table turn) (c .before .before .before .before .before .before .before .loop .w) (entries (c .before .before .before .before .before .before .before .loop .scope)) (c .before .before .before .before .before .before .before .loop .state) st′ (c .before .before .before .before .before .before .before .loop .row) first (going-more _ _ _ _ _ _ _ _ g (c .before .before .before .before .before .before .loop-test .taken) .head) (standing-here _ _ _ _ _ _ _ _ g (c .before .before .before .before .before .before .loop-test .taken)) after)
+          (same : w₁ ≡ c .before .before .before .before .before .before .before .loop .w) (same′ : names₁ ≡ c .before .before .before .before .before .before .before .loop .names) where
+        abbrev inside-held : Held Left
+        inside-held = hold (st′ .steps) (st′ .room) (in-list (run-code codes) (skip (i .skipped) (elements (going-more _ _ _ _ _ _ _ _ g (c .before .before .before .before .before .before .loop-test .taken) .head))) (i .place) (standing-here _ _ _ _ _ _ _ _ g (c .before .before .before .before .before .before .loop-test .taken)))
+
+        inner-ready : (stands : Stands) → stands ≡ stands-in after → Ready (stream turn) (table turn) bound codes w₁ names₁ (start turn .args .args .now) (c .before .before .before .before .before .before .before .loop .scope) st′ stands (start turn .args .code) first (c .before .before .before .before .before .next .result) (skip (i .skipped) (elements (going-more _ _ _ _ _ _ _ _ g (c .before .before .before .before .before .before .loop-test .taken) .head))) (i .place) (standing-here _ _ _ _ _ _ _ _ g (c .before .before .before .before .before .before .loop-test .taken))
+        inner-ready stands e = inside-ready-as g (c .before .before .before .before .before .before .loop-test .taken) i w₁ names₁ stands (c .before .before .before .before .before .next .result) same same′ e (c .before .before .before .before .before .next .ensures)
+
+        inner-met : (w₂ names₂ : List ℕ) (out : Out) → Met (stream turn) (table turn) w₁ w₂ names₂ st′ inside-held out → Met (stream turn) (table turn) (c .before .before .before .before .before .before .before .loop .w) w₂ names₂ st′ inside-held out
+        inner-met w₂ names₂ out m = subst (λ (x : List ℕ). Met (stream turn) (table turn) x w₂ names₂ st′ inside-held out) same m
+
+        inner-fewer : st′ .steps < start turn .args .state .steps
+        inner-fewer = omega (arith, inside-fewer g (c .before .before .before .before .before .before .loop-test .taken) i, g .fewer)
+
+      -- it is evaluated, then the expression is finished
+      module _ (st′ : State) (first : ℕ) (after : After) (told : c .before .before .begin .result ≡ Inside st′ first after) (stands : Stands) (e : stands ≡ stands-in after) (w₂ names₂ : List ℕ) (out : Out)
+          (evaluated : (bound codes : ℕ) (es : Nodes) (p : Place) (h : Here) → Ready (stream turn) (table turn) bound codes w₁ names₁ (start turn .args .args .now) (c .before .before .before .before .before .before .before .loop .scope) st′ stands (start turn .args .code) first (c .before .before .before .before .before .next .result) es p h
+          → Met (stream turn) (table turn) w₁ w₂ names₂ st′ (hold (st′ .steps) (st′ .room) (in-list (run-code codes) es p h)) out) where
+        finish-met : Met (stream turn) (table turn) (c .before .before .before .before .before .before .before .loop .w) w₂ names₂ st′ (inside-held (begun _ told .0) (begun _ told .2) (begun _ told .3)) out
+        finish-met = let b = begun _ told in inner-met (b .0) (b .2) (b .3) w₂ names₂ out (evaluated _ _ _ _ _ (inner-ready (b .0) (b .2) (b .3) stands e))
+
+        can-finish : CanFinish w₂ (c .before .before .before .before .before .before .before .loop .state .top) after out
+        can-finish = let b = begun _ told in inside-can-finish g (c .before .before .before .before .before .before .loop-test .taken) (b .0) (b .1) w₂ names₂ out finish-met
+
+        finished : (w₃ : List ℕ) (left : Answer) → Finished w₂ w₃ (c .before .before .before .before .before .before .before .loop .state .top) (c .before .before .before .before .before .before .before .loop .row) after left out
+            → LeftBy (stream turn) (table turn) (c .before .before .before .before .before .before .before .loop .w) w₃ names₂ (entries (c .before .before .before .before .before .before .before .loop .scope)) (c .before .before .before .before .before .before .before .loop .state) (standing-here _ _ _ _ _ _ _ _ g (c .before .before .before .before .before .before .loop-test .taken)) (held-next _ _ _ _ _ _ _ _ g (c .before .before .before .before .before .before .loop-test .taken)) left
+        finished w₃ left f = let b = begun _ told in inside-finishes g (c .before .before .before .before .before .before .loop-test .taken) (b .0) (b .1) w₂ names₂ out w₃ left finish-met f
+
+      -- it is evaluated, then code is entered
+      module _ (st′ : State) (first body visible : ℕ) (told : c .before .before .begin .result ≡ Enter st′ first body visible) (stands : Stands) (e : stands ≡ Inner) (w₂ names₂ : List ℕ) (out : Out)
+          (evaluated : (bound codes : ℕ) (es : Nodes) (p : Place) (h : Here) → Ready (stream turn) (table turn) bound codes w₁ names₁ (start turn .args .args .now) (c .before .before .before .before .before .before .before .loop .scope) st′ stands (start turn .args .code) first (c .before .before .before .before .before .next .result) es p h
+          → Met (stream turn) (table turn) w₁ w₂ names₂ st′ (hold (st′ .steps) (st′ .room) (in-list (run-code codes) es p h)) out) where
+        enter-met : Met (stream turn) (table turn) (c .before .before .before .before .before .before .before .loop .w) w₂ names₂ st′ (inside-held (begun _ told .0) (begun _ told .1) (begun _ told .2)) out
+        enter-met = let b = begun _ told in inner-met (b .0) (b .1) (b .2) w₂ names₂ out (evaluated _ _ _ _ _ (inner-ready (b .0) (b .1) (b .2) stands e))
+
+        can-call : (depth : ℕ) → depth ≡ start turn .args .code .depth → CanCall (stream turn) (table turn) w₂ names₂ (c .before .before .before .before .before .before .before .loop .scope) visible depth body (c .before .before .before .before .before .before .before .loop .state .top) out
+        can-call depth d = let b = begun _ told in rw d (inside-can-call g (c .before .before .before .before .before .before .loop-test .taken) (b .0) w₂ names₂ out enter-met)
+
+        called : (depth : ℕ) → depth ≡ start turn .args .code .depth → (w₃ names₃ : List ℕ) (left : Answer)
+            → Called (stream turn) (table turn) w₂ w₃ names₂ names₃ (c .before .before .before .before .before .before .before .loop .scope) visible depth body (c .before .before .before .before .before .before .before .loop .state .top) (c .before .before .before .before .before .before .before .loop .row) left out
+            → LeftBy (stream turn) (table turn) (c .before .before .before .before .before .before .before .loop .w) w₃ names₃ (entries (c .before .before .before .before .before .before .before .loop .scope)) (c .before .before .before .before .before .before .before .loop .state) (standing-here _ _ _ _ _ _ _ _ g (c .before .before .before .before .before .before .loop-test .taken)) (held-next _ _ _ _ _ _ _ _ g (c .before .before .before .before .before .before .loop-test .taken)) left
+        called depth d w₃ names₃ left f = let b = begun _ told in inside-calls g (c .before .before .before .before .before .before .loop-test .taken) (b .0) w₂ names₂ out w₃ names₃ left enter-met (rw d at f)
+
+        enter-fewer : steps-of out < start turn .args .state .steps
+        enter-fewer = let b = begun _ told in omega (arith, inner-fewer (b .0) (b .1) (b .2), met-steps _ _ _ _ _ st′ _ out enter-met)
+
+  list-enum-known-done : list-lts.Need-enum-known-done list-calls (list-at t) list.Post list-Inv-loop list-μ-loop
+  list-enum-known-done c = search needs
+
+  list-enum-known-inner : list-lts.Need-enum-known-inner list-calls (list-at t) list.Post list-Inv-loop list-μ-loop
+  list-enum-known-inner c = search needs
+
+  list-stands-in-requires : list-lts.Need-stands-in-requires list-calls (list-at t) list.Post list-Inv-loop list-μ-loop
+  list-stands-in-requires c κs = search needs
+
+  list-list-requires : list-lts.Need-list-requires list-calls (list-at t) list.Post list-Inv-loop list-μ-loop
+  list-list-requires c κs =
+      let k = c .before .before .before .before .before .before in
+      let y = some (turn k) in
+      let b = begun k (y .bound) (y .codes) (y .nodes) (y .place) (y .here) (y .ready) _ (c .before .before .before .before .inner .given .1) in
+      let r = inner-ready k (y .bound) (y .codes) (y .nodes) (y .place) (y .here) (y .ready) (b .0) (b .2) (b .3) (c .stands-in .result) (c .stands-in .ensures) in
+      let fewer = inner-fewer k (y .bound) (y .codes) (y .nodes) (y .place) (y .here) (y .ready) (b .0) (b .2) (b .3) in
+      (omega (arith, fewer, start (turn k) .pre .0), record { bound = y .bound; codes = y .codes; nodes = _; place = _; here = _; ready = r })
+
+  list-finish-requires : list-lts.Need-finish-requires list-calls (list-at t) list.Post list-Inv-loop list-μ-loop
+  list-finish-requires c κs =
+      let k = c .before .before .before .before .before .before .before .before .before .before in
+      let y = some (turn k) in
+      can-finish k (y .bound) (y .codes) (y .nodes) (y .place) (y .here) (y .ready) _ _ _ (c .before .before .before .before .before .before .before .before .inner .given .1) (c .before .before .before .before .stands-in .result) (c .before .before .before .before .stands-in .ensures)
+      (c .before .before .before .list .last .1 .1 .0) (c .before .before .before .list .last .1 .1 .1 .0) (c .before .before .before .list .result) (c .before .before .before .list .ensures)
+
+  list-enum-known-inner-2 : list-lts.Need-enum-known-inner-2 list-calls (list-at t) list.Post list-Inv-loop list-μ-loop
+  list-enum-known-inner-2 c = search needs
+
+  list-list-requires-2 : list-lts.Need-list-requires-2 list-calls (list-at t) list.Post list-Inv-loop list-μ-loop
+  list-list-requires-2 c κs =
+      let k = c .before .before .before .before .before in
+      let y = some (turn k) in
+      let b = begun k (y .bound) (y .codes) (y .nodes) (y .place) (y .here) (y .ready) _ (c .before .before .before .inner2 .given .1) in
+      let r = inner-ready k (y .bound) (y .codes) (y .nodes) (y .place) (y .here) (y .ready) (b .0) (b .1) (b .2) Inner refl in
+      let fewer = inner-fewer k (y .bound) (y .codes) (y .nodes) (y .place) (y .here) (y .ready) (b .0) (b .1) (b .2) in
+      (omega (arith, fewer, start (turn k) .pre .0), record { bound = y .bound; codes = y .codes; nodes = _; place = _; here = _; ready = r })
+
+  list-call-requires : list-lts.Need-call-requires list-calls (list-at t) list.Post list-Inv-loop list-μ-loop
+  list-call-requires c κs =
+      let k = c .before .before .before .before .before .before .before .before .before .before in
+      let y = some (turn k) in
+      let fewer = enter-fewer k (y .bound) (y .codes) (y .nodes) (y .place) (y .here) (y .ready) _ _ _ _ (c .before .before .before .before .before .before .before .before .inner2 .given .1) Inner refl
+      (c .before .before .before .before .list2 .last .1 .1 .0) (c .before .before .before .before .list2 .last .1 .1 .1 .0) (c .before .before .before .before .list2 .result) (c .before .before .before .before .list2 .ensures) in (
+        omega (arith, fewer, start (turn k) .pre .0),
+        can-call k (y .bound) (y .codes) (y .nodes) (y .place) (y .here) (y .ready) _ _ _ _ (c .before .before .before .before .before .before .before .before .inner2 .given .1) Inner refl
+            (c .before .before .before .before .list2 .last .1 .1 .0) (c .before .before .before .before .list2 .last .1 .1 .1 .0) (c .before .before .before .before .list2 .result) (c .before .before .before .before .list2 .ensures) _ (turn k .before .loop .inv .2),
+      )
+
+  -- what it leaves, in each of the three ways
+  module _ (c : list-lts.At-match-came list-calls (list-at t) list.Post list-Inv-loop list-μ-loop) where
+    same-length-left : length (c .match .w) ≡ length (c .before .before .before .before .before .before .before .before .loop .w)
+    same-length-left =
+        ⊎-elim (λ x. ap length (x .3) ∙ c .before .before .before .begin .kept .1 .1 .0)
+        (λ y. ⊎-elim (λ x. ap length (x .13) ∙ x .10 .kept .0 ∙ x .6 .kept .1 .1 .0 ∙ c .before .before .before .begin .kept .1 .1 .0)
+        (λ x. ap length (x .13) ∙ x .10 .kept .1 .1 .0 ∙ x .5 .kept .1 .1 .0 ∙ c .before .before .before .begin .kept .1 .1 .0) y) (c .match .came)
+
+    module _ (bound codes : ℕ) (es : Nodes) (p : Place) (h : Here)
+        (r : Ready (stream (turn (c .before))) (table (turn (c .before))) bound codes (start (turn (c .before)) .args .w .now) (start (turn (c .before)) .args .names .now) (start (turn (c .before)) .args .args .now) (start (turn (c .before)) .args .scope) (start (turn (c .before)) .args .state) (start (turn (c .before)) .args .stands) (start (turn (c .before)) .args .code) (start (turn (c .before)) .args .first) (start (turn (c .before)) .args .end) es p h) where
+      left-by-one : LeftBy (stream (turn (c .before))) (table (turn (c .before))) (c .before .before .before .before .before .before .before .before .loop .w) (c .match .w) (c .match .names) (entries (c .before .before .before .before .before .before .before .before .loop .scope)) (c .before .before .before .before .before .before .before .before .loop .state)
+          (standing-here _ _ _ _ _ _ _ _ (g (c .before) bound codes es p h r) (c .before .before .before .before .before .before .before .loop-test .taken)) (held-next _ _ _ _ _ _ _ _ (g (c .before) bound codes es p h r) (c .before .before .before .before .before .before .before .loop-test .taken)) (c .match .left)
+      left-by-one =
+          let k = c .before in
+          ⊎-elim (λ x. rw (x .3, x .4, x .5) (begun k bound codes es p h r _ (x .1 .given .1)))
+          (λ y. ⊎-elim
+          (λ x. rw (x .13, x .14, x .15) (finished k bound codes es p h r _ _ _ (x .1 .given .1) (x .5 .result) (x .5 .ensures) (x .6 .last .1 .1 .0) (x .6 .last .1 .1 .1 .0) (x .6 .result) (x .6 .ensures)
+          (x .10 .last .0) (x .10 .result) (x .10 .ensures)))
+          (λ x. rw (x .13, x .14, x .15) (called k bound codes es p h r _ _ _ _ (x .1 .given .1) Inner refl (x .5 .last .1 .1 .0) (x .5 .last .1 .1 .1 .0) (x .5 .result) (x .5 .ensures) _ (turn k .before .loop .inv .2)
+          (x .10 .last .1 .1 .0) (x .10 .last .1 .1 .1 .0) (x .10 .result) (x .10 .ensures))) y) (c .match .came)
+
+      left-as : (left : Answer) → c .match .left ≡ left → LeftBy (stream (turn (c .before))) (table (turn (c .before))) (c .before .before .before .before .before .before .before .before .loop .w) (c .match .w) (c .match .names) (entries (c .before .before .before .before .before .before .before .before .loop .scope)) (c .before .before .before .before .before .before .before .before .loop .state)
+          (standing-here _ _ _ _ _ _ _ _ (g (c .before) bound codes es p h r) (c .before .before .before .before .before .before .before .loop-test .taken)) (held-next _ _ _ _ _ _ _ _ (g (c .before) bound codes es p h r) (c .before .before .before .before .before .before .before .loop-test .taken)) left
+      left-as left e = subst (λ (x : Answer). LeftBy (stream (turn (c .before))) (table (turn (c .before))) (c .before .before .before .before .before .before .before .before .loop .w) (c .match .w) (c .match .names) (entries (c .before .before .before .before .before .before .before .before .loop .scope)) (c .before .before .before .before .before .before .before .before .loop .state)
+          (standing-here _ _ _ _ _ _ _ _ (g (c .before) bound codes es p h r) (c .before .before .before .before .before .before .before .loop-test .taken)) (held-next _ _ _ _ _ _ _ _ (g (c .before) bound codes es p h r) (c .before .before .before .before .before .before .before .loop-test .taken)) x) e left-by-one
+
+  -- the row behind it is nearer to the end
+  nearer : (c : list-lts.After-next list-calls (list-at t) list.Post list-Inv-loop list-μ-loop) → start (c .before) .args .end - c .next .result < start (c .before) .args .end - c .before .before .loop .row
+  nearer c =
+      let y = some (c .before) in
+      let m = going-more _ _ _ _ _ _ _ _ (going (c .before) (y .bound) (y .codes) (y .nodes) (y .place) (y .here) (y .ready)) (c .before .loop-test .taken) in
+      omega (arith, c .next .ensures, m .forward, m .inside, c .before .loop-test .taken)
+
+  list-enum-known-left : list-lts.Need-enum-known-left list-calls (list-at t) list.Post list-Inv-loop list-μ-loop
+  list-enum-known-left c = search needs
+
+  list-refused-requires : list-lts.Need-refused-requires list-calls (list-at t) list.Post list-Inv-loop list-μ-loop
+  list-refused-requires c κs = search needs
+
+  list-same-length : list-lts.Need-same-length list-calls (list-at t) list.Post list-Inv-loop list-μ-loop
+  list-same-length c =
+      same-length-left (c .before .before .before .before) ∙ c .before .before .before .before .before .before .before .before .before .before .before .before .loop .inv .3
+
+  list-returns : list-lts.Need-returns list-calls (list-at t) list.Post list-Inv-loop list-μ-loop
+  list-returns c =
+      λ bound codes es p h r.
+      let j = c .before .before .before .before in
+      let k = j .before in
+      subst (λ (x : Out). Met (stream (turn k)) (table (turn k)) (start (turn k) .args .w .now) (j .match .w) (j .match .names) (start (turn k) .args .state) (held (turn k) bound codes es p h r) x) (sym (c .refused .ensures))
+      (going-ceased _ _ _ _ _ _ _ _ (g k bound codes es p h r) (turn k .loop-test .taken) _ _ (left-as j bound codes es p h r _ (c .before .before .left .given .1)))
+
+  list-enum-known-left-2 : list-lts.Need-enum-known-left-2 list-calls (list-at t) list.Post list-Inv-loop list-μ-loop
+  list-enum-known-left-2 c = search needs
+
+  list-loop-less : list-lts.Need-loop-less list-calls (list-at t) list.Post list-Inv-loop list-μ-loop
+  list-loop-less c = nearer (c .before .before .before .before .before .before .before .before .before)
+
+  list-loop-again : list-lts.Need-loop-again list-calls (list-at t) list.Post list-Inv-loop list-μ-loop
+  list-loop-again c =
+      let j = c .before .before .before in
+      let k = j .before in (
+        λ bound codes es p h r. going-values _ _ _ _ _ _ _ _ (g k bound codes es p h r) (turn k .loop-test .taken) (k .before .before .before .before .before .next .ensures) (left-as j bound codes es p h r _ (c .before .left2 .given .1)),
+        k .before .before .before .before .before .before .before .loop .inv .1,
+        k .before .before .before .before .before .before .before .loop .inv .2,
+        same-length-left j ∙ k .before .before .before .before .before .before .before .loop .inv .3,
+      )
+
+  list-enum-known-left-3 : list-lts.Need-enum-known-left-3 list-calls (list-at t) list.Post list-Inv-loop list-μ-loop
+  list-enum-known-left-3 c = search needs
+
+  list-add-requires : list-lts.Need-add-requires list-calls (list-at t) list.Post list-Inv-loop list-μ-loop
+  list-add-requires c κs =
+      let j = c .before .before .before in
+      let y = some (turn (j .before)) in
+      let l = left-as j (y .bound) (y .codes) (y .nodes) (y .place) (y .here) (y .ready) _ (c .before .left3 .given .1) in
+      omega (arith, l .few, entries-length (j .before .before .before .before .before .before .before .before .loop .scope .keys) (j .before .before .before .before .before .before .before .before .loop .scope .places) (j .before .before .before .before .before .before .before .before .loop .scope .len))
+
+  list-loop-less-2 : list-lts.Need-loop-less-2 list-calls (list-at t) list.Post list-Inv-loop list-μ-loop
+  list-loop-less-2 c = nearer (c .before .before .before .before .before .before .before .before .before .before)
+
+  list-loop-again-2 : list-lts.Need-loop-again-2 list-calls (list-at t) list.Post list-Inv-loop list-μ-loop
+  list-loop-again-2 c =
+      let j = c .before .before .before .before in
+      let k = j .before in (
+        λ bound codes es p h r. going-definition _ _ _ _ _ _ _ _ (g k bound codes es p h r) (turn k .loop-test .taken) (k .before .before .before .before .before .next .ensures) (left-as j bound codes es p h r _ (c .before .before .left3 .given .1)) (c .add .ensures .0),
+        k .before .before .before .before .before .before .before .loop .inv .1,
+        k .before .before .before .before .before .before .before .loop .inv .2,
+        same-length-left j ∙ k .before .before .before .before .before .before .before .loop .inv .3,
+      )
+
+  list-over-requires : list-lts.Need-over-requires list-calls (list-at t) list.Post list-Inv-loop list-μ-loop
+  list-over-requires c κs = search needs
+
+  list-same-length-2 : list-lts.Need-same-length-2 list-calls (list-at t) list.Post list-Inv-loop list-μ-loop
+  list-same-length-2 c = c .before .before .loop .inv .3
+
+  list-returns-2 : list-lts.Need-returns-2 list-calls (list-at t) list.Post list-Inv-loop list-μ-loop
+  list-returns-2 c =
+      λ bound codes es p h r.
+      let l = c .before .before in
+      let a = l .before .before .before .before in
+      subst (λ (x : Out). Met (a .args .s .now) (a .args .table .now) (a .args .w .now) (l .loop .w) (l .loop .names) (a .args .state) (hold (a .args .state .steps) (a .args .state .room) (in-list (run-code codes) es p h)) x) (sym (c .over .ensures))
+      (going-over _ _ _ _ _ _ _ _ (l .loop .inv .0 bound codes es p h r) (c .before .loop-test .left) _ (l .loop .inv .1))
+
+  abbrev call-calls : call-lts.Claims
+  call-calls = (spread-reads.Asked, spread-reads.Learnt, back-to-reads.Asked, back-to-reads.Learnt, next-reads.Asked, next-reads.Learnt, list-below t, list.Post, returned-reads.Asked, returned-reads.Learnt, leaves-reads.Asked, leaves-reads.Learnt)
+
+  call-enum-known-out : call-lts.Need-enum-known-out call-calls (call-at t) call.Post
+  call-enum-known-out c = search needs
+
+  call-enum-known-out-2 : call-lts.Need-enum-known-out-2 call-calls (call-at t) call.Post
+  call-enum-known-out-2 c = search needs
+
+  -- where the arguments were evaluated
+  module _ (c : call-lts.After-known-told2 call-calls (call-at t) call.Post) where
+    abbrev first : call-lts.Start call-calls (call-at t) call.Post
+    first = c .before .before .before .before .before .before
+
+    abbrev given-state : State
+    given-state = c .before .out2 .given .0 .0
+
+    told : first .args .out ≡ Done given-state
+    told = c .before .out2 .given .1
+
+    some-calls : SomeCalling (first .args .s .now) (first .args .table .now) (first .args .w .now) (first .args .names .now) (first .args .scope) (first .args .visible) given-state (first .args .depth) (first .args .code) (first .args .start)
+    some-calls = subst (λ (x : Out). CanCall (first .args .s .now) (first .args .table .now) (first .args .w .now) (first .args .names .now) (first .args .scope) (first .args .visible) (first .args .depth) (first .args .code) (first .args .start) x) told (first .pre .1)
+
+    calls-some : Calling (first .args .s .now) (first .args .table .now) (some-calls .bound) (some-calls .codes) (first .args .w .now) (first .args .names .now) (first .args .scope) (first .args .visible) given-state (first .args .depth) (first .args .code) (first .args .start) (some-calls .body) (some-calls .behind) (some-calls .here) (some-calls .values)
+    calls-some = some-calls .calls
+
+    call-answers : (w′ names′ : List ℕ) (left : Answer)
+        → Called (first .args .s .now) (first .args .table .now) (first .args .w .now) w′ (first .args .names .now) names′ (first .args .scope) (first .args .visible) (first .args .depth) (first .args .code) (first .args .start) (first .args .row) left (Done given-state)
+        → Called (first .args .s .now) (first .args .table .now) (first .args .w .now) w′ (first .args .names .now) names′ (first .args .scope) (first .args .visible) (first .args .depth) (first .args .code) (first .args .start) (first .args .row) left (first .args .out)
+    call-answers w′ names′ left f =
+        subst (λ (x : Out). Called (first .args .s .now) (first .args .table .now) (first .args .w .now) w′ (first .args .names .now) names′ (first .args .scope) (first .args .visible) (first .args .depth) (first .args .code) (first .args .start) (first .args .row) left x) (sym told) f
+
+  call-returns-1 : call-lts.Need-returns call-calls (call-at t) call.Post
+  call-returns-1 c = call-answers (c .before) _ _ _ λ bound codes body behind h vs es z. call-refused z _ (c .if1 .taken)
+
+  call-sub-spread : call-lts.Need-sub-spread call-calls (call-at t) call.Post
+  call-sub-spread c = calls-some (c .before) .stand .order
+
+  call-part-spread-start : call-lts.Need-part-spread-start call-calls (call-at t) call.Post
+  call-part-spread-start c = let z = calls-some (c .before .before) in search (needs, z .stand .order)
+
+  call-part-spread-end : call-lts.Need-part-spread-end call-calls (call-at t) call.Post
+  call-part-spread-end c = let z = calls-some (c .before .before) in search (needs, z .stand .inside)
+
+  call-spread-requires : call-lts.Need-spread-requires call-calls (call-at t) call.Post
+  call-spread-requires c κs =
+      let z = calls-some (c .before .before .before .before) in
+      (omega (arith, part-size z (first (c .before .before .before .before) .args .row), z .stand .inside, z .fitting .short), (some-calls (c .before .before .before .before) .values, part-is z (first (c .before .before .before .before) .args .row), z .sound .0, z .sound .1))
+
+  call-add-list : call-lts.Need-add-list call-calls (call-at t) call.Post
+  call-add-list c = let z = calls-some (c .before .before .before .before .before) in search (needs, c .before .before .before .before .if1 .left)
+
+  call-back-to-requires : call-lts.Need-back-to-requires call-calls (call-at t) call.Post
+  call-back-to-requires c κs = calls-some (c .before .before .before .before .before .before .before .before) .visible-in
+
+  call-add-list-2 : call-lts.Need-add-list-2 call-calls (call-at t) call.Post
+  call-add-list-2 c = let z = calls-some (c .before .before .before .before .before .before .before .before .before) in search (needs, z .at .form .few)
+
+  call-next-requires : call-lts.Need-next-requires call-calls (call-at t) call.Post
+  call-next-requires c κs = calls-some (c .before .before .before .before .before .before .before .before .before) .at .form .inside
+
+  -- where the code is run
+  module _ (c : call-lts.After-next call-calls (call-at t) call.Post) where
+    abbrev k : call-lts.After-known-told2 call-calls (call-at t) call.Post
+    k = c .before .before .before .before .before .before .before .before .before .before
+
+    body-ready : {bound codes : ℕ} {body : Nodes} {behind : Definitions} {h : Here} {vs : Exprs} (z : Calling (first k .args .s .now) (first k .args .table .now) bound codes (first k .args .w .now) (first k .args .names .now) (first k .args .scope) (first k .args .visible) (given-state k) (first k .args .depth) (first k .args .code) (first k .args .start) body behind h vs)
+        → Ready (first k .args .s .now) (first k .args .table .now) bound (codes - 1) (first k .args .w .now) (first k .args .names .now) (c .before .before .before .before .before .spread .last .1 .1 .0) (c .before .back-to .result) (given-state k) Inner
+        (record { depth = first k .args .depth + 1; count = c .before .before .before .before .before .spread .result; to = given-state k .top }) (first k .args .code + 2) (c .next .result) body inner (in-body z (first k .args .row))
+    body-ready z =
+        call-ready z (first k .args .row) (c .before .before .before .before .before .before .before .before .before .if1 .left) _ _ _ _ (c .next .ensures) (c .before .back-to .ensures) (call-arguments z (first k .args .row) _ _ (c .before .before .before .before .before .spread .ensures))
+
+  call-list-requires : call-lts.Need-list-requires call-calls (call-at t) call.Post
+  call-list-requires c κs =
+      let y = some-calls (k c) in
+      let steps = ap steps-of (told (k c)) in
+      (omega (arith, steps, first (k c) .pre .0), record { bound = y .bound; codes = y .codes - 1; nodes = _; place = _; here = _; ready = body-ready c (calls-some (k c)) })
+
+  call-returned-requires : call-lts.Need-returned-requires call-calls (call-at t) call.Post
+  call-returned-requires c κs =
+      let n = c .before .before .before .before in
+      let y = some-calls (k n) in
+      let z = calls-some (k n) in
+      ((y .body, z .at), call-can-return z (first (k n) .args .row) (n .before .before .before .before .before .before .before .before .before .if1 .left) (c .before .before .before .list .last .1 .1 .0) (c .before .before .before .list .last .1 .1 .1 .0) (c .before .before .before .list .result) (c .before .before .before .list .ensures _ _ _ _ _ (body-ready n z)))
+
+  call-leaves-requires : call-lts.Need-leaves-requires call-calls (call-at t) call.Post
+  call-leaves-requires c κs = search needs
+
+  call-returns-2 : call-lts.Need-returns-2 call-calls (call-at t) call.Post
+  call-returns-2 c =
+      let a = c .before .before .before .before .before .before .args in
+      subst (λ (x : Out). Called (a .s .now) (a .table .now) (a .w .now) (a .w .now) (a .names .now) (a .names .now) (a .scope) (a .visible) (a .depth) (a .code) (a .start) (a .row) (Stopped (c .before .out .given .0 .0) (c .before .out .given .0 .1 .0)) x) (sym (c .before .out .given .1)) refl
+
+  call-same-length : call-lts.Need-same-length call-calls (call-at t) call.Post
+  call-same-length c = search needs
+
+  call-returns-3 : call-lts.Need-returns-3 call-calls (call-at t) call.Post
+  call-returns-3 c =
+      let n = c .before .before .before .before .before .before .before .before in
+      call-answers (k n) _ _ _ λ bound codes body behind h vs es z.
+      let m = c .before .before .before .before .before .before .before .list .ensures _ _ _ _ _ (body-ready n z) in
+      subst (λ (x : Answer). LeftBy (first (k n) .args .s .now) (first (k n) .args .table .now) (first (k n) .args .w .now) (c .before .before .before .returned .last .1 .1 .0) (c .before .before .before .before .before .before .before .list .last .1 .1 .1 .0) es
+      (with-top (given-state (k n)) (given-state (k n) .room) (first (k n) .args .start)) h (hold (given-state (k n) .steps) (given-state (k n) .room) (finish (run-code codes) (first (k n) .args .row) h (as-call body behind) vs)) x)
+      (sym (c .leaves .ensures))
+      (call-returns z (first (k n) .args .row) (n .before .before .before .before .before .before .before .before .before .if1 .left) (c .before .before .before .before .before .before .before .list .last .1 .1 .0) (c .before .before .before .before .before .before .before .list .last .1 .1 .1 .0) (c .before .before .before .before .before .before .before .list .result) (c .before .before .before .returned .last .1 .1 .0) es (c .before .before .before .returned .result) m (c .before .before .before .returned .ensures))
+
+pub +call+list-spec : {M : Type 1} → statement M
++call+list-spec = close μ-call μ-list
+    (λ t. call-lts.spec (call-calls t) (call-at t) call.Post (call-enum-known-out t) (call-enum-known-out-2 t) (call-returns-1 t) (call-sub-spread t) (call-part-spread-start t) (call-part-spread-end t) (call-spread-requires t) (call-add-list t) (call-back-to-requires t) (call-add-list-2 t) (call-next-requires t) (call-list-requires t) (call-returned-requires t) (call-leaves-requires t) (call-returns-2 t) (call-same-length t) (call-returns-3 t))
+    λ t. list-lts.spec (list-calls t) (list-at t) list.Post list-Inv-loop list-μ-loop (list-loop-holds t) (list-next-requires t) (list-begin-requires t) (list-enum-known-done t) (list-enum-known-inner t) (list-stands-in-requires t) (list-list-requires t) (list-finish-requires t) (list-enum-known-inner-2 t) (list-list-requires-2 t) (list-call-requires t) (list-enum-known-left t) (list-refused-requires t) (list-same-length t) (list-returns t) (list-enum-known-left-2 t) (list-loop-less t) (list-loop-again t) (list-enum-known-left-3 t) (list-add-requires t) (list-loop-less-2 t) (list-loop-again-2 t) (list-over-requires t) (list-same-length-2 t) (list-returns-2 t)

@@ -1,0 +1,125 @@
+-- `Scope::look_up` meets its contract: what is left to search finds what the whole does. Assumes nothing.
+use borrow.Author.Needs.{needs}
+use Prim.Native.Nat.{ℕ, _-_, _≤_, _<_}
+use mathlib.Core.Path.{_≡_, ap, sym, _∙_}
+use mathlib.Core.List.{List, _∷_}
+use native.Mathlib.Omega.{arith}
+use Rattle.evaluator.specs.Entries.{Entry, entries-at, entries, find}
+use Rattle.evaluator.specs.declared.scope.Found.{Found}
+use Rattle.evaluator.proofs.Entries.{entry-at, entries-length, entries-latest, find-value, find-function, find-other}
+use Rattle.evaluator.proofs.scope.Scope.look_up.Statement.{statement}
+use Rattle.evaluator.proofs.scope.Scope.look_up.Tie as tie
+
+abbrev Inv-loop : tie.InvT-loop
+Inv-loop key self i₀ i = (i ≤ 256) × (find key (entries-at (self .keys) (self .places) i) ≡ find key (entries self))
+
+abbrev μ-loop : tie.MeasureT-loop
+μ-loop key self i₀ i = i
+
+-- At the loop's head
+
+module _ (c : tie.At-loop Inv-loop μ-loop) where
+  abbrev key : ℕ
+  key = c .before .args .key
+
+  -- the latest of the entries that are left, and those behind it
+  abbrev latest : Entry
+  latest = let sc = c .before .args .t1 in entry-at (sc .keys) (sc .places) (c .loop .i - 1)
+
+  abbrev behind : List Entry
+  behind = let sc = c .before .args .t1 in entries-at (sc .keys) (sc .places) (c .loop .i - 1)
+
+  found : {f : Found} → 0 < c .loop .i → f ≡ find key (latest ∷ behind) → f ≡ find key (entries (c .before .args .t1))
+  found h is =
+      let sc = c .before .args .t1 in
+      is ∙ ap (find key) (sym (entries-latest (sc .keys) (sc .places) (c .loop .i) h)) ∙ c .loop .inv .1
+
+loop-holds : tie.Need-loop-holds Inv-loop μ-loop
+loop-holds c = search needs
+
+sub-i : tie.Need-sub-i Inv-loop μ-loop
+sub-i c = search needs
+
+mul-k : tie.Need-mul-k Inv-loop μ-loop
+mul-k c = search needs
+
+element-copy-out-k : tie.Need-element-copy-out-k Inv-loop μ-loop
+element-copy-out-k c = search needs
+
+mul-p : tie.Need-mul-p Inv-loop μ-loop
+mul-p c = search needs
+
+element-copy-out-p : tie.Need-element-copy-out-p Inv-loop μ-loop
+element-copy-out-p c = search needs
+
+packed-from-requires : tie.Need-packed-from-requires Inv-loop μ-loop
+packed-from-requires c κs = tt
+
+packed-to-requires : tie.Need-packed-to-requires Inv-loop μ-loop
+packed-to-requires c κs = tt
+
+returns : tie.Need-returns Inv-loop μ-loop
+returns c =
+    let k = c .before .before .before in
+    let l = k .before .before .before in
+    let is = find-value (key l) (latest l) (behind l) (k .if1 .taken) in
+    rw (c .before .packed-from .ensures, c .packed-to .ensures) (found l (k .before .before .loop-test .taken) is)
+
+add-if2 : tie.Need-add-if2 Inv-loop μ-loop
+add-if2 c = search needs
+
+mul-t17 : tie.Need-mul-t17 Inv-loop μ-loop
+mul-t17 c = search needs
+
+element-copy-out-t20 : tie.Need-element-copy-out-t20 Inv-loop μ-loop
+element-copy-out-t20 c = search needs
+
+cast-t21 : tie.Need-cast-t21 Inv-loop μ-loop
+cast-t21 c = search needs
+
+returns-2 : tie.Need-returns-2 Inv-loop μ-loop
+returns-2 c =
+    let k = c .before in
+    let l = k .before .before .before .before in
+    let sc = l .before .args .t1 in
+    let is = find-function (key l) (latest l) (behind l) (k .if2 .taken) in
+    rw (entries-length (sc .keys) (sc .places) (l .loop .i - 1)) at (found l (k .before .before .before .loop-test .taken) is)
+
+loop-less : tie.Need-loop-less Inv-loop μ-loop
+loop-less c = search needs
+
+loop-again : tie.Need-loop-again Inv-loop μ-loop
+loop-again c =
+    let l = c .before .before .before .before in
+    let is = find-other (key l) (latest l) (behind l) (c .before .if1 .left) (c .if2 .left) in
+    (search needs, found l (c .before .before .before .loop-test .taken) is)
+
+returns-3 : tie.Need-returns-3 Inv-loop μ-loop
+unfolding find entries-at
+returns-3 c =
+    let z : c .before .loop .i ≡ 0 = omega arith in
+    rw z at (c .before .loop .inv .1)
+
+pub look-up-spec : {M : Type 1} → statement M
+look-up-spec =
+    tie.close
+    (tie.spec
+    Inv-loop
+    μ-loop
+    loop-holds
+    sub-i
+    mul-k
+    element-copy-out-k
+    mul-p
+    element-copy-out-p
+    packed-from-requires
+    packed-to-requires
+    returns
+    add-if2
+    mul-t17
+    element-copy-out-t20
+    cast-t21
+    returns-2
+    loop-less
+    loop-again
+    returns-3)

@@ -1,0 +1,12 @@
+-- `Scope::new` meets its contract. Assumes nothing.
+use mathlib.Core.Path.{refl}
+use Rattle.evaluator.specs.Entries.{entries-at}
+use Rattle.evaluator.proofs.scope.Scope.new.Statement.{statement}
+use Rattle.evaluator.proofs.scope.Scope.new.Tie as tie
+
+returns : tie.Need-returns
+unfolding entries-at
+returns c = (refl, refl)
+
+pub new-spec : {M : Type 1} → statement M
+new-spec = tie.close (tie.spec returns)

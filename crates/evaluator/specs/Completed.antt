@@ -1,0 +1,76 @@
+-- What completing a value does to the workspace. Values stand in it as their canonical bytes, in two stacks: from its start up to `top` the
+-- finished values of all open lists, one after the other; from `floor` to its end the values of visible definitions. What is held has been
+-- charged, so that a charge that fits is room enough.
+use Prim.Native.Nat.{ℕ, _+_, _-_, _≤_, _<_}
+use mathlib.Core.Path.{_≡_}
+use mathlib.Core.List.{List, _++_}
+use lib.ListN.{length, take, drop, getD}
+use lib.Seq.{slice}
+use Rattle.spec.specs.Expr.{array, Expr, atom, Exprs, none, more, only, deepest, bytes, canonical}
+use Rattle.evaluator.specs.Entries.{pack}
+use Rattle.evaluator.specs.declared.values.State.{State}
+use Rattle.evaluator.specs.declared.values.Out.{Out}
+use Rattle.evaluator.specs.declared.values.Out.the-variants.{Done, Refused}
+
+-- a state of a workspace
+pub record Fitting (w : List ℕ) (st : State) : Type 0 where
+  pub paid : st .top + st .room ≤ st .floor
+  pub below : st .floor ≤ length w
+  pub short : length w ≤ 65536
+
+-- the bytes of these values stand in the workspace from one place up to another
+pub record Stand (w : List ℕ) (from to : ℕ) (vs : Exprs) : Type 0 where
+  pub order : from ≤ to
+  pub inside : to ≤ length w
+  pub bytes : slice from to w ≡ canonical vs
+
+-- the finished values end at `top`, with so much room left
+abbrev pub with-top : State → ℕ → ℕ → State
+with-top st room top = record { steps = st .steps; room = room; top = top; floor = st .floor; names = st .names }
+
+-- what is below one place and from another on is as it was
+pub record Untouched (w w′ : List ℕ) (below from : ℕ) : Type 0 where
+  pub size : length w′ ≡ length w
+  pub lower : take below w′ ≡ take below w
+  pub upper : drop from w′ ≡ drop from w
+
+-- the values are complete, charged, and stand from `start` on, in the place of all that stood there
+pub record Kept (w w′ : List ℕ) (st : State) (start : ℕ) (vs : Exprs) (st′ : State) : Type 0 where
+  pub shallow : deepest vs ≤ 64
+  pub charged : length (canonical vs) ≤ st .room
+  pub state : st′ ≡ with-top st (st .room - length (canonical vs)) (start + length (canonical vs))
+  pub stand : Stand w′ start (start + length (canonical vs)) vs
+  pub others : Untouched w w′ start (st .floor)
+
+-- or refused, "6, 17"
+pub data Unkept (st : State) (vs : Exprs) : ℕ → Type 0 where
+  too-deep : 64 < deepest vs → Unkept st vs 6
+  too-long : deepest vs ≤ 64 → st .room < length (canonical vs) → Unkept st vs 17
+
+-- completing the values of the expression at a row
+abbrev pub Completed : List ℕ → List ℕ → State → ℕ → ℕ → Exprs → Out → Type 0
+Completed w w′ st start row vs (Done st′) = Kept w w′ st start vs st′
+Completed w w′ st start row vs (Refused number at) = (at ≡ row) × Unkept st vs number
+
+-- the two values of a concat's operands joined, if they are arrays; else 11
+pub data Joined (w w′ : List ℕ) (st : State) (start row : ℕ) (a b : Expr) : Out → Type 0 where
+  joined : {r : Out} (bs cs : List ℕ) → a ≡ atom (array bs) → b ≡ atom (array cs) → Completed w w′ st start row (only (atom (array (bs ++ cs)))) r
+      → Joined w w′ st start row a b r
+  no-arrays : ((bs cs : List ℕ) → a ≡ atom (array bs) → b ≡ atom (array cs) → ⊥) → Joined w w′ st start row a b (Refused 11 row)
+
+-- the values of a definition moved from the finished ones to the definitions'
+pub record Defined (w w′ : List ℕ) (st : State) (start : ℕ) (st′ : State) : Type 0 where
+  pub steps : st′ .steps ≡ st .steps
+  pub room : st′ .room ≡ st .room
+  pub top : st′ .top ≡ start
+  pub floor : st′ .floor + (st .top - start) ≡ st .floor
+  pub names : st′ .names ≡ st .names
+  pub bytes : slice (st′ .floor) (st .floor) w′ ≡ slice start (st .top) w
+  pub others : Untouched w w′ start (st .floor)
+
+-- the values vs stand one after the other from a place up to another, as the arguments with the numbers from i on; where each stands is packed in
+-- `args`, if its number is below 64
+unfoldable pub ArgumentsAt : List ℕ → List ℕ → ℕ → ℕ → ℕ → Exprs → Type 0
+ArgumentsAt w args i from to none = from ≡ to
+ArgumentsAt w args i from to (more v vs) =
+    (mid : ℕ) × (from < mid) × (mid ≤ to) × (slice from mid w ≡ bytes v) × (i < 64 → getD args i 0 ≡ pack from mid) × ArgumentsAt w args (i + 1) mid to vs

@@ -1,0 +1,160 @@
+// Values as canonical bytes in the workspace: the finished ones from its start up to `top`, those of visible definitions from `floor` to its end.
+use crate::arrays;
+use crate::moves;
+use crate::rows;
+ghost use mathlib.Core.Path.{_≡_};
+ghost use mathlib.Core.List.{List};
+ghost use Prim.Native.Nat.{ℕ, _+_, _-_, _≤_};
+ghost use lib.ListN.{length};
+ghost use Rattle.spec.specs.Expr.{array, ref, if-array, Atom, atom, Exprs, only, deepest};
+ghost use Rattle.spec.specs.Evaluation.{ns-form};
+ghost use Rattle.evaluator.specs.Stands.{cell, LeafAt};
+ghost use Rattle.atoms.specs.Tokens.{atom-head};
+ghost use Rattle.evaluator.specs.declared.values.Out.the-variants.{Done, Refused};
+ghost use Rattle.evaluator.specs.Completed.{Fitting, Stand, with-top, Completed, Defined};
+
+// Steps and workspace that are left, where the finished values end, where the definitions' begin, and how many namespaces there are.
+pub struct State {
+    pub steps: u64,
+    pub room: usize,
+    pub top: usize,
+    pub floor: usize,
+    pub names: usize,
+}
+
+// The state that is left, or a refusal's number and row.
+pub enum Out {
+    Done(State),
+    Refused { number: u32, row: usize },
+}
+
+// The finished values end at `top`, and n bytes are charged.
+pub fn charged(state: State, n: usize, top: usize) -> Out
+    requires { ⌜ n ≤ state .room ⌝ }
+    ensures { λ r. ⌜ r ≡ Done (with-top state (state .room - n) top) ⌝ }
+{
+    Out::Done(State {
+        steps: state.steps,
+        room: state.room - n,
+        top,
+        floor: state.floor,
+        names: state.names,
+    })
+}
+
+pub fn refused(number: u32, row: usize) -> Out
+    ensures { λ r. ⌜ r ≡ Refused number row ⌝ }
+{
+    Out::Refused { number, row }
+}
+
+// Where an atom's body begins: an array's bytes, or all bytes of another atom.
+fn body(s: &[u8], table: &[u32], row: usize) -> usize
+    requires { ⌜ ((a : Atom) × LeafAt (now s) (now table) row a) ⌝ }
+    ensures { λ r. ⌜ ((a : Atom) → LeafAt (now (s .entry)) (now (table .entry)) row a → r ≡ if-array a (λ bs. cell (now (table .entry)) row 2 - length bs) (cell (now (table .entry)) row 1)) ⌝ }
+{
+    if rows::kind(table, row) == 2 {
+        return arrays::body(s, table, row);
+    }
+    rows::start(table, row)
+}
+
+// How many bytes an atom of that kind has, with a body of n bytes, as it is written canonically.
+fn atom_size(kind: u32, n: usize) -> usize
+    requires { ⌜ n ≤ 65536 ⌝ }
+    ensures { λ r. ⌜ r ≡ length (atom-head kind n) + n ⌝ }
+{
+    if kind == 2 {
+        return reader::head_size(n) + n;
+    }
+    n
+}
+
+// The value of an atom that stands for itself.
+pub fn own(s: &[u8], table: &[u32], w: &mut [u8], state: State, row: usize) -> Out
+    requires { ⌜ Fitting (now w) state ⌝ }
+    requires { ⌜ ((a : Atom) × LeafAt (now s) (now table) row a) ⌝ }
+    ensures { λ r. ⌜ ((a : Atom) → LeafAt (now (s .entry)) (now (table .entry)) row a → Completed (now (w .entry)) (now (w .exit)) state (state .top) row (only (atom a)) r) ⌝ }
+{
+    let kind = rows::kind(table, row);
+    let from = body(s, table, row);
+    let to = rows::end(table, row);
+    let n = atom_size(kind, to - from);
+    let top = state.top;
+    if state.room < n {
+        return refused(17, row);
+    }
+    writer::put_atom(kind, &s[from..to], w, top);
+    charged(state, n, top + n)
+}
+
+// The value of an ns form: the form of three atoms, as it is written.
+pub fn own_ns(s: &[u8], table: &[u32], w: &mut [u8], state: State, row: usize) -> Out
+    requires { ⌜ Fitting (now w) state ⌝ }
+    requires { ⌜ ((m n : ℕ) × (id : List ℕ) × LeafAt (now s) (now table) (row + 2) (ref m n) × LeafAt (now s) (now table) (row + 3) (array id)) ⌝ }
+    ensures { λ r. ⌜ ((m n : ℕ) (id : List ℕ) → LeafAt (now (s .entry)) (now (table .entry)) (row + 2) (ref m n) → LeafAt (now (s .entry)) (now (table .entry)) (row + 3) (array id) → Completed (now (w .entry)) (now (w .exit)) state (state .top) row (ns-form m n id) r) ⌝ }
+{
+    let reference = rows::start(table, row + 2);
+    let past = rows::end(table, row + 2);
+    let id = arrays::body(s, table, row + 3);
+    let to = rows::end(table, row + 3);
+    let n = 4 + (past - reference) + atom_size(2, to - id);
+    let top = state.top;
+    if state.room < n {
+        return refused(17, row);
+    }
+    w[top] = 0x01;
+    w[top + 1] = 0x20;
+    w[top + 2] = 0x06;
+    let at = writer::put_atom(4, &s[reference..past], w, top + 3);
+    let end = writer::put_atom(2, &s[id..to], w, at);
+    w[end] = 0x02;
+    charged(state, n, top + n)
+}
+
+// Values that stand in the workspace already, once more.
+pub fn again(w: &mut [u8], state: State, from: usize, to: usize, row: usize) -> Out
+    requires { ⌜ Fitting (now w) state ⌝ }
+    requires { ⌜ (from ≤ to) × (to ≤ length (now w)) ⌝ }
+    ensures { λ r. ⌜ ((vs : Exprs) → Stand (now (w .entry)) from to vs → deepest vs ≤ 64 → Completed (now (w .entry)) (now (w .exit)) state (state .top) row vs r) ⌝ }
+{
+    let n = to - from;
+    let top = state.top;
+    if state.room < n {
+        return refused(17, row);
+    }
+    moves::move_bytes(w, from, to, top);
+    charged(state, n, top + n)
+}
+
+// The values from `from` up to the top, in the place of all from `start` on.
+pub fn lowered(w: &mut [u8], state: State, start: usize, from: usize, row: usize) -> Out
+    requires { ⌜ Fitting (now w) state ⌝ }
+    requires { ⌜ (start ≤ from) × (from ≤ state .top) ⌝ }
+    ensures { λ r. ⌜ ((vs : Exprs) → Stand (now (w .entry)) from (state .top) vs → deepest vs ≤ 64 → Completed (now (w .entry)) (now (w .exit)) state start row vs r) ⌝ }
+{
+    let top = state.top;
+    let n = top - from;
+    if state.room < n {
+        return refused(17, row);
+    }
+    moves::move_bytes(w, from, top, start);
+    charged(state, n, start + n)
+}
+
+// The values from `start` up to the top, made a definition's: they go below the floor.
+pub fn kept(w: &mut [u8], state: State, start: usize) -> State
+    requires { ⌜ Fitting (now w) state × (start ≤ state .top) ⌝ }
+    ensures { λ r. ⌜ Defined (now (w .entry)) (now (w .exit)) state start r ⌝ }
+{
+    let top = state.top;
+    let floor = state.floor - (top - start);
+    moves::move_bytes(w, start, top, floor);
+    State {
+        steps: state.steps,
+        room: state.room,
+        top: start,
+        floor,
+        names: state.names,
+    }
+}
