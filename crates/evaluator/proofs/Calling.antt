@@ -1,5 +1,5 @@
 -- A call: where its code is run, and what it leaves when the code was run.
-use Prim.Native.Nat.{ℕ, zero, suc, _+_, _-_, _≤_, _<_}
+use Prim.Native.Nat.{ℕ, suc, _+_, _-_, _≤_, _<_}
 use mathlib.Core.Path.{_≡_, refl, sym, ap, _∙_, subst}
 use mathlib.Core.List.{List}
 use native.Mathlib.Omega.{arith}
@@ -18,7 +18,7 @@ use Rattle.laws.proofs.Values.{in-list-left}
 use Rattle.evaluator.specs.Stands.{next}
 use Rattle.evaluator.specs.Entries.{Entry, entries}
 use Rattle.evaluator.specs.Named.{Named}
-use Rattle.evaluator.specs.Completed.{Stand, with-top, ArgumentsAt}
+use Rattle.evaluator.specs.Completed.{with-top, ArgumentsAt}
 use Rattle.evaluator.specs.Planned.{at-inner, in-code}
 use Rattle.evaluator.specs.Listed.{Ready, Over, Met, LeftBy, Calling, Ran, CanReturn, Returned, left-by}
 use Rattle.evaluator.specs.declared.scope.Scope.{Scope}
@@ -26,7 +26,6 @@ use Rattle.evaluator.specs.declared.values.State.{State}
 use Rattle.evaluator.specs.declared.values.Out.{Out}
 use Rattle.evaluator.specs.declared.values.Out.the-variants.{Done, Refused}
 use Rattle.evaluator.specs.declared.plan.Stands.the-variants.{Inner}
-use Rattle.evaluator.specs.declared.element.Left.{Left as Answer}
 use Rattle.evaluator.proofs.Entries.{entries-length}
 use Rattle.evaluator.proofs.Places.{slice-take, untouched-less}
 use Rattle.evaluator.proofs.Begins.{completed-left}

@@ -15,7 +15,7 @@ use Rattle.laws.specs.Holding.{skip}
 use Rattle.laws.proofs.Fits.{Fits}
 use Rattle.evaluator.specs.Stands.{next, LeafAt, NodeAt, NodesAt, key-of, no-key, head-key}
 use Rattle.evaluator.specs.Entries.{Entry}
-use Rattle.evaluator.specs.Planned.{CodeAt, Shows, form-finishes, call-finishes, Planned, refuses, owns, repeats, goes-inside}
+use Rattle.evaluator.specs.Planned.{Shows, form-finishes, call-finishes, Planned, refuses, owns, repeats, goes-inside}
 use Rattle.evaluator.specs.declared.scope.Found.{Found}
 use Rattle.evaluator.specs.declared.scope.Found.the-variants.{Value, Function, Nothing}
 use Rattle.evaluator.specs.declared.plan.After.the-variants.{Form, Call}

@@ -1,26 +1,23 @@
 -- What is inside an expression, evaluated first: what is known there, and what the expression leaves when it is finished or its code was run.
-use Prim.Native.Nat.{ℕ, zero, suc, _+_, _-_, _≤_, _<_}
+use Prim.Native.Nat.{ℕ, zero, suc, _-_, _≤_, _<_}
 use mathlib.Core.Path.{_≡_, refl, sym, ap, _∙_, subst}
 use mathlib.Core.List.{List}
-use mathlib.Core.Bool.{false}
 use native.Mathlib.Omega.{arith}
 use lib.ListN.{length, drop}
-use Rattle.spec.specs.Expr.{Exprs}
-use Rattle.spec.specs.Nodes.{rest, Node, leaf, branch, Nodes, empty, cons, elements, headed-by}
+use Rattle.spec.specs.Nodes.{Node, leaf, branch, Nodes, empty, cons, elements}
 use Rattle.spec.specs.Runs.{done, Run}
-use Rattle.spec.specs.Plan.{Scope as Definitions, Place, element, inner, Here, Finish, as-form, as-definition, as-concat, as-call, Plan, inside, plan}
-use Rattle.spec.specs.Evaluation.{Left, standing, Call, finish, eval, run-code}
-use Rattle.laws.specs.Holding.{Held, kept, ceased, hold, and-hold, NotTop, in-list, skip}
-use Rattle.laws.proofs.Basics.{impossible}
+use Rattle.spec.specs.Plan.{Scope as Definitions, Place, element, Here, Finish, as-call, inside, plan}
+use Rattle.spec.specs.Evaluation.{Left, Call, finish, eval, run-code}
+use Rattle.laws.specs.Holding.{Held, ceased, hold, and-hold, NotTop, in-list, skip}
 use Rattle.laws.proofs.Holding.{hold-kept, hold-step, hold-inside}
 use Rattle.laws.proofs.Singles.{SingleScope, call-single, in-list-single, in-list-pair, in-list-stays}
-use Rattle.laws.proofs.Values.{Sound, FitsNode, FitsNodes, SoundHere, call-sound, in-list-left}
-use Rattle.evaluator.specs.Stands.{next, NodeAt, row-of}
+use Rattle.laws.proofs.Values.{FitsNode, FitsNodes, call-sound, in-list-left}
+use Rattle.evaluator.specs.Stands.{next, row-of}
 use Rattle.evaluator.specs.Entries.{Entry, entries}
 use Rattle.evaluator.specs.Named.{Named}
-use Rattle.evaluator.specs.Completed.{Fitting, Stand, Untouched, with-top}
-use Rattle.evaluator.specs.Planned.{CodeAt, Shows, Placed, at-element, at-inner, Finishes, form-finishes, define-finishes, concat-finishes, call-finishes, OneMore, one-more, TwoMore, two-more}
-use Rattle.evaluator.specs.Listed.{Ready, Over, Met, LeftValues, LeftDefinition, LeftBy, GoesInside, stands-in, NoCall, FinishedBy, by-form, by-define, by-concat, Finishable, Finishing, CanFinish, Finished, Calling, CanCall, Called}
+use Rattle.evaluator.specs.Completed.{Untouched, with-top}
+use Rattle.evaluator.specs.Planned.{CodeAt, Shows, Placed, at-element, at-inner, Finishes, form-finishes, define-finishes, concat-finishes, call-finishes, one-more, two-more}
+use Rattle.evaluator.specs.Listed.{Ready, Over, Met, LeftBy, GoesInside, stands-in, NoCall, FinishedBy, by-form, by-define, by-concat, Finishable, Finishing, CanFinish, Finished, Calling, CanCall, Called}
 use Rattle.evaluator.specs.declared.scope.Scope.{Scope}
 use Rattle.evaluator.specs.declared.values.State.{State}
 use Rattle.evaluator.specs.declared.values.Out.{Out}
@@ -34,7 +31,7 @@ use Rattle.evaluator.specs.declared.element.Left.the-variants.{Values, D
 use Rattle.evaluator.proofs.Nodes.{node-row}
 use Rattle.evaluator.proofs.Entries.{entries-length}
 use Rattle.evaluator.proofs.Shown.{shows-kept}
-use Rattle.evaluator.proofs.Places.{untouched-less, untouched-then}
+use Rattle.evaluator.proofs.Places.{untouched-then}
 use Rattle.evaluator.proofs.Turns.{Going, going-more, standing-here, held-next, going-begins}
 
 -- the run of an expression whose plan goes inside

@@ -4,7 +4,6 @@ use mathlib.Core.Path.{_≡_, refl, sym, ap, _∙_, subst}
 use mathlib.Core.List.{List, [], _∷_, _++_, append-nil}
 use mathlib.Core.Bool.{Bool, true, false, _||_}
 use native.Mathlib.Omega.{arith}
-use lib.ListN.{length}
 use lib.Seq.{slice, slice-empty}
 use lib.Dec.{eqb}
 use Rattle.spec.specs.Expr.{some, Exprs, none, append, canonical}
@@ -13,24 +12,23 @@ use Rattle.spec.specs.Runs.{done}
 use Rattle.spec.specs.Plan.{Place, top, element, inner, Here}
 use Rattle.spec.specs.Evaluation.{Left, standing, add-definition, eval, run-code}
 use Rattle.laws.specs.Holding.{Held, kept, ceased, hold, and-hold, beyond, together, in-list}
-use Rattle.laws.proofs.Basics.{impossible}
 use Rattle.laws.proofs.Canonical.{canonical-append}
 use Rattle.laws.proofs.Prefix.{append-append}
 use Rattle.laws.proofs.Holding.{and-hold-same, and-hold-twice, hold-kept, hold-list, hold-list-empty}
 use Rattle.laws.proofs.Singles.{append-none, SingleScope, eval-stays, eval-scope}
-use Rattle.laws.proofs.Values.{FitsNode, FitsNodes, SoundHere, SoundLeft, eval-sound, run-code-sound}
+use Rattle.laws.proofs.Values.{FitsNode, FitsNodes, SoundHere, eval-sound, run-code-sound}
 use Rattle.evaluator.specs.Stands.{next, NodeAt, NodesAt}
-use Rattle.evaluator.specs.Entries.{Entry, entries}
-use Rattle.evaluator.specs.Completed.{Fitting, Stand, Untouched}
-use Rattle.evaluator.specs.Planned.{Shows, Lent, Placed, at-top, at-element, at-inner, Setting}
-use Rattle.evaluator.specs.Listed.{Ready, Over, LeftValues, LeftDefinition, Beginning}
+use Rattle.evaluator.specs.Entries.{entries}
+use Rattle.evaluator.specs.Completed.{Stand, Untouched}
+use Rattle.evaluator.specs.Planned.{Shows, Lent, Placed, at-top, at-element, at-inner}
+use Rattle.evaluator.specs.Listed.{Ready, SomeReady, Over, LeftValues, LeftDefinition, Beginning}
 use Rattle.evaluator.specs.declared.scope.Scope.{Scope}
 use Rattle.evaluator.specs.declared.values.State.{State}
 use Rattle.evaluator.specs.declared.plan.Stands.{Stands}
 use Rattle.evaluator.specs.declared.plan.Code.{Code}
 use Rattle.evaluator.proofs.Nodes.{MoreAt, append-nodes, markers-append, nodes-append, nodes-done, nodes-more, node-next-in}
 use Rattle.evaluator.proofs.Places.{slice-split, untouched-less, untouched-then, stand-below}
-use Rattle.evaluator.proofs.Shown.{shows-length, shows-more, shows-kept, shows-lower, lent-kept}
+use Rattle.evaluator.proofs.Shown.{shows-more, shows-kept, shows-lower, lent-kept}
 
 -- Values one after the other
 
@@ -81,6 +79,11 @@ module _ (s t : List ℕ) (row : ℕ) (e : Node) (node : NodeAt s t row e) where
   placed-beyond stands inner at-inner = at-inner
 
 -- The list
+
+-- what the nodes that are listed answer as a whole
+abbrev pub held-list : {s t w names args : List ℕ} {sc : Scope} {st : State} {stands : Stands} {code : Code} {row end : ℕ}
+    → SomeReady s t w names args sc st stands code row end → Held Left
+held-list {st = st} y = hold (st .steps) (st .room) (in-list (run-code (y .codes)) (y .nodes) (y .place) (y .here))
 
 -- what a list leaves, behind values that it left before
 abbrev pub behind : Exprs → Left → Left
@@ -178,24 +181,24 @@ module _ (s t : List ℕ) (bound codes : ℕ) (args : List ℕ) (stands : Stands
         sound = g .ready .sound;
       }
 
-      held-list : held ≡ left-of (g .passed) (and-hold held-next (λ one steps work.
+      held-first : held ≡ left-of (g .passed) (and-hold held-next (λ one steps work.
           and-hold (hold steps work (in-list (run-code codes) (going-more .rest) (beyond (going-more .head) (g .place)) (one .here)))
           (λ others steps′ work′. kept (together one others) steps′ work′)))
-      held-list =
+      held-first =
           g .is
           ∙ ap (λ (es : Nodes). left-of (g .passed) (hold (st .steps) (st .room) (in-list (run-code codes) es (g .place) (g .here)))) (going-more .is)
           ∙ ap (left-of (g .passed)) (hold-list (run-code codes) (going-more .head) (going-more .rest) (g .place) (g .here) (st .steps) (st .room))
 
       -- it is refused, and so is the list
       pub going-ceased : (n r : ℕ) → held-next ≡ ceased n r → held ≡ ceased n r
-      going-ceased n r h = rw h at held-list
+      going-ceased n r h = rw h at held-first
 
       -- it leaves something, and the list goes on
       held-on : (one : Left) (steps work : ℕ) → held-next ≡ kept one steps work
           → held ≡ left-of (append (g .passed) (one .values)) (hold steps work (in-list (run-code codes) (going-more .rest) (beyond (going-more .head) (g .place)) (one .here)))
       held-on one steps work h =
           let x = hold steps work (in-list (run-code codes) (going-more .rest) (beyond (going-more .head) (g .place)) (one .here)) in
-          (rw h at held-list)
+          (rw h at held-first)
           ∙ and-hold-twice x (λ others steps′ work′. kept (together one others) steps′ work′) _
           ∙ and-hold-same x λ others steps′ work′ e. ap (λ (vs : Exprs). kept (record { values = vs; here = others .here }) steps′ work′) (sym (append-append (g .passed) (one .values) (others .values)))
 

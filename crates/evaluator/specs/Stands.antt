@@ -2,12 +2,11 @@
 use Prim.Native.Nat.{ℕ, _+_, _*_, _≤_, _<_}
 use mathlib.Core.Path.{_≡_}
 use mathlib.Core.List.{List}
-use mathlib.Core.Bool.{Bool, not}
 use lib.ListN.{length, getD}
 use lib.Seq.{slice}
 use Rattle.spec.specs.Expr.{Atom, if-ref}
 use Rattle.spec.specs.Reading.{atom-kind, row-width}
-use Rattle.spec.specs.Nodes.{plain, is, word, Node, leaf, branch, Nodes, empty, cons}
+use Rattle.spec.specs.Nodes.{is, Node, leaf, branch, Nodes, empty, cons}
 use Rattle.laws.specs.Grammar.{SpellsAtom}
 use Rattle.evaluator.specs.declared.rows.Parts.{Parts}
 

@@ -2,7 +2,7 @@
 ghost use mathlib.Core.Path.{_≡_};
 ghost use mathlib.Core.List.{[], _∷_};
 ghost use Prim.Native.Nat.{_+_, _-_, _≤_, _<_};
-ghost use lib.ListN.{length, drop};
+ghost use lib.ListN.{drop};
 ghost use Rattle.evaluator.specs.Entries.{pack, packed-from, packed-to, function-bit, entries, find};
 
 // Of each definition its key, and where its value stands or the row of its code; the latest is the last.

@@ -10,7 +10,7 @@ use borrow.Author.Needs.{needs}
 use borrow.Fn.Kinds.{In}
 use borrow.Fn.PlainCycle.{Measures, is, falls, and}
 use Rattle.spec.specs.Expr.{Exprs}
-use Rattle.spec.specs.Nodes.{Nodes, elements}
+use Rattle.spec.specs.Nodes.{Node, Nodes, elements}
 use Rattle.spec.specs.Plan.{Scope as Definitions, Place, inner, Here, as-call}
 use Rattle.spec.specs.Evaluation.{Left, finish, run-code}
 use Rattle.laws.specs.Holding.{Held, hold, in-list, skip}
@@ -30,7 +30,7 @@ use Rattle.evaluator.specs.declared.element.Step.{Step}
 use Rattle.evaluator.specs.declared.element.Step.the-variants.{Leaves, Inside, Enter}
 use Rattle.evaluator.proofs.Nodes.{node-whole}
 use Rattle.evaluator.proofs.Entries.{entries-length}
-use Rattle.evaluator.proofs.Turns.{Going, going-start, going-over, going-more, standing-here, held-next, going-begins, going-ceased, going-values, going-definition}
+use Rattle.evaluator.proofs.Turns.{held-list, Going, going-start, going-over, going-more, standing-here, held-next, going-begins, going-ceased, going-values, going-definition}
 use Rattle.evaluator.proofs.Insides.{steps-of, met-steps, inside-ready-as, inside-fewer, inside-can-finish, inside-finishes, inside-can-call, inside-calls}
 use Rattle.evaluator.proofs.Calling.{in-body, part-is, part-size, call-arguments, call-refused, call-ready, call-can-return, call-returns}
 use Rattle.evaluator.proofs.run.call.Reads as call
@@ -73,19 +73,40 @@ list-below t = and 5 list-kinds.ps (falls 5 list-kinds.ps _<_ μ-list t) list.Pr
 
 abbrev list-Inv-loop : list-lts.InvT-loop
 list-Inv-loop s table w₀ names₀ args scope₀ state₀ stands code first end floor depth row₀ w names scope state row =
-    ((bound codes : ℕ) (es : Nodes) (p : Place) (h : Here) → Ready s table bound codes w₀ names₀ args scope₀ state₀ stands code first end es p h
-    → Going s table bound codes args stands code end w₀ w names scope state₀ state row (hold (state₀ .steps) (state₀ .room) (in-list (run-code codes) es p h)))
+    ((y : SomeReady s table w₀ names₀ args scope₀ state₀ stands code first end)
+    → Going s table (y .bound) (y .codes) args stands code end w₀ w names scope state₀ state row (held-list y))
     × (floor ≡ state₀ .floor) × (depth ≡ code .depth) × (length w ≡ length w₀)
 
 abbrev list-μ-loop : list-lts.MeasureT-loop
 list-μ-loop s table w₀ names₀ args scope₀ state₀ stands code first end floor depth row₀ w names scope state row = end - row
 
 module _ (t : ℕ) where
+  -- Lists
+
   abbrev list-calls : list-lts.Claims
-  list-calls = (next-reads.Asked, next-reads.Learnt, begin-reads.Asked, begin-reads.Learnt, stands-in-reads.Asked, stands-in-reads.Learnt, list-below t, list.Post, finish-reads.Asked, finish-reads.Learnt, call-below t, call.Post, refused-reads.Asked, refused-reads.Learnt, add-reads.Asked, add-reads.Learnt, over-reads.Asked, over-reads.Learnt)
+  list-calls = (
+    next-reads.Asked,
+    next-reads.Learnt,
+    begin-reads.Asked,
+    begin-reads.Learnt,
+    stands-in-reads.Asked,
+    stands-in-reads.Learnt,
+    list-below t,
+    list.Post,
+    finish-reads.Asked,
+    finish-reads.Learnt,
+    call-below t,
+    call.Post,
+    refused-reads.Asked,
+    refused-reads.Learnt,
+    add-reads.Asked,
+    add-reads.Learnt,
+    over-reads.Asked,
+    over-reads.Learnt,
+  )
 
   list-loop-holds : list-lts.Need-loop-holds list-calls (list-at t) list.Post list-Inv-loop list-μ-loop
-  list-loop-holds c = (λ bound codes es p h r. going-start _ _ bound codes _ _ _ _ es p h r, refl, refl, refl)
+  list-loop-holds c = (λ y. going-start _ _ _ _ _ _ _ _ _ _ _ (y .ready), refl, refl, refl)
 
   -- before an expression
   module _ (c : list-lts.In-loop list-calls (list-at t) list.Post list-Inv-loop list-μ-loop) where
@@ -98,33 +119,69 @@ module _ (t : ℕ) where
     abbrev table : List ℕ
     table = start .args .table .now
 
-    -- what is known of the list
-    module _ (bound codes : ℕ) (es : Nodes) (p : Place) (h : Here)
-        (r : Ready stream table bound codes (start .args .w .now) (start .args .names .now) (start .args .args .now) (start .args .scope) (start .args .state) (start .args .stands) (start .args .code) (start .args .first) (start .args .end) es p h) where
-      abbrev held : Held Left
-      held = hold (start .args .state .steps) (start .args .state .room) (in-list (run-code codes) es p h)
+    -- nodes that are listed
+    abbrev Listed : Type 0
+    Listed =
+        SomeReady stream table (start .args .w .now) (start .args .names .now) (start .args .args .now) (start .args .scope) (start .args .state)
+        (start .args .stands) (start .args .code) (start .args .first) (start .args .end)
 
-      going : Going stream table bound codes (start .args .args .now) (start .args .stands) (start .args .code) (start .args .end) (start .args .w .now) (c .before .loop .w) (c .before .loop .names) (c .before .loop .scope) (start .args .state) (c .before .loop .state) (c .before .loop .row) held
-      going = c .before .loop .inv .0 bound codes es p h r
-
-      abbrev on : c .before .loop .row < start .args .end
-      on = c .loop-test .taken
-
-      begins : Beginning stream table bound (c .before .loop .w) (c .before .loop .names) (start .args .args .now) (c .before .loop .scope) (c .before .loop .state) (start .args .stands) (start .args .code) (c .before .loop .row) (going-more _ _ _ _ _ _ _ _ going on .head) (standing-here _ _ _ _ _ _ _ _ going on)
-      begins = going-begins _ _ _ _ _ _ _ _ going on
-
-    -- some nodes are listed
-    abbrev some : SomeReady stream table (start .args .w .now) (start .args .names .now) (start .args .args .now) (start .args .scope) (start .args .state) (start .args .stands) (start .args .code) (start .args .first) (start .args .end)
+    some : Listed
     some = start .pre .1
 
-    some-begins : SomeBeginning stream table (c .before .loop .w) (c .before .loop .names) (start .args .args .now) (c .before .loop .scope) (c .before .loop .state) (start .args .stands) (start .args .code) (c .before .loop .row)
-    some-begins = let y = some in record { bound = y .bound; node = _; here = _; begins = begins (y .bound) (y .codes) (y .nodes) (y .place) (y .here) (y .ready) }
+    abbrev on : c .before .loop .row < start .args .end
+    on = c .loop-test .taken
+
+    module _ (y : Listed) where
+      going : Going stream table (y .bound) (y .codes) (start .args .args .now) (start .args .stands) (start .args .code) (start .args .end)
+          (start .args .w .now) (c .before .loop .w) (c .before .loop .names) (c .before .loop .scope) (start .args .state) (c .before .loop .state)
+          (c .before .loop .row) (held-list y)
+      going = c .before .loop .inv .0 y
+
+      -- the expression, where it is evaluated, and what it answers
+      abbrev node : Node
+      node = going-more _ _ _ _ _ _ _ _ going on .head
+
+      abbrev here : Here
+      here = standing-here _ _ _ _ _ _ _ _ going on
+
+      abbrev answer : Held Left
+      answer = held-next _ _ _ _ _ _ _ _ going on
+
+      begins : Beginning stream table (y .bound) (c .before .loop .w) (c .before .loop .names) (start .args .args .now) (c .before .loop .scope)
+          (c .before .loop .state) (start .args .stands) (start .args .code) (c .before .loop .row) node here
+      begins = going-begins _ _ _ _ _ _ _ _ going on
+
+      -- it has begun, or has left something, with this workspace and these namespaces
+      abbrev BegunBy : List ℕ → List ℕ → Step → Type 0
+      BegunBy w names step =
+          Begun stream table (c .before .loop .w) w (c .before .loop .names) names (entries (c .before .loop .scope)) (c .before .loop .state)
+          (c .before .loop .row) node here answer step
+
+      abbrev Leaving : List ℕ → List ℕ → Answer → Type 0
+      Leaving w names left =
+          LeftBy stream table (c .before .loop .w) w names (entries (c .before .loop .scope)) (c .before .loop .state) here answer left
+
+      -- what is inside it is evaluated first
+      abbrev Within : State → ℕ → After → Type 0
+      Within st first after =
+          GoesInside stream table (c .before .loop .w) (entries (c .before .loop .scope)) (c .before .loop .state) st (c .before .loop .row) first node here after
+
+    some-begins : SomeBeginning stream table (c .before .loop .w) (c .before .loop .names) (start .args .args .now) (c .before .loop .scope)
+        (c .before .loop .state) (start .args .stands) (start .args .code) (c .before .loop .row)
+    some-begins = record { bound = some .bound; node = node some; here = here some; begins = begins some }
 
   list-next-requires : list-lts.Need-next-requires list-calls (list-at t) list.Post list-Inv-loop list-μ-loop
   list-next-requires c κs = let b = some-begins c in node-whole _ _ _ (b .node) (b .begins .node) .0
 
   list-begin-requires : list-lts.Need-begin-requires list-calls (list-at t) list.Post list-Inv-loop list-μ-loop
   list-begin-requires c κs = some-begins (c .before .before .before)
+
+  -- the row behind it is nearer to the end
+  nearer : (c : list-lts.After-next list-calls (list-at t) list.Post list-Inv-loop list-μ-loop)
+      → start (c .before) .args .end - c .next .result < start (c .before) .args .end - c .before .before .loop .row
+  nearer c =
+      let m = going-more _ _ _ _ _ _ _ _ (going (c .before) (some (c .before))) (on (c .before)) in
+      omega (arith, c .next .ensures, m .forward, m .inside, on (c .before))
 
   -- after its step
   module _ (c : list-lts.After-slice-known2 list-calls (list-at t) list.Post list-Inv-loop list-μ-loop) where
@@ -137,66 +194,72 @@ module _ (t : ℕ) where
     abbrev names₁ : List ℕ
     names₁ = c .before .before .begin .last .1 .1 .1 .0
 
-    module _ (bound codes : ℕ) (es : Nodes) (p : Place) (h : Here)
-        (r : Ready (stream turn) (table turn) bound codes (start turn .args .w .now) (start turn .args .names .now) (start turn .args .args .now) (start turn .args .scope) (start turn .args .state) (start turn .args .stands) (start turn .args .code) (start turn .args .first) (start turn .args .end) es p h) where
-      abbrev g : Going (stream turn) (table turn) bound codes (start turn .args .args .now) (start turn .args .stands) (start turn .args .code) (start turn .args .end) (start turn .args .w .now) (c .before .before .before .before .before .before .before .loop .w) (c .before .before .before .before .before .before .before .loop .names) (c .before .before .before .before .before .before .before .loop .scope) (start turn .args .state) (c .before .before .before .before .before .before .before .loop .state) (c .before .before .before .before .before .before .before .loop .row) (held turn bound codes es p h r)
-      g = going turn bound codes es p h r
-
-      begun : (step : Step) → c .before .before .begin .result ≡ step
-          → Begun (stream turn) (table turn) (c .before .before .before .before .before .before .before .loop .w) w₁ (c .before .before .before .before .before .before .before .loop .names) names₁ (entries (c .before .before .before .before .before .before .before .loop .scope)) (c .before .before .before .before .before .before .before .loop .state) (c .before .before .before .before .before .before .before .loop .row)
-          (going-more _ _ _ _ _ _ _ _ g (c .before .before .before .before .before .before .loop-test .taken) .head) (standing-here _ _ _ _ _ _ _ _ g (c .before .before .before .before .before .before .loop-test .taken)) (held-next _ _ _ _ _ _ _ _ g (c .before .before .before .before .before .before .loop-test .taken)) step
-      begun step e =
-          subst (λ (x : Step). Begun (stream turn) (table turn) (c .before .before .before .before .before .before .before .loop .w) w₁ (c .before .before .before .before .before .before .before .loop .names) names₁ (entries (c .before .before .before .before .before .before .before .loop .scope)) (c .before .before .before .before .before .before .before .loop .state) (c .before .before .before .before .before .before .before .loop .row)
-          (going-more _ _ _ _ _ _ _ _ g (c .before .before .before .before .before .before .loop-test .taken) .head) (standing-here _ _ _ _ _ _ _ _ g (c .before .before .before .before .before .before .loop-test .taken)) (held-next _ _ _ _ _ _ _ _ g (c .before .before .before .before .before .before .loop-test .taken)) x) e
-          (c .before .before .begin .ensures bound (run-code codes) _ _ (begins turn bound codes es p h r))
+    module _ (y : Listed turn) where
+      begun : (step : Step) → c .before .before .begin .result ≡ step → BegunBy turn y w₁ names₁ step
+      begun step e = subst (λ (x : Step). BegunBy turn y w₁ names₁ x) e (c .before .before .begin .ensures (y .bound) (run-code (y .codes)) _ _ (begins turn y))
 
       -- what is inside it
-      module _ {st′ : State} {first : ℕ} {after : After}
-          (i : GoesInside (stream turn) (table turn) (c .before .before .before .before .before .before .before .loop .w) (entries (c .before .before .before .before .before .before .before .loop .scope)) (c .before .before .before .before .before .before .before .loop .state) st′ (c .before .before .before .before .before .before .before .loop .row) first (going-more _ _ _ _ _ _ _ _ g (c .before .before .before .before .before .before .loop-test .taken) .head) (standing-here _ _ _ _ _ _ _ _ g (c .before .before .before .before .before .before .loop-test .taken)) after)
-          (same : w₁ ≡ c .before .before .before .before .before .before .before .loop .w) (same′ : names₁ ≡ c .before .before .before .before .before .before .before .loop .names) where
+      module _ {st′ : State} {first : ℕ} {after : After} (i : Within turn y st′ first after) (same : w₁ ≡ c .before .before .before .before .before .before .before .loop .w) (same′ : names₁ ≡ c .before .before .before .before .before .before .before .loop .names) where
         abbrev inside-held : Held Left
-        inside-held = hold (st′ .steps) (st′ .room) (in-list (run-code codes) (skip (i .skipped) (elements (going-more _ _ _ _ _ _ _ _ g (c .before .before .before .before .before .before .loop-test .taken) .head))) (i .place) (standing-here _ _ _ _ _ _ _ _ g (c .before .before .before .before .before .before .loop-test .taken)))
+        inside-held = hold (st′ .steps) (st′ .room) (in-list (run-code (y .codes)) (skip (i .skipped) (elements (node turn y))) (i .place) (here turn y))
 
-        inner-ready : (stands : Stands) → stands ≡ stands-in after → Ready (stream turn) (table turn) bound codes w₁ names₁ (start turn .args .args .now) (c .before .before .before .before .before .before .before .loop .scope) st′ stands (start turn .args .code) first (c .before .before .before .before .before .next .result) (skip (i .skipped) (elements (going-more _ _ _ _ _ _ _ _ g (c .before .before .before .before .before .before .loop-test .taken) .head))) (i .place) (standing-here _ _ _ _ _ _ _ _ g (c .before .before .before .before .before .before .loop-test .taken))
-        inner-ready stands e = inside-ready-as g (c .before .before .before .before .before .before .loop-test .taken) i w₁ names₁ stands (c .before .before .before .before .before .next .result) same same′ e (c .before .before .before .before .before .next .ensures)
+        inner-ready : (stands : Stands) → stands ≡ stands-in after
+            → Ready (stream turn) (table turn) (y .bound) (y .codes) w₁ names₁ (start turn .args .args .now) (c .before .before .before .before .before .before .before .loop .scope) st′ stands
+            (start turn .args .code) first (c .before .before .before .before .before .next .result) (skip (i .skipped) (elements (node turn y))) (i .place) (here turn y)
+        inner-ready stands e = inside-ready-as (going turn y) (on turn) i w₁ names₁ stands (c .before .before .before .before .before .next .result) same same′ e (c .before .before .before .before .before .next .ensures)
 
-        inner-met : (w₂ names₂ : List ℕ) (out : Out) → Met (stream turn) (table turn) w₁ w₂ names₂ st′ inside-held out → Met (stream turn) (table turn) (c .before .before .before .before .before .before .before .loop .w) w₂ names₂ st′ inside-held out
+        inner-some : (stands : Stands) → stands ≡ stands-in after
+            → SomeReady (stream turn) (table turn) w₁ names₁ (start turn .args .args .now) (c .before .before .before .before .before .before .before .loop .scope) st′ stands (start turn .args .code) first (c .before .before .before .before .before .next .result)
+        inner-some stands e = record { bound = y .bound; codes = y .codes; nodes = _; place = _; here = _; ready = inner-ready stands e }
+
+        inner-met : (w₂ names₂ : List ℕ) (out : Out) → Met (stream turn) (table turn) w₁ w₂ names₂ st′ inside-held out
+            → Met (stream turn) (table turn) (c .before .before .before .before .before .before .before .loop .w) w₂ names₂ st′ inside-held out
         inner-met w₂ names₂ out m = subst (λ (x : List ℕ). Met (stream turn) (table turn) x w₂ names₂ st′ inside-held out) same m
 
         inner-fewer : st′ .steps < start turn .args .state .steps
-        inner-fewer = omega (arith, inside-fewer g (c .before .before .before .before .before .before .loop-test .taken) i, g .fewer)
+        inner-fewer = omega (arith, inside-fewer (going turn y) (on turn) i, going turn y .fewer)
 
-      -- it is evaluated, then the expression is finished
-      module _ (st′ : State) (first : ℕ) (after : After) (told : c .before .before .begin .result ≡ Inside st′ first after) (stands : Stands) (e : stands ≡ stands-in after) (w₂ names₂ : List ℕ) (out : Out)
-          (evaluated : (bound codes : ℕ) (es : Nodes) (p : Place) (h : Here) → Ready (stream turn) (table turn) bound codes w₁ names₁ (start turn .args .args .now) (c .before .before .before .before .before .before .before .loop .scope) st′ stands (start turn .args .code) first (c .before .before .before .before .before .next .result) es p h
-          → Met (stream turn) (table turn) w₁ w₂ names₂ st′ (hold (st′ .steps) (st′ .room) (in-list (run-code codes) es p h)) out) where
-        finish-met : Met (stream turn) (table turn) (c .before .before .before .before .before .before .before .loop .w) w₂ names₂ st′ (inside-held (begun _ told .0) (begun _ told .2) (begun _ told .3)) out
-        finish-met = let b = begun _ told in inner-met (b .0) (b .2) (b .3) w₂ names₂ out (evaluated _ _ _ _ _ (inner-ready (b .0) (b .2) (b .3) stands e))
+    -- the rows inside were evaluated
+    abbrev Evaluated : State → Stands → ℕ → List ℕ → List ℕ → Out → Type 0
+    Evaluated st′ stands first w₂ names₂ out =
+        (bound codes : ℕ) (es : Nodes) (p : Place) (h : Here)
+        → Ready (stream turn) (table turn) bound codes w₁ names₁ (start turn .args .args .now) (c .before .before .before .before .before .before .before .loop .scope) st′ stands (start turn .args .code) first (c .before .before .before .before .before .next .result) es p h
+        → Met (stream turn) (table turn) w₁ w₂ names₂ st′ (hold (st′ .steps) (st′ .room) (in-list (run-code codes) es p h)) out
+
+    module _ (y : Listed turn) where
+      -- then the expression is finished
+      module _ (st′ : State) (first : ℕ) (after : After) (told : c .before .before .begin .result ≡ Inside st′ first after) (stands : Stands)
+          (e : stands ≡ stands-in after) (w₂ names₂ : List ℕ) (out : Out) (evaluated : Evaluated st′ stands first w₂ names₂ out) where
+        finish-met : Met (stream turn) (table turn) (c .before .before .before .before .before .before .before .loop .w) w₂ names₂ st′ (inside-held y (begun y _ told .0) (begun y _ told .2) (begun y _ told .3)) out
+        finish-met =
+            let b = begun y _ told in
+            inner-met y (b .0) (b .2) (b .3) w₂ names₂ out (evaluated _ _ _ _ _ (inner-ready y (b .0) (b .2) (b .3) stands e))
 
         can-finish : CanFinish w₂ (c .before .before .before .before .before .before .before .loop .state .top) after out
-        can-finish = let b = begun _ told in inside-can-finish g (c .before .before .before .before .before .before .loop-test .taken) (b .0) (b .1) w₂ names₂ out finish-met
+        can-finish = let b = begun y _ told in inside-can-finish (going turn y) (on turn) (b .0) (b .1) w₂ names₂ out finish-met
 
-        finished : (w₃ : List ℕ) (left : Answer) → Finished w₂ w₃ (c .before .before .before .before .before .before .before .loop .state .top) (c .before .before .before .before .before .before .before .loop .row) after left out
-            → LeftBy (stream turn) (table turn) (c .before .before .before .before .before .before .before .loop .w) w₃ names₂ (entries (c .before .before .before .before .before .before .before .loop .scope)) (c .before .before .before .before .before .before .before .loop .state) (standing-here _ _ _ _ _ _ _ _ g (c .before .before .before .before .before .before .loop-test .taken)) (held-next _ _ _ _ _ _ _ _ g (c .before .before .before .before .before .before .loop-test .taken)) left
-        finished w₃ left f = let b = begun _ told in inside-finishes g (c .before .before .before .before .before .before .loop-test .taken) (b .0) (b .1) w₂ names₂ out w₃ left finish-met f
+        finished : (w₃ : List ℕ) (left : Answer) → Finished w₂ w₃ (c .before .before .before .before .before .before .before .loop .state .top) (c .before .before .before .before .before .before .before .loop .row) after left out → Leaving turn y w₃ names₂ left
+        finished w₃ left f = let b = begun y _ told in inside-finishes (going turn y) (on turn) (b .0) (b .1) w₂ names₂ out w₃ left finish-met f
 
-      -- it is evaluated, then code is entered
-      module _ (st′ : State) (first body visible : ℕ) (told : c .before .before .begin .result ≡ Enter st′ first body visible) (stands : Stands) (e : stands ≡ Inner) (w₂ names₂ : List ℕ) (out : Out)
-          (evaluated : (bound codes : ℕ) (es : Nodes) (p : Place) (h : Here) → Ready (stream turn) (table turn) bound codes w₁ names₁ (start turn .args .args .now) (c .before .before .before .before .before .before .before .loop .scope) st′ stands (start turn .args .code) first (c .before .before .before .before .before .next .result) es p h
-          → Met (stream turn) (table turn) w₁ w₂ names₂ st′ (hold (st′ .steps) (st′ .room) (in-list (run-code codes) es p h)) out) where
-        enter-met : Met (stream turn) (table turn) (c .before .before .before .before .before .before .before .loop .w) w₂ names₂ st′ (inside-held (begun _ told .0) (begun _ told .1) (begun _ told .2)) out
-        enter-met = let b = begun _ told in inner-met (b .0) (b .1) (b .2) w₂ names₂ out (evaluated _ _ _ _ _ (inner-ready (b .0) (b .1) (b .2) stands e))
+      -- then code is entered
+      module _ (st′ : State) (first body visible : ℕ) (told : c .before .before .begin .result ≡ Enter st′ first body visible) (w₂ names₂ : List ℕ) (out : Out)
+          (evaluated : Evaluated st′ Inner first w₂ names₂ out) (depth : ℕ) (d : depth ≡ start turn .args .code .depth) where
+        enter-met : Met (stream turn) (table turn) (c .before .before .before .before .before .before .before .loop .w) w₂ names₂ st′ (inside-held y (begun y _ told .0) (begun y _ told .1) (begun y _ told .2)) out
+        enter-met =
+            let b = begun y _ told in
+            inner-met y (b .0) (b .1) (b .2) w₂ names₂ out (evaluated _ _ _ _ _ (inner-ready y (b .0) (b .1) (b .2) Inner refl))
 
-        can-call : (depth : ℕ) → depth ≡ start turn .args .code .depth → CanCall (stream turn) (table turn) w₂ names₂ (c .before .before .before .before .before .before .before .loop .scope) visible depth body (c .before .before .before .before .before .before .before .loop .state .top) out
-        can-call depth d = let b = begun _ told in rw d (inside-can-call g (c .before .before .before .before .before .before .loop-test .taken) (b .0) w₂ names₂ out enter-met)
+        can-call : CanCall (stream turn) (table turn) w₂ names₂ (c .before .before .before .before .before .before .before .loop .scope) visible depth body (c .before .before .before .before .before .before .before .loop .state .top) out
+        can-call = let b = begun y _ told in rw d (inside-can-call (going turn y) (on turn) (b .0) w₂ names₂ out enter-met)
 
-        called : (depth : ℕ) → depth ≡ start turn .args .code .depth → (w₃ names₃ : List ℕ) (left : Answer)
+        called : (w₃ names₃ : List ℕ) (left : Answer)
             → Called (stream turn) (table turn) w₂ w₃ names₂ names₃ (c .before .before .before .before .before .before .before .loop .scope) visible depth body (c .before .before .before .before .before .before .before .loop .state .top) (c .before .before .before .before .before .before .before .loop .row) left out
-            → LeftBy (stream turn) (table turn) (c .before .before .before .before .before .before .before .loop .w) w₃ names₃ (entries (c .before .before .before .before .before .before .before .loop .scope)) (c .before .before .before .before .before .before .before .loop .state) (standing-here _ _ _ _ _ _ _ _ g (c .before .before .before .before .before .before .loop-test .taken)) (held-next _ _ _ _ _ _ _ _ g (c .before .before .before .before .before .before .loop-test .taken)) left
-        called depth d w₃ names₃ left f = let b = begun _ told in inside-calls g (c .before .before .before .before .before .before .loop-test .taken) (b .0) w₂ names₂ out w₃ names₃ left enter-met (rw d at f)
+            → Leaving turn y w₃ names₃ left
+        called w₃ names₃ left f =
+            let b = begun y _ told in inside-calls (going turn y) (on turn) (b .0) w₂ names₂ out w₃ names₃ left enter-met (rw d at f)
 
         enter-fewer : steps-of out < start turn .args .state .steps
-        enter-fewer = let b = begun _ told in omega (arith, inner-fewer (b .0) (b .1) (b .2), met-steps _ _ _ _ _ st′ _ out enter-met)
+        enter-fewer = let b = begun y _ told in omega (arith, inner-fewer y (b .0) (b .1) (b .2), met-steps _ _ _ _ _ st′ _ out enter-met)
 
   list-enum-known-done : list-lts.Need-enum-known-done list-calls (list-at t) list.Post list-Inv-loop list-μ-loop
   list-enum-known-done c = search needs
@@ -211,16 +274,15 @@ module _ (t : ℕ) where
   list-list-requires c κs =
       let k = c .before .before .before .before .before .before in
       let y = some (turn k) in
-      let b = begun k (y .bound) (y .codes) (y .nodes) (y .place) (y .here) (y .ready) _ (c .before .before .before .before .inner .given .1) in
-      let r = inner-ready k (y .bound) (y .codes) (y .nodes) (y .place) (y .here) (y .ready) (b .0) (b .2) (b .3) (c .stands-in .result) (c .stands-in .ensures) in
-      let fewer = inner-fewer k (y .bound) (y .codes) (y .nodes) (y .place) (y .here) (y .ready) (b .0) (b .2) (b .3) in
-      (omega (arith, fewer, start (turn k) .pre .0), record { bound = y .bound; codes = y .codes; nodes = _; place = _; here = _; ready = r })
+      let b = begun k y _ (c .before .before .before .before .inner .given .1) in (
+        omega (arith, inner-fewer k y (b .0) (b .2) (b .3), start (turn k) .pre .0),
+        inner-some k y (b .0) (b .2) (b .3) (c .stands-in .result) (c .stands-in .ensures),
+      )
 
   list-finish-requires : list-lts.Need-finish-requires list-calls (list-at t) list.Post list-Inv-loop list-μ-loop
   list-finish-requires c κs =
       let k = c .before .before .before .before .before .before .before .before .before .before in
-      let y = some (turn k) in
-      can-finish k (y .bound) (y .codes) (y .nodes) (y .place) (y .here) (y .ready) _ _ _ (c .before .before .before .before .before .before .before .before .inner .given .1) (c .before .before .before .before .stands-in .result) (c .before .before .before .before .stands-in .ensures)
+      can-finish k (some (turn k)) _ _ _ (c .before .before .before .before .before .before .before .before .inner .given .1) (c .before .before .before .before .stands-in .result) (c .before .before .before .before .stands-in .ensures)
       (c .before .before .before .list .last .1 .1 .0) (c .before .before .before .list .last .1 .1 .1 .0) (c .before .before .before .list .result) (c .before .before .before .list .ensures)
 
   list-enum-known-inner-2 : list-lts.Need-enum-known-inner-2 list-calls (list-at t) list.Post list-Inv-loop list-μ-loop
@@ -230,20 +292,17 @@ module _ (t : ℕ) where
   list-list-requires-2 c κs =
       let k = c .before .before .before .before .before in
       let y = some (turn k) in
-      let b = begun k (y .bound) (y .codes) (y .nodes) (y .place) (y .here) (y .ready) _ (c .before .before .before .inner2 .given .1) in
-      let r = inner-ready k (y .bound) (y .codes) (y .nodes) (y .place) (y .here) (y .ready) (b .0) (b .1) (b .2) Inner refl in
-      let fewer = inner-fewer k (y .bound) (y .codes) (y .nodes) (y .place) (y .here) (y .ready) (b .0) (b .1) (b .2) in
-      (omega (arith, fewer, start (turn k) .pre .0), record { bound = y .bound; codes = y .codes; nodes = _; place = _; here = _; ready = r })
+      let b = begun k y _ (c .before .before .before .inner2 .given .1) in
+      (omega (arith, inner-fewer k y (b .0) (b .1) (b .2), start (turn k) .pre .0), inner-some k y (b .0) (b .1) (b .2) Inner refl)
 
   list-call-requires : list-lts.Need-call-requires list-calls (list-at t) list.Post list-Inv-loop list-μ-loop
   list-call-requires c κs =
       let k = c .before .before .before .before .before .before .before .before .before .before in
       let y = some (turn k) in
-      let fewer = enter-fewer k (y .bound) (y .codes) (y .nodes) (y .place) (y .here) (y .ready) _ _ _ _ (c .before .before .before .before .before .before .before .before .inner2 .given .1) Inner refl
-      (c .before .before .before .before .list2 .last .1 .1 .0) (c .before .before .before .before .list2 .last .1 .1 .1 .0) (c .before .before .before .before .list2 .result) (c .before .before .before .before .list2 .ensures) in (
-        omega (arith, fewer, start (turn k) .pre .0),
-        can-call k (y .bound) (y .codes) (y .nodes) (y .place) (y .here) (y .ready) _ _ _ _ (c .before .before .before .before .before .before .before .before .inner2 .given .1) Inner refl
-            (c .before .before .before .before .list2 .last .1 .1 .0) (c .before .before .before .before .list2 .last .1 .1 .1 .0) (c .before .before .before .before .list2 .result) (c .before .before .before .before .list2 .ensures) _ (turn k .before .loop .inv .2),
+      let l = c .before .before .before .before .list2 in
+      let d = turn k .before .loop .inv .2 in (
+        omega (arith, enter-fewer k y _ _ _ _ (c .before .before .before .before .before .before .before .before .inner2 .given .1) (l .last .1 .1 .0) (l .last .1 .1 .1 .0) (l .result) (l .ensures) _ d, start (turn k) .pre .0),
+        can-call k y _ _ _ _ (c .before .before .before .before .before .before .before .before .inner2 .given .1) (l .last .1 .1 .0) (l .last .1 .1 .1 .0) (l .result) (l .ensures) _ d,
       )
 
   -- what it leaves, in each of the three ways
@@ -254,30 +313,19 @@ module _ (t : ℕ) where
         (λ y. ⊎-elim (λ x. ap length (x .13) ∙ x .10 .kept .0 ∙ x .6 .kept .1 .1 .0 ∙ c .before .before .before .begin .kept .1 .1 .0)
         (λ x. ap length (x .13) ∙ x .10 .kept .1 .1 .0 ∙ x .5 .kept .1 .1 .0 ∙ c .before .before .before .begin .kept .1 .1 .0) y) (c .match .came)
 
-    module _ (bound codes : ℕ) (es : Nodes) (p : Place) (h : Here)
-        (r : Ready (stream (turn (c .before))) (table (turn (c .before))) bound codes (start (turn (c .before)) .args .w .now) (start (turn (c .before)) .args .names .now) (start (turn (c .before)) .args .args .now) (start (turn (c .before)) .args .scope) (start (turn (c .before)) .args .state) (start (turn (c .before)) .args .stands) (start (turn (c .before)) .args .code) (start (turn (c .before)) .args .first) (start (turn (c .before)) .args .end) es p h) where
-      left-by-one : LeftBy (stream (turn (c .before))) (table (turn (c .before))) (c .before .before .before .before .before .before .before .before .loop .w) (c .match .w) (c .match .names) (entries (c .before .before .before .before .before .before .before .before .loop .scope)) (c .before .before .before .before .before .before .before .before .loop .state)
-          (standing-here _ _ _ _ _ _ _ _ (g (c .before) bound codes es p h r) (c .before .before .before .before .before .before .before .loop-test .taken)) (held-next _ _ _ _ _ _ _ _ (g (c .before) bound codes es p h r) (c .before .before .before .before .before .before .before .loop-test .taken)) (c .match .left)
+    module _ (y : Listed (turn (c .before))) where
+      left-by-one : Leaving (turn (c .before)) y (c .match .w) (c .match .names) (c .match .left)
       left-by-one =
           let k = c .before in
-          ⊎-elim (λ x. rw (x .3, x .4, x .5) (begun k bound codes es p h r _ (x .1 .given .1)))
-          (λ y. ⊎-elim
-          (λ x. rw (x .13, x .14, x .15) (finished k bound codes es p h r _ _ _ (x .1 .given .1) (x .5 .result) (x .5 .ensures) (x .6 .last .1 .1 .0) (x .6 .last .1 .1 .1 .0) (x .6 .result) (x .6 .ensures)
-          (x .10 .last .0) (x .10 .result) (x .10 .ensures)))
-          (λ x. rw (x .13, x .14, x .15) (called k bound codes es p h r _ _ _ _ (x .1 .given .1) Inner refl (x .5 .last .1 .1 .0) (x .5 .last .1 .1 .1 .0) (x .5 .result) (x .5 .ensures) _ (turn k .before .loop .inv .2)
-          (x .10 .last .1 .1 .0) (x .10 .last .1 .1 .1 .0) (x .10 .result) (x .10 .ensures))) y) (c .match .came)
+          ⊎-elim (λ x. rw (x .3, x .4, x .5) (begun k y _ (x .1 .given .1)))
+          (λ z. ⊎-elim
+          (λ x. rw (x .13, x .14, x .15) (finished k y _ _ _ (x .1 .given .1) (x .5 .result) (x .5 .ensures) (x .6 .last .1 .1 .0) (x .6 .last .1 .1 .1 .0)
+          (x .6 .result) (x .6 .ensures) (x .10 .last .0) (x .10 .result) (x .10 .ensures)))
+          (λ x. rw (x .13, x .14, x .15) (called k y _ _ _ _ (x .1 .given .1) (x .5 .last .1 .1 .0) (x .5 .last .1 .1 .1 .0) (x .5 .result) (x .5 .ensures) _
+          (turn k .before .loop .inv .2) (x .10 .last .1 .1 .0) (x .10 .last .1 .1 .1 .0) (x .10 .result) (x .10 .ensures))) z) (c .match .came)
 
-      left-as : (left : Answer) → c .match .left ≡ left → LeftBy (stream (turn (c .before))) (table (turn (c .before))) (c .before .before .before .before .before .before .before .before .loop .w) (c .match .w) (c .match .names) (entries (c .before .before .before .before .before .before .before .before .loop .scope)) (c .before .before .before .before .before .before .before .before .loop .state)
-          (standing-here _ _ _ _ _ _ _ _ (g (c .before) bound codes es p h r) (c .before .before .before .before .before .before .before .loop-test .taken)) (held-next _ _ _ _ _ _ _ _ (g (c .before) bound codes es p h r) (c .before .before .before .before .before .before .before .loop-test .taken)) left
-      left-as left e = subst (λ (x : Answer). LeftBy (stream (turn (c .before))) (table (turn (c .before))) (c .before .before .before .before .before .before .before .before .loop .w) (c .match .w) (c .match .names) (entries (c .before .before .before .before .before .before .before .before .loop .scope)) (c .before .before .before .before .before .before .before .before .loop .state)
-          (standing-here _ _ _ _ _ _ _ _ (g (c .before) bound codes es p h r) (c .before .before .before .before .before .before .before .loop-test .taken)) (held-next _ _ _ _ _ _ _ _ (g (c .before) bound codes es p h r) (c .before .before .before .before .before .before .before .loop-test .taken)) x) e left-by-one
-
-  -- the row behind it is nearer to the end
-  nearer : (c : list-lts.After-next list-calls (list-at t) list.Post list-Inv-loop list-μ-loop) → start (c .before) .args .end - c .next .result < start (c .before) .args .end - c .before .before .loop .row
-  nearer c =
-      let y = some (c .before) in
-      let m = going-more _ _ _ _ _ _ _ _ (going (c .before) (y .bound) (y .codes) (y .nodes) (y .place) (y .here) (y .ready)) (c .before .loop-test .taken) in
-      omega (arith, c .next .ensures, m .forward, m .inside, c .before .loop-test .taken)
+      left-as : (left : Answer) → c .match .left ≡ left → Leaving (turn (c .before)) y (c .match .w) (c .match .names) left
+      left-as left e = subst (λ (x : Answer). Leaving (turn (c .before)) y (c .match .w) (c .match .names) x) e left-by-one
 
   list-enum-known-left : list-lts.Need-enum-known-left list-calls (list-at t) list.Post list-Inv-loop list-μ-loop
   list-enum-known-left c = search needs
@@ -286,16 +334,17 @@ module _ (t : ℕ) where
   list-refused-requires c κs = search needs
 
   list-same-length : list-lts.Need-same-length list-calls (list-at t) list.Post list-Inv-loop list-μ-loop
-  list-same-length c =
-      same-length-left (c .before .before .before .before) ∙ c .before .before .before .before .before .before .before .before .before .before .before .before .loop .inv .3
+  list-same-length c = same-length-left (c .before .before .before .before) ∙ c .before .before .before .before .before .before .before .before .before .before .before .before .loop .inv .3
 
   list-returns : list-lts.Need-returns list-calls (list-at t) list.Post list-Inv-loop list-μ-loop
   list-returns c =
       λ bound codes es p h r.
       let j = c .before .before .before .before in
       let k = j .before in
-      subst (λ (x : Out). Met (stream (turn k)) (table (turn k)) (start (turn k) .args .w .now) (j .match .w) (j .match .names) (start (turn k) .args .state) (held (turn k) bound codes es p h r) x) (sym (c .refused .ensures))
-      (going-ceased _ _ _ _ _ _ _ _ (g k bound codes es p h r) (turn k .loop-test .taken) _ _ (left-as j bound codes es p h r _ (c .before .before .left .given .1)))
+      let y : Listed (turn k) = record { bound = bound; codes = codes; nodes = es; place = p; here = h; ready = r } in
+      subst (λ (x : Out). Met (stream (turn k)) (table (turn k)) (start (turn k) .args .w .now) (j .match .w) (j .match .names) (start (turn k) .args .state) (held-list y) x)
+      (sym (c .refused .ensures))
+      (going-ceased _ _ _ _ _ _ _ _ (going (turn k) y) (on (turn k)) _ _ (left-as j y _ (c .before .before .left .given .1)))
 
   list-enum-known-left-2 : list-lts.Need-enum-known-left-2 list-calls (list-at t) list.Post list-Inv-loop list-μ-loop
   list-enum-known-left-2 c = search needs
@@ -307,7 +356,7 @@ module _ (t : ℕ) where
   list-loop-again c =
       let j = c .before .before .before in
       let k = j .before in (
-        λ bound codes es p h r. going-values _ _ _ _ _ _ _ _ (g k bound codes es p h r) (turn k .loop-test .taken) (k .before .before .before .before .before .next .ensures) (left-as j bound codes es p h r _ (c .before .left2 .given .1)),
+        λ y. going-values _ _ _ _ _ _ _ _ (going (turn k) y) (on (turn k)) (k .before .before .before .before .before .next .ensures) (left-as j y _ (c .before .left2 .given .1)),
         k .before .before .before .before .before .before .before .loop .inv .1,
         k .before .before .before .before .before .before .before .loop .inv .2,
         same-length-left j ∙ k .before .before .before .before .before .before .before .loop .inv .3,
@@ -319,9 +368,9 @@ module _ (t : ℕ) where
   list-add-requires : list-lts.Need-add-requires list-calls (list-at t) list.Post list-Inv-loop list-μ-loop
   list-add-requires c κs =
       let j = c .before .before .before in
-      let y = some (turn (j .before)) in
-      let l = left-as j (y .bound) (y .codes) (y .nodes) (y .place) (y .here) (y .ready) _ (c .before .left3 .given .1) in
-      omega (arith, l .few, entries-length (j .before .before .before .before .before .before .before .before .loop .scope .keys) (j .before .before .before .before .before .before .before .before .loop .scope .places) (j .before .before .before .before .before .before .before .before .loop .scope .len))
+      let scope = j .before .before .before .before .before .before .before .before .loop .scope in
+      let l = left-as j (some (turn (j .before))) _ (c .before .left3 .given .1) in
+      omega (arith, l .few, entries-length (scope .keys) (scope .places) (scope .len))
 
   list-loop-less-2 : list-lts.Need-loop-less-2 list-calls (list-at t) list.Post list-Inv-loop list-μ-loop
   list-loop-less-2 c = nearer (c .before .before .before .before .before .before .before .before .before .before)
@@ -330,7 +379,7 @@ module _ (t : ℕ) where
   list-loop-again-2 c =
       let j = c .before .before .before .before in
       let k = j .before in (
-        λ bound codes es p h r. going-definition _ _ _ _ _ _ _ _ (g k bound codes es p h r) (turn k .loop-test .taken) (k .before .before .before .before .before .next .ensures) (left-as j bound codes es p h r _ (c .before .before .left3 .given .1)) (c .add .ensures .0),
+        λ y. going-definition _ _ _ _ _ _ _ _ (going (turn k) y) (on (turn k)) (k .before .before .before .before .before .next .ensures) (left-as j y _ (c .before .before .left3 .given .1)) (c .add .ensures .0),
         k .before .before .before .before .before .before .before .loop .inv .1,
         k .before .before .before .before .before .before .before .loop .inv .2,
         same-length-left j ∙ k .before .before .before .before .before .before .before .loop .inv .3,
@@ -346,9 +395,13 @@ module _ (t : ℕ) where
   list-returns-2 c =
       λ bound codes es p h r.
       let l = c .before .before in
-      let a = l .before .before .before .before in
-      subst (λ (x : Out). Met (a .args .s .now) (a .args .table .now) (a .args .w .now) (l .loop .w) (l .loop .names) (a .args .state) (hold (a .args .state .steps) (a .args .state .room) (in-list (run-code codes) es p h)) x) (sym (c .over .ensures))
-      (going-over _ _ _ _ _ _ _ _ (l .loop .inv .0 bound codes es p h r) (c .before .loop-test .left) _ (l .loop .inv .1))
+      let a = l .before .before .before .before .args in
+      let y : SomeReady (a .s .now) (a .table .now) (a .w .now) (a .names .now) (a .args .now) (a .scope) (a .state) (a .stands) (a .code) (a .first) (a .end) =
+      record { bound = bound; codes = codes; nodes = es; place = p; here = h; ready = r } in
+      subst (λ (x : Out). Met (a .s .now) (a .table .now) (a .w .now) (l .loop .w) (l .loop .names) (a .state) (held-list y) x) (sym (c .over .ensures))
+      (going-over _ _ _ _ _ _ _ _ (l .loop .inv .0 y) (c .before .loop-test .left) _ (l .loop .inv .1))
+
+  -- Calls
 
   abbrev call-calls : call-lts.Claims
   call-calls = (spread-reads.Asked, spread-reads.Learnt, back-to-reads.Asked, back-to-reads.Learnt, next-reads.Asked, next-reads.Learnt, list-below t, list.Post, returned-reads.Asked, returned-reads.Learnt, leaves-reads.Asked, leaves-reads.Learnt)
