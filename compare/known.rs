@@ -1,6 +1,7 @@
 //! Document 01's "Streams to try", and requests for each.
 
-use crate::requests::{item_line, read_line, write_line};
+use crate::bounds::{self, Bounds};
+use crate::requests::{evaluate_line, item_line, read_line, write_line, Request};
 use std::collections::BTreeSet;
 
 const VERSION: &str = "01 20 00 81 80 02";
@@ -10,14 +11,34 @@ const DEFINE_AGAIN: &str = "01 20 09 28 01 89 02";
 
 const TABLES: [u64; 9] = [0, 3, 4, 8, 19, 20, 255, 256, 16_384];
 const LARGE: u64 = 65_536;
+/// More than any known stream needs of one bound in its evaluation, 64 forms apart.
+const ENOUGH: u64 = 30;
 
-/// Read, write and item requests for every known stream.
-pub fn requests() -> Vec<Vec<u8>> {
+/// Requests of every call for every known stream.
+pub fn requests() -> Vec<Request> {
     let mut lines = Vec::new();
     for stream in known_streams() {
         add_requests(&stream, &mut lines);
+        add_evaluations(&stream, &mut lines);
     }
-    lines
+    lines.into_iter().map(Request::new).collect()
+}
+
+/// With large bounds, and with one that is small.
+fn add_evaluations(stream: &[u8], lines: &mut Vec<Vec<u8>>) {
+    let mut add = |change: fn(&mut Bounds, u64), size| {
+        let mut changed = bounds::LARGE;
+        change(&mut changed, size);
+        lines.push(evaluate_line(stream, changed));
+    };
+    for table in TABLES {
+        add(|bounds, size| bounds.table = size, table);
+    }
+    for size in 0..ENOUGH {
+        add(|bounds, size| bounds.workspace = size, size);
+        add(|bounds, size| bounds.output = size, size);
+        add(|bounds, size| bounds.steps = size, size);
+    }
 }
 
 fn add_requests(stream: &[u8], lines: &mut Vec<Vec<u8>>) {
@@ -50,13 +71,19 @@ pub fn known_streams() -> Vec<Vec<u8>> {
     streams
 }
 
+/// What document 01 calls N.
+const N: [&str; 4] = [VERSION, NAMESPACE, DEFINE, "28 01"];
+
+pub fn stream_i() -> Vec<u8> {
+    joined(&N)
+}
+
 /// i to m.
 fn evaluated_streams() -> Vec<Vec<u8>> {
-    let n = [VERSION, NAMESPACE, DEFINE, "28 01"];
     let substitution = "01 01 20 0B 81 01 20 0D 80 02 82 02 83 84 02";
     vec![
-        joined(&n),
-        joined(&[&n[..], &[DEFINE_AGAIN, "28 01"]].concat()),
+        stream_i(),
+        joined(&[&N[..], &[DEFINE_AGAIN, "28 01"]].concat()),
         joined(&[VERSION, NAMESPACE, "28 01", DEFINE, "28 01"]),
         joined(&[VERSION, substitution]),
         joined(&[VERSION, "01 20 0A C1 41 81 02"]),

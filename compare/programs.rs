@@ -1,6 +1,8 @@
 //! The programs as child processes: input fed by a thread, output read as it comes.
 
+use crate::requests::Request;
 use std::io::{self, BufRead, BufReader, BufWriter, Write};
+use std::path::Path;
 use std::process::{Child, ChildStdin, ChildStdout, Command, Output, Stdio};
 use std::sync::Arc;
 use std::thread;
@@ -13,8 +15,8 @@ pub struct Program {
 }
 
 impl Program {
-    pub fn start(path: &str, requests: Arc<Vec<Vec<u8>>>) -> io::Result<Program> {
-        let (mut process, input) = spawn(path)?;
+    fn start(path: &str, requests: Arc<Vec<Request>>) -> io::Result<Program> {
+        let (mut process, input) = spawn(path, &[])?;
         let output = process.stdout.take().expect("standard output is piped");
         // A program that stops reading shows by its missing answers.
         thread::spawn(move || feed(input, &requests));
@@ -44,9 +46,17 @@ impl Program {
     }
 }
 
+pub fn start(path: &str, requests: &Arc<Vec<Request>>) -> io::Result<Program> {
+    Program::start(path, Arc::clone(requests))
+}
+
+pub fn named(path: &Path, error: io::Error) -> io::Error {
+    io::Error::new(error.kind(), format!("{}: {error}", path.display()))
+}
+
 /// Runs a program on all of its input to its end.
-pub fn run(path: &str, input: &[u8]) -> io::Result<Output> {
-    let (process, mut pipe) = spawn(path)?;
+pub fn run(path: &str, arguments: &[&str], input: &[u8]) -> io::Result<Output> {
+    let (process, mut pipe) = spawn(path, arguments)?;
     thread::scope(|scope| {
         // A program that has seen enough stops reading, and that is no error.
         scope.spawn(move || pipe.write_all(input));
@@ -54,23 +64,25 @@ pub fn run(path: &str, input: &[u8]) -> io::Result<Output> {
     })
 }
 
-fn spawn(path: &str) -> io::Result<(Child, ChildStdin)> {
-    let mut process = Command::new(path)
+fn spawn(path: &str, arguments: &[&str]) -> io::Result<(Child, ChildStdin)> {
+    let spawned = Command::new(path)
+        .args(arguments)
         .stdin(Stdio::piped())
         .stdout(Stdio::piped())
-        .spawn()?;
+        .spawn();
+    let mut process = spawned.map_err(|error| named(Path::new(path), error))?;
     let input = process.stdin.take().expect("standard input is piped");
     Ok((process, input))
 }
 
 /// Writes the requests, a newline between any two and none after the last.
-fn feed(input: ChildStdin, requests: &[Vec<u8>]) -> io::Result<()> {
+fn feed(input: ChildStdin, requests: &[Request]) -> io::Result<()> {
     let mut input = BufWriter::new(input);
     for (index, request) in requests.iter().enumerate() {
         if index > 0 {
             input.write_all(b"\n")?;
         }
-        input.write_all(request)?;
+        input.write_all(&request.line)?;
     }
     input.flush()
 }

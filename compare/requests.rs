@@ -1,9 +1,11 @@
 //! Request lines: their spelling, random ones, and malformed ones.
 
+use crate::bounds::{self, Bounds};
+use crate::evaluations::{random_evaluation, with_version};
 use crate::random::Random;
 use crate::streams::{huge_stream, huge_streams, random_stream, Stream};
 
-const LARGE_NUMBERS: [u64; 7] = [
+pub const LARGE_NUMBERS: [u64; 7] = [
     16_384,
     65_536,
     262_143,
@@ -27,12 +29,63 @@ const MALFORMED_WORDS: [&str; 24] = [
     "4\r", "A0", "a", "0g", "aA", "٤", "list", "Read", "reads",
 ];
 
+/// A request line, and with what words its answer must begin, whatever the second program
+/// answers.
+pub struct Request {
+    pub line: Vec<u8>,
+    pub expected: Option<&'static str>,
+}
+
+impl Request {
+    pub fn new(line: Vec<u8>) -> Request {
+        Request {
+            line,
+            expected: None,
+        }
+    }
+
+    pub fn expecting(line: Vec<u8>, expected: &'static str) -> Request {
+        Request {
+            line,
+            expected: Some(expected),
+        }
+    }
+
+    pub fn allows(&self, answer: &[u8]) -> bool {
+        let Some(expected) = self.expected else {
+            return true;
+        };
+        let rest = answer.strip_prefix(expected.as_bytes());
+        rest.is_some_and(|rest| matches!(rest, [] | [b' ', ..]))
+    }
+}
+
+/// A random request, or a stream to evaluate, whose bounds wait for what it needs.
+pub enum Draft {
+    Request(Request),
+    Evaluation(Vec<u8>),
+}
+
 pub fn read_line(stream: &[u8], table: u64) -> Vec<u8> {
     format!("read {} {table}", hex(stream)).into_bytes()
 }
 
 pub fn write_line(stream: &[u8], table: u64, output: u64) -> Vec<u8> {
     format!("write {} {table} {output}", hex(stream)).into_bytes()
+}
+
+pub fn evaluate_line(stream: &[u8], bounds: Bounds) -> Vec<u8> {
+    let Bounds {
+        table,
+        workspace,
+        output,
+        steps,
+    } = bounds;
+    format!(
+        "evaluate {} {table} {workspace} {output} {steps}",
+        hex(stream)
+    )
+    .into_bytes()
 }
 
 pub fn item_line(stream: &[u8], result: &[u8], of_result: bool, k: u64) -> Vec<u8> {
@@ -63,7 +116,7 @@ pub fn unhex(word: &[u8]) -> Option<Vec<u8>> {
 }
 
 /// Requests for every huge stream, with room for 65,536 rows and bytes, and for one less.
-pub fn huge_requests() -> Vec<Vec<u8>> {
+pub fn huge_requests() -> Vec<Request> {
     let mut lines = Vec::new();
     for stream in huge_streams() {
         lines.push(read_line(&stream, 262_144));
@@ -72,23 +125,38 @@ pub fn huge_requests() -> Vec<Vec<u8>> {
         lines.push(write_line(&stream, 262_144, 65_535));
         lines.push(item_line(&stream, &[], false, 65_534));
         lines.push(item_line(&[], &stream, true, 65_535));
+        lines.push(evaluate_line(&with_version(stream), bounds::LARGE));
     }
-    lines
+    lines.into_iter().map(Request::new).collect()
 }
 
-/// So many requests, the same ones for the same seed.
-pub fn random_requests(seed: u64, count: usize) -> Vec<Vec<u8>> {
+/// So many requests and streams to evaluate, about as many of these as of those; the same
+/// ones for the same seed.
+pub fn random_drafts(seed: u64, count: usize) -> Vec<Draft> {
     let mut random = Random::new(seed);
-    (0..count).map(|_| random_request(&mut random)).collect()
+    (0..count).map(|_| random_draft(&mut random)).collect()
 }
 
-fn random_request(random: &mut Random) -> Vec<u8> {
-    if random.one_in(2_000) {
+fn random_draft(random: &mut Random) -> Draft {
+    let huge = random.one_in(2_000);
+    match random.one_in(2) {
+        true if huge => Draft::Evaluation(with_version(huge_stream(random).bytes)),
+        true => Draft::Evaluation(random_evaluation(random)),
+        false => Draft::Request(Request::new(random_request(random, huge))),
+    }
+}
+
+fn random_request(random: &mut Random, huge: bool) -> Vec<u8> {
+    if huge {
         let stream = huge_stream(random);
         return well_formed(random, stream);
     }
     let stream = random_stream(random);
     let line = well_formed(random, stream);
+    spoiled_at_times(random, line)
+}
+
+pub fn spoiled_at_times(random: &mut Random, line: Vec<u8>) -> Vec<u8> {
     match random.below(50) {
         0 | 1 => malformed(random, line),
         2 => unusual(random, line),
@@ -96,7 +164,7 @@ fn random_request(random: &mut Random) -> Vec<u8> {
     }
 }
 
-/// A request for one of the calls; a further call is one more arm here.
+/// A request for one of the calls but evaluate.
 fn well_formed(random: &mut Random, stream: Stream) -> Vec<u8> {
     match random.below(10) {
         0..=3 => random_read(random, &stream),
@@ -139,7 +207,7 @@ fn random_item(random: &mut Random, stream: Stream) -> Vec<u8> {
 }
 
 /// A length of a table or a buffer, where so much may be needed.
-fn random_size(random: &mut Random, needed: usize) -> u64 {
+pub fn random_size(random: &mut Random, needed: usize) -> u64 {
     let size = match random.below(12) {
         0 => random.below(9),
         1 | 2 => needed,
@@ -155,8 +223,12 @@ fn random_size(random: &mut Random, needed: usize) -> u64 {
 /// A request with a number written in an unusual way.
 fn unusual(random: &mut Random, line: Vec<u8>) -> Vec<u8> {
     let mut words = words(&line);
-    // All calls have a number last, and write has one before it.
-    let from_end = if words[0] == b"write" { 2 } else { 1 };
+    // All calls have a number last; write has two, evaluate four.
+    let from_end = match &words[0][..] {
+        b"write" => 2,
+        b"evaluate" => 4,
+        _ => 1,
+    };
     let at = words.len() - random.between(1, from_end);
     words[at] = random.pick(&UNUSUAL_NUMBERS).as_bytes().to_vec();
     words.join(&b' ')

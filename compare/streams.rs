@@ -6,7 +6,7 @@ const SPECIAL_BYTES: [u8; 18] = [
     0x00, 0x01, 0x01, 0x02, 0x02, 0x03, 0x03, 0x04, 0x0F, 0x10, 0x20, 0x7F, 0x80, 0xBF, 0xC0, 0xC1,
     0xC2, 0xFF,
 ];
-const ARRAY_SIZES: [usize; 10] = [0, 1, 62, 63, 64, 65, 255, 256, 257, 300];
+pub const ARRAY_SIZES: [usize; 10] = [0, 1, 62, 63, 64, 65, 255, 256, 257, 300];
 const HUGE_SIZES: [usize; 4] = [65_535, 65_536, 65_537, 70_000];
 const HUGE_CONTENTS: usize = 9;
 
@@ -118,7 +118,7 @@ fn random_undamaged(random: &mut Random) -> Stream {
 }
 
 /// One byte changed, inserted or removed, or the end cut off.
-fn damage(random: &mut Random, bytes: &mut Vec<u8>) {
+pub fn damage(random: &mut Random, bytes: &mut Vec<u8>) {
     let at = random.below(bytes.len() + 1);
     let byte = random_byte(random);
     match random.below(4) {

@@ -1,6 +1,6 @@
 //! How often each answer came, and whether every answer that can arise did.
 
-use crate::single::{LIST, WRITE};
+use crate::single::{EVAL, LIST, WRITE};
 use std::collections::BTreeMap;
 
 /// A line that is no request, whatever it begins with.
@@ -10,9 +10,22 @@ const NO_REQUEST: &str = "no request";
 const NUMBERS: &[(&str, &[u8])] = &[
     ("read", &[0, 1, 2, 3, 4, 5, 6, 7, 8]),
     ("write", &[0, 1, 2, 3, 4, 5, 6, 7, 8, 18]),
+    (
+        "evaluate",
+        &[
+            0, 1, 2, 3, 4, 5, 6, 7, 8, 9, 10, 11, 12, 13, 14, 15, 16, 17, 18, 19,
+        ],
+    ),
     (LIST, &[0, 1, 2, 3, 4, 5, 6, 7, 8]),
     // It has a row and a byte of output for every byte of a stream.
     (WRITE, &[0, 1, 2, 3, 4, 5, 6, 7]),
+    // And as much of each for every result.
+    (
+        EVAL,
+        &[
+            0, 1, 2, 3, 4, 5, 6, 7, 9, 10, 11, 12, 13, 14, 15, 16, 17, 19,
+        ],
+    ),
 ];
 
 /// The other answers that can arise. Item is counted by the buffer asked for.
@@ -29,7 +42,7 @@ fn number_answer(number: u8) -> String {
     }
 }
 
-/// Every call with every answer that can arise for it; the two programs that take one
+/// Every call with every answer that can arise for it; the programs that take one
 /// stream only if they are compared.
 fn expected(single: bool) -> Vec<(String, String)> {
     let numbers = NUMBERS.iter().flat_map(|(call, numbers)| {
@@ -40,7 +53,7 @@ fn expected(single: bool) -> Vec<(String, String)> {
         let pair = |answer: &&str| (call.to_string(), answer.to_string());
         answers.iter().map(pair).collect::<Vec<_>>()
     });
-    let compared = |call: &str| single || ![LIST, WRITE].contains(&call);
+    let compared = |call: &str| single || ![LIST, WRITE, EVAL].contains(&call);
     let all = numbers.chain(others);
     all.filter(|(call, _)| compared(call)).collect()
 }

@@ -32,22 +32,34 @@ pub fn evaluate(
     steps: u64,
 ) -> Result<(Vec<u8>, u64), Refusal> {
     let list = tree::read(stream, rows)?;
-    check_version(stream, &list)?;
-    let mut evaluator = Evaluator {
-        first_borne: first_borne(&list),
-        namespaces: Vec::new(),
-        codes_in_progress: 0,
-        steps,
-        steps_taken: 0,
-        workspace_left: workspace.min(WORKSPACE_LIMIT),
-    };
-    let values = evaluator.list(&list, &Context::default(), Position::TopLevel)?;
-    let result = values.iter().flat_map(|value| value.written.iter());
-    let result: Vec<u8> = result.copied().collect();
+    let mut evaluator = Evaluator::new(&list, steps, workspace);
+    let result = evaluator.result(stream, &list)?;
     if result.len() as u64 > output {
         return refuse(18, 0);
     }
     Ok((result, evaluator.steps_taken))
+}
+
+/// What an evaluation takes that no bound stops but the workspace's, up to its end or to
+/// its refusal.
+pub struct Needs {
+    pub rows: usize,
+    pub steps: u64,
+    pub charged: u64,
+    /// The result's length, if there is one.
+    pub length: Option<usize>,
+}
+
+pub fn needs(stream: &[u8]) -> Result<Needs, Refusal> {
+    let list = tree::read(stream, u64::MAX)?;
+    let mut evaluator = Evaluator::new(&list, u64::MAX, u64::MAX);
+    let result = evaluator.result(stream, &list);
+    Ok(Needs {
+        rows: tree::rows(&list).len(),
+        steps: evaluator.steps_taken,
+        charged: WORKSPACE_LIMIT - evaluator.workspace_left,
+        length: result.ok().map(|bytes| bytes.len()),
+    })
 }
 
 /// "9 and 10 come before the first step."
@@ -215,6 +227,25 @@ struct Evaluator<'t> {
 }
 
 impl<'t> Evaluator<'t> {
+    fn new(list: &[Expression], steps: u64, workspace: u64) -> Evaluator<'t> {
+        Evaluator {
+            first_borne: first_borne(list),
+            namespaces: Vec::new(),
+            codes_in_progress: 0,
+            steps,
+            steps_taken: 0,
+            workspace_left: workspace.min(WORKSPACE_LIMIT),
+        }
+    }
+
+    /// "The top-level values in order."
+    fn result(&mut self, stream: &[u8], list: &'t [Expression<'t>]) -> Result<Vec<u8>, Refusal> {
+        check_version(stream, list)?;
+        let values = self.list(list, &Context::default(), Position::TopLevel)?;
+        let bytes = values.iter().flat_map(|value| value.written.iter());
+        Ok(bytes.copied().collect())
+    }
+
     /// Evaluates a list from left to right. A define in it "is visible to what follows
     /// in the same list, at all depths, and ends with that list".
     fn list(

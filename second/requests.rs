@@ -52,6 +52,7 @@ fn request(line: &[u8]) -> Option<Result<String, Refusal>> {
             number(output)?,
             number(steps)?,
         )),
+        [b"needs", stream] => Some(needs(&bytes(stream)?)),
         _ => None,
     }
 }
@@ -94,6 +95,16 @@ fn evaluate(
     let rows = table / NUMBERS_IN_A_ROW;
     let (result, taken) = evaluate::evaluate(stream, rows, workspace, output, steps)?;
     Ok(format!("ok {} {taken} {}", result.len(), hex(&result)))
+}
+
+/// What the comparison takes exact bounds from; the library has no such call.
+fn needs(stream: &[u8]) -> Result<String, Refusal> {
+    let needs = evaluate::needs(stream)?;
+    let (rows, steps, charged) = (needs.rows, needs.steps, needs.charged);
+    Ok(match needs.length {
+        Some(length) => format!("accepted {rows} {steps} {charged} {length}"),
+        None => format!("stopped {rows} {steps} {charged}"),
+    })
 }
 
 /// One or more digits; a value above the largest counts as the largest.

@@ -5,12 +5,14 @@ use mathlib.Core.List.{List, []}
 use native.Mathlib.Omega.{arith}
 use lib.ListN.{length, drop, length-take, length-drop}
 use Rattle.spec.specs.Reading.{row-width}
-use Rattle.spec.specs.Calls.{Answer, Read, Write, Buffer, of-stream, of-result, Part, part, chosen, Item}
-use Rattle.laws.specs.Demands.{Bytes}
-use Rattle.laws.proofs.Theorems.{read-keeps, write-keeps, read-fits, write-fits}
-use Rattle.bulk.specs.Answers.{Answered, of-buffer, part-bytes}
+use Rattle.spec.specs.Calls.{Answer, Read, Write, Evaluate, Buffer, of-stream, of-result, Part, part, chosen, Item}
+use Rattle.laws.specs.Demands.{Bytes, Lent, evaluation}
+use Rattle.laws.proofs.Theorems.{read-keeps, write-keeps, read-fits, write-fits, evaluation-keeps, evaluation-fits}
+use Rattle.bulk.specs.Answers.{Answered, AnsweredEvaluation, of-buffer, part-bytes}
 use Rattle.bulk.specs.declared.Answer.{Answer as Told}
 use Rattle.bulk.specs.declared.Answer.the-variants.{Accepted}
+use Rattle.bulk.specs.declared.Evaluation.{Evaluation}
+use Rattle.bulk.specs.declared.Evaluation.the-variants.{Accepted as Result}
 use Rattle.bulk.specs.declared.Part.{Part as Place}
 use Rattle.bulk.specs.declared.Part.the-variants.{Of}
 use Rattle.bulk.proofs.Told.{item-inside}
@@ -31,6 +33,15 @@ module _ (r : Told) (n : ℕ) (s t t′ : List ℕ) (accepted : r ≡ Accepted n
       let same : o′ ≡ Write s t o .output = ap (λ (x : Answer). x .output) (rw accepted at (h .is)) in
       let size : length o′ ≡ length o = ap length same ∙ write-keeps s t o .outputs in
       omega (arith, told-given o′ (Write s t o) h, write-fits s t o)
+
+-- the same of a result
+pub given-result : (r : Evaluation) (n k : ℕ) (s t t′ o o′ : List ℕ) (work steps : ℕ) → r ≡ Result n k → AnsweredEvaluation (Evaluate s t work o steps) r t′ o′ → n ≤ length o′
+given-result r n k s t t′ o o′ work steps accepted h =
+    let l : Lent = record { table = t; work = work; output = o; steps = steps } in
+    let told : n ≡ evaluation s l .given = ap (λ (x : Answer). x .given) (rw accepted at (h .is)) in
+    let same : o′ ≡ evaluation s l .output = ap (λ (x : Answer). x .output) (rw accepted at (h .is)) in
+    let size : length o′ ≡ length o = ap length same ∙ evaluation-keeps s l .outputs in
+    omega (arith, told, evaluation-fits s l)
 
 -- Item's part, from its place on, lies in one of the two buffers
 pub given-part : (b : Buffer) (stream result : List ℕ) (k : ℕ) (place : Place) (start end : ℕ) (x : List ℕ) → Bytes stream → Bytes result

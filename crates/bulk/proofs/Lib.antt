@@ -1,3 +1,4 @@
 pub mod Told
 pub mod Given
 pub mod Evaluating
+pub mod Demands

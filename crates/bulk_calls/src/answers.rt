@@ -68,14 +68,32 @@ pub fn rows(buffer: &mut Buffer, used: usize, table: &[u32], given: usize) -> us
     text::byte(buffer, past_rows, b'\n')
 }
 
+// The bytes that were written, and the line's end.
+fn result(buffer: &mut Buffer, used: usize, output: &[u8], given: usize) -> usize
+    requires { ⌜ given ≤ length (now output) ⌝ }
+    ensures { λ r. ⌜ r ≤ buffer-size ⌝ }
+{
+    let past_space = text::byte(buffer, used, b' ');
+    let past_bytes = hex(buffer, past_space, &output[0..given]);
+    text::byte(buffer, past_bytes, b'\n')
+}
+
 pub fn written(buffer: &mut Buffer, used: usize, output: &[u8], given: usize) -> usize
     requires { ⌜ (used ≤ buffer-size) × (given ≤ length (now output)) ⌝ }
     ensures { λ r. ⌜ r ≤ buffer-size ⌝ }
 {
     let past_length = accepted(buffer, used, given);
+    result(buffer, past_length, output, given)
+}
+
+pub fn evaluated(buffer: &mut Buffer, used: usize, output: &[u8], given: usize, steps: u64) -> usize
+    requires { ⌜ (used ≤ buffer-size) × (given ≤ length (now output)) ⌝ }
+    ensures { λ r. ⌜ r ≤ buffer-size ⌝ }
+{
+    let past_length = accepted(buffer, used, given);
     let past_space = text::byte(buffer, past_length, b' ');
-    let past_bytes = hex(buffer, past_space, &output[0..given]);
-    text::byte(buffer, past_bytes, b'\n')
+    let past_steps = text::decimal(buffer, past_space, steps);
+    result(buffer, past_steps, output, given)
 }
 
 pub fn no_part(buffer: &mut Buffer, used: usize) -> usize

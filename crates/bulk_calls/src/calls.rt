@@ -2,6 +2,7 @@
 ghost use Prim.Native.Nat.{_≤_};
 ghost use Rattle.text.specs.Size.{buffer-size};
 use crate::answers;
+use crate::requests::EvaluateRequest;
 use crate::requests::ItemRequest;
 use crate::requests::ReadRequest;
 use crate::requests::Request;
@@ -9,6 +10,7 @@ use crate::requests::WriteRequest;
 use crate::words::Kept;
 use bulk::Answer;
 use bulk::Buffer as Which;
+use bulk::Evaluation;
 use bulk::Part;
 use text::Buffer;
 
@@ -17,21 +19,15 @@ pub const TABLE_SIZE: usize = 262144;
 
 pub type Table = [u32; TABLE_SIZE];
 
-// As many bytes as a stream may have: no canonical stream is longer than its stream.
+// Twice what counts of a workspace, so that one in which not all counts can be asked for.
+pub const WORKSPACE_SIZE: usize = 131072;
+
+pub type Workspace = [u8; WORKSPACE_SIZE];
+
+// As many bytes as a stream may have: no canonical stream is longer than its stream. And as many as count of a workspace: no result is longer.
 pub const OUTPUT_SIZE: usize = 65536;
 
 pub type Output = [u8; OUTPUT_SIZE];
-
-// So many elements of a buffer; all if it has fewer.
-fn within(count: u64, size: usize) -> usize
-    ensures { λ r. ⌜ r ≤ size ⌝ }
-{
-    if count < size as u64 {
-        count as usize
-    } else {
-        size
-    }
-}
 
 fn read(
     buffer: &mut Buffer,
@@ -43,8 +39,8 @@ fn read(
     requires { ⌜ used ≤ buffer-size ⌝ }
     ensures { λ r. ⌜ r ≤ buffer-size ⌝ }
 {
-    let length = within(asked.stream, stream.len());
-    let size = within(asked.table, table.len());
+    let length = text::within(asked.stream, stream.len());
+    let size = text::within(asked.table, table.len());
     match bulk::read(&stream[0..length], &mut table[0..size]) {
         Answer::Refused { number, place } => text::refused(buffer, used, number, place),
         Answer::Accepted { given } => answers::rows(buffer, used, table, given),
@@ -62,9 +58,9 @@ fn write(
     requires { ⌜ used ≤ buffer-size ⌝ }
     ensures { λ r. ⌜ r ≤ buffer-size ⌝ }
 {
-    let length = within(asked.stream, stream.len());
-    let size = within(asked.table, table.len());
-    let room = within(asked.output, output.len());
+    let length = text::within(asked.stream, stream.len());
+    let size = text::within(asked.table, table.len());
+    let room = text::within(asked.output, output.len());
     match bulk::write(
         &stream[0..length],
         &mut table[0..size],
@@ -72,6 +68,37 @@ fn write(
     ) {
         Answer::Refused { number, place } => text::refused(buffer, used, number, place),
         Answer::Accepted { given } => answers::written(buffer, used, output, given),
+    }
+}
+
+fn evaluate(
+    buffer: &mut Buffer,
+    used: usize,
+    asked: EvaluateRequest,
+    stream: &[u8],
+    table: &mut [u32],
+    workspace: &mut [u8],
+    output: &mut [u8],
+) -> usize
+    requires { ⌜ used ≤ buffer-size ⌝ }
+    ensures { λ r. ⌜ r ≤ buffer-size ⌝ }
+{
+    let length = text::within(asked.stream, stream.len());
+    let size = text::within(asked.table, table.len());
+    let work = text::within(asked.workspace, workspace.len());
+    let room = text::within(asked.output, output.len());
+    match bulk::evaluate(
+        &stream[0..length],
+        &mut table[0..size],
+        &mut workspace[0..work],
+        &mut output[0..room],
+        asked.steps,
+    ) {
+        Evaluation::Refused { number, place } => text::refused(buffer, used, number, place),
+        Evaluation::Accepted {
+            length: given,
+            steps,
+        } => { answers::evaluated(buffer, used, output, given, steps) }
     }
 }
 
@@ -93,8 +120,8 @@ fn item<'a>(
     requires { ⌜ used ≤ buffer-size ⌝ }
     ensures { λ r. ⌜ r ≤ buffer-size ⌝ }
 {
-    let length = within(asked.stream, stream.len());
-    let result_length = within(asked.result, result.len());
+    let length = text::within(asked.stream, stream.len());
+    let result_length = text::within(asked.result, result.len());
     let k = asked.k as usize;
     let s = &stream[0..length];
     let r = &result[0..result_length];
@@ -113,6 +140,7 @@ pub fn answer<'a>(
     stream: &'a Kept,
     result: &'a Kept,
     table: &mut Table,
+    workspace: &mut Workspace,
     output: &mut Output,
 ) -> usize
     requires { ⌜ used ≤ buffer-size ⌝ }
@@ -121,6 +149,9 @@ pub fn answer<'a>(
     match request {
         Request::Read(asked) => read(buffer, used, asked, stream, table),
         Request::Write(asked) => write(buffer, used, asked, stream, table, output),
+        Request::Evaluate(asked) => {
+            evaluate(buffer, used, asked, stream, table, workspace, output)
+        }
         Request::Item(asked) => item(buffer, used, asked, stream, result),
         Request::Bad => text::bytes(buffer, used, b"bad request\n"),
     }

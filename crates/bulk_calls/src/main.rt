@@ -26,6 +26,7 @@ fn main() {
     let mut stream = [0u8; words::KEPT_SIZE];
     let mut result = [0u8; words::KEPT_SIZE];
     let mut table = [0u32; calls::TABLE_SIZE];
+    let mut workspace = [0u8; calls::WORKSPACE_SIZE];
     let mut output = [0u8; calls::OUTPUT_SIZE];
     let mut buffer = [0u8; text::BUFFER_SIZE];
     let mut used: usize = 0;
@@ -40,6 +41,7 @@ fn main() {
             &stream,
             &result,
             &mut table,
+            &mut workspace,
             &mut output,
         );
         let line_end = line.input;

@@ -18,6 +18,14 @@ pub struct WriteRequest {
     pub output: u64,
 }
 
+pub struct EvaluateRequest {
+    pub stream: u64,
+    pub table: u64,
+    pub workspace: u64,
+    pub output: u64,
+    pub steps: u64,
+}
+
 pub struct ItemRequest {
     pub stream: u64,
     pub result: u64,
@@ -28,6 +36,7 @@ pub struct ItemRequest {
 pub enum Request {
     Read(ReadRequest),
     Write(WriteRequest),
+    Evaluate(EvaluateRequest),
     Item(ItemRequest),
     Bad,
 }
@@ -42,6 +51,8 @@ pub struct Line {
 const READ: u64 = 0x7265_6164;
 
 const WRITE: u64 = 0x77_7269_7465;
+
+const EVALUATE: u64 = 0x6576_616c_7561_7465;
 
 const ITEM: u64 = 0x6974_656d;
 
@@ -85,6 +96,24 @@ fn write(source: &mut Source, from: Input, stream: &mut Kept) -> Line
     finish(source, output.input, Request::Write(asked))
 }
 
+fn evaluate(source: &mut Source, from: Input, stream: &mut Kept) -> Line
+    ensures { λ r. ⌜ r .input .left ≤ from .left ⌝ }
+{
+    let bytes = words::hex(source, from, stream);
+    let table = words::number(source, bytes.input);
+    let workspace = words::number(source, table.input);
+    let output = words::number(source, workspace.input);
+    let steps = words::number(source, output.input);
+    let asked = EvaluateRequest {
+        stream: bytes.value,
+        table: table.value,
+        workspace: workspace.value,
+        output: output.value,
+        steps: steps.value,
+    };
+    finish(source, steps.input, Request::Evaluate(asked))
+}
+
 fn item(source: &mut Source, from: Input, stream: &mut Kept, result: &mut Kept) -> Line
     ensures { λ r. ⌜ r .input .left ≤ from .left ⌝ }
 {
@@ -111,6 +140,9 @@ pub fn next(source: &mut Source, from: Input, stream: &mut Kept, result: &mut Ke
     }
     if name.value == WRITE {
         return write(source, name.input, stream);
+    }
+    if name.value == EVALUATE {
+        return evaluate(source, name.input, stream);
     }
     if name.value == ITEM {
         return item(source, name.input, stream, result);

@@ -73,16 +73,6 @@ pub fn line_end(source: &mut Source, from: Input) -> Input
     input
 }
 
-// The decimal number with one digit more; above 64 bits, the largest.
-fn with_digit(value: u64, digit: u8) -> u64 {
-    let d = digit as u64;
-    if value <= (u64::MAX - d) / 10 {
-        value * 10 + d
-    } else {
-        u64::MAX
-    }
-}
-
 // A decimal number.
 pub fn number(source: &mut Source, from: Input) -> Word
     ensures { λ r. ⌜ r .input .left ≤ from .left ⌝ }
@@ -98,7 +88,7 @@ pub fn number(source: &mut Source, from: Input) -> Word
         if b'9' < b {
             break;
         }
-        value = with_digit(value, b - b'0');
+        value = text::with_digit(value, b - b'0');
         digits = true;
         input = advance(source, input);
     }

@@ -3,15 +3,9 @@ use bulk::Answer;
 use libc::STDIN_FILENO;
 use libc::STDOUT_FILENO;
 
-fn print_refusal(number: u32, place: usize) {
-    let mut buffer = [0u8; text::BUFFER_SIZE];
-    let used = text::refused(&mut buffer, 0, number, place);
-    text::flush(&buffer, used);
-}
-
 fn rewrite(stream: &[u8], table: &mut [u32], output: &mut [u8]) {
     match bulk::write(stream, table, output) {
-        Answer::Refused { number, place } => print_refusal(number, place),
+        Answer::Refused { number, place } => text::print_refusal(number, place),
         Answer::Accepted { given } => {
             io::write_all(STDOUT_FILENO, &output[0..given]);
         }

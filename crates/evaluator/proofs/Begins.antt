@@ -16,10 +16,10 @@ use Rattle.laws.proofs.Values.{FitsNode, SoundHere, SoundPlan, leaves, plan-ato
 use Rattle.evaluator.specs.Stands.{LeafAt, NodeAt}
 use Rattle.evaluator.specs.Entries.{function-bit, Entry, entries}
 use Rattle.evaluator.specs.Named.{named, Named}
-use Rattle.evaluator.specs.Completed.{Fitting, Stand, with-top, Unkept, too-deep, too-long, Completed}
+use Rattle.evaluator.specs.Completed.{Fitting, Stand, with-top, Unkept, too-deep, too-long, Completed, stepped}
 use Rattle.evaluator.specs.Planned.{function-at, Planned, refuses, owns, repeats, associates, defines, goes-inside}
 use Rattle.evaluator.specs.Listed.{LeftDefinition, LeftBy, GoesInside, Begun, Beginning, left-by}
-use Rattle.evaluator.specs.Performed.{stepped, one-named, Performing, going}
+use Rattle.evaluator.specs.Performed.{one-named, Performing, going}
 use Rattle.evaluator.specs.declared.scope.Scope.{Scope}
 use Rattle.evaluator.specs.declared.values.State.{State}
 use Rattle.evaluator.specs.declared.values.Out.{Out}
@@ -213,7 +213,7 @@ module _ {s t w names : List ℕ} {sc : List Entry} {st : State} {row : ℕ} {e 
           skipped = k;
           place = place;
           finish = f;
-          stepped = p .steps;
+          some-steps = p .steps;
           state = refl;
           plan-is = is;
           nodes = nodes;

@@ -24,16 +24,15 @@ eqb-sym a b = go (eqb a b) refl
     go true e = sym (eq-eqb b a (sym (eqb-true a b e)))
     go false e = sym (ne-eqb b a (λ h. eqb-false a b e (sym h)))
 
--- whether one of two lists, or else one thing more, passes a test
-some-append : (test : ℕ → Bool) (x y : List ℕ) (c : Bool) → some test x || (some test y || c) ≡ some test (x ++ y) || c
+or-assoc : (a b c : Bool) → a || (b || c) ≡ (a || b) || c
+or-assoc true b c = refl
+or-assoc false b c = refl
+
+-- whether one of two lists passes a test
+pub some-append : (test : ℕ → Bool) (x y : List ℕ) → some test (x ++ y) ≡ some test x || some test y
 unfolding some
-some-append test [] y c = refl
-some-append test (a ∷ x) y c = go (test a) (some-append test x y c)
-  where
-    go : (d : Bool) → some test x || (some test y || c) ≡ some test (x ++ y) || c
-        → (d || some test x) || (some test y || c) ≡ (d || some test (x ++ y)) || c
-    go true e = refl
-    go false e = e
+some-append test [] y = refl
+some-append test (a ∷ x) y = ap (λ (b : Bool). test a || b) (some-append test x y) ∙ or-assoc (test a) (some test x) (some test y)
 
 or-false : (c : Bool) → c || false ≡ c
 or-false true = refl
@@ -125,7 +124,7 @@ module _ (marker : ℕ) where
       ahead-nodes r mid end (cons e es) all n l =
           let behind = ahead-nodes (next t r) mid end es all (n .3) l in
           let both = ahead-node r end e (some (eqb marker) (markers-all es) || all) (n .2) behind in
-          subst (Ahead r end) (some-append (eqb marker) (markers e) (markers-all es) all) both
+          subst (Ahead r end) (or-assoc (some (eqb marker) (markers e)) (some (eqb marker) (markers-all es)) all ∙ ap (λ (b : Bool). b || all) (sym (some-append (eqb marker) (markers e) (markers-all es)))) both
 
     pub ahead-all : (r end : ℕ) (es : Nodes) → NodesAt s t r end es → Ahead r end (some (eqb marker) (markers-all es))
     unfolding RowsAt some

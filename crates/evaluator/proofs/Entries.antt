@@ -1,17 +1,15 @@
 -- Laws of a scope's entries: packed parts, one more definition, fewer of them, and what a key finds.
 use Prim.Native.Nat.{ℕ, zero, suc, _+_, _-_, _≤_, _<_}
 use mathlib.Core.Path.{_≡_, refl, ap}
-use mathlib.Core.List.{List, [], _∷_, _++_}
-use mathlib.Core.Bool.{Bool, true, false}
+use mathlib.Core.List.{List, _∷_}
 use native.Mathlib.Omega.{arith}
 use native.Mathlib.Numerals.{add-one}
-use lib.ListN.{length, getD, set, drop, length-append}
-use lib.Seq.{getD-set-same, getD-set-other, drop-append-add}
-use lib.Dec.{eqb}
-use borrow.Author.Tests.{eq-eqb, ne-eqb, eqb-true, eqb-false}
+use lib.ListN.{length, getD, set, drop}
+use lib.Seq.{getD-set-same, getD-set-other}
+use borrow.Author.Tests.{eq-eqb, ne-eqb}
 use Rattle.evaluator.specs.Entries.{pack, packed-from, packed-to, function-bit, Entry, entries-at, find}
 use Rattle.evaluator.specs.declared.scope.Found.{Found}
-use Rattle.evaluator.specs.declared.scope.Found.the-variants.{Value, Function, Nothing}
+use Rattle.evaluator.specs.declared.scope.Found.the-variants.{Value, Function}
 
 -- Packed parts
 
@@ -62,14 +60,6 @@ module _ (keys places : List ℕ) where
     entries-added h h′ =
         rw (add-one i, getD-set-same keys i key 0 h, getD-set-same places i place 0 h′, entries-stored i (omega arith))
 
--- the entries behind one of them
-pub entries-behind : (front : List Entry) (e : Entry) (behind es : List Entry) → es ≡ front ++ (e ∷ behind)
-    → drop (length es - length behind) es ≡ behind
-entries-behind front e behind es is =
-    let size : length (front ++ (e ∷ behind)) ≡ length front + suc (length behind) = length-append front (e ∷ behind) in
-    let past : length (front ++ (e ∷ behind)) - length behind ≡ length front + 1 = omega (arith, size) in
-    rw (is, past) (drop-append-add front (e ∷ behind) 1)
-
 -- What a key finds
 
 module _ (key : ℕ) (e : Entry) (es : List Entry) where
@@ -84,35 +74,3 @@ module _ (key : ℕ) (e : Entry) (es : List Entry) where
   pub find-other : (e .key ≡ key → ⊥) → (e .key ≡ key + function-bit → ⊥) → find key es ≡ find key (e ∷ es)
   unfolding find
   find-other h h′ = rw (ne-eqb (e .key) key h, ne-eqb (e .key) (key + function-bit) h′)
-
--- no entry defines the key
-abbrev pub NoneOf : ℕ → List Entry → Type 0
-NoneOf key [] = Unit {0}
-NoneOf key (e ∷ es) = (e .key ≡ key → ⊥) × (e .key ≡ key + function-bit → ⊥) × NoneOf key es
-
--- what was found, and the entry that says so
-pub data Finds (key : ℕ) (es : List Entry) : Found → Type 0 where
-  finds-value : (front : List Entry) (e : Entry) (behind : List Entry) → es ≡ front ++ (e ∷ behind) → e .key ≡ key → NoneOf key front
-      → Finds key es (Value (packed-from (e .place)) (packed-to (e .place)))
-  finds-function : (front : List Entry) (e : Entry) (behind : List Entry) → es ≡ front ++ (e ∷ behind) → e .key ≡ key + function-bit
-      → NoneOf key front → Finds key es (Function (e .place) (length behind))
-  finds-nothing : NoneOf key es → Finds key es Nothing
-
--- an entry of another key before them changes nothing
-finds-past : (key : ℕ) (d : Entry) (es : List Entry) {f : Found} → (d .key ≡ key → ⊥) → (d .key ≡ key + function-bit → ⊥)
-    → Finds key es f → Finds key (d ∷ es) f
-finds-past key d es h h′ (finds-value front e behind is same none) = finds-value (d ∷ front) e behind (ap (d ∷_) is) same (h, h′, none)
-finds-past key d es h h′ (finds-function front e behind is same none) =
-    finds-function (d ∷ front) e behind (ap (d ∷_) is) same (h, h′, none)
-finds-past key d es h h′ (finds-nothing none) = finds-nothing (h, h′, none)
-
-pub finds : (key : ℕ) (es : List Entry) → Finds key es (find key es)
-unfolding find
-finds key [] = finds-nothing tt
-finds key (e ∷ es) = go (eqb (e .key) key) refl (eqb (e .key) (key + function-bit)) refl (finds key es)
-  where
-    go : (b : Bool) → eqb (e .key) key ≡ b → (b′ : Bool) → eqb (e .key) (key + function-bit) ≡ b′ → Finds key es (find key es)
-        → Finds key (e ∷ es) (find key (e ∷ es))
-    go true q b′ q′ f = rw q (finds-value [] e es refl (eqb-true _ _ q) tt)
-    go false q true q′ f = rw (q, q′) (finds-function [] e es refl (eqb-true _ _ q′) tt)
-    go false q false q′ f = rw (q, q′) (finds-past key e es (eqb-false _ _ q) (eqb-false _ _ q′) f)

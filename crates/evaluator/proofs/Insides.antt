@@ -183,7 +183,7 @@ module _ {s t : List ℕ} {bound codes : ℕ} {args : List ℕ} {stands : Stands
     inside-ready-as w′ names′ stands′ past e e′ e″ f = rw (e, e′, e″, f) inside-ready
 
     pub inside-fewer : st′ .steps < st .steps
-    inside-fewer = rw (i .state) (omega (arith, i .stepped))
+    inside-fewer = rw (i .state) (omega (arith, i .some-steps))
 
     -- what the inside answers
     abbrev inner-held : Held Left
@@ -192,7 +192,7 @@ module _ {s t : List ℕ} {bound codes : ℕ} {args : List ℕ} {stands : Stands
     held-is : next-held ≡ and-hold inner-held (λ left steps work. hold steps work (finish (run-code codes) row here (i .finish) (left .values)))
     held-is =
         let b = going-begins s t bound codes args stands code end g on in
-        eval-inside (run-code codes) head here (i .skipped) (i .place) (i .finish) (st .steps) (st .room) (i .plan-is) (inside-not-top (i .finishes)) (i .stepped)
+        eval-inside (run-code codes) head here (i .skipped) (i .place) (i .finish) (st .steps) (st .room) (i .plan-is) (inside-not-top (i .finishes)) (i .some-steps)
         ∙ rw (i .state, node-row s t row head (b .node))
 
     pub inside-refused : (n r : ℕ) → inner-held ≡ ceased n r → next-held ≡ ceased n r
@@ -207,9 +207,6 @@ module _ {s t : List ℕ} {bound codes : ℕ} {args : List ℕ} {stands : Stands
 
       floor-inside : st′ .floor ≡ st .floor
       floor-inside = rw (i .state)
-
-      pub inside-steps : st₁ .steps ≤ st′ .steps
-      inside-steps = omega (arith, hold-kept (st′ .steps) (st′ .room) _ (o .left) (st₁ .steps) (st₁ .room) (o .is) .1)
 
       same-namespaces : o .left .here .namespaces ≡ g .here .namespaces
       same-namespaces = in-list-stays (run-code codes) (skip (i .skipped) (elements head)) (i .place) here (o .left) ends-inside .namespaces (inside-not-top (i .finishes))
@@ -270,19 +267,17 @@ module _ {s t : List ℕ} {bound codes : ℕ} {args : List ℕ} {stands : Stands
           let e = entered in
           let f = inside-finishing i o in
           let many = entries-length (sc .keys) (sc .places) (sc .len) in
-          let u = o .others in
           let floor : st₁ .floor ≡ st .floor = o .floor ∙ floor-inside i o in
           let b = going-begins s t bound codes args stands code end g on in
           let plans : plan head here ≡ inside (i .skipped) (i .place) (as-call (e .body) (e .behind)) =
           i .plan-is ∙ ap (λ (x : Finish). inside (i .skipped) (i .place) x) (e .is) in
           let sound = call-sound bound head here (i .skipped) (i .place) (e .body) (e .behind) plans (b .fit) (b .sound) in
           let shown : Shows s t w (st .floor) (drop (sc .len - visible) (entries sc)) (e .behind) = rw many at (e .shows) in
-          let upper : drop (st .floor) w₁ ≡ drop (st .floor) w = rw (floor-inside i o) at (u .upper) in
           record {
             at = e .at;
             visible-in = rw many at (e .few);
             few = rw many at (g .ready .setting .few);
-            shows = rw floor (shows-kept s t w (st .floor) w₁ upper (u .size) _ (e .behind) shown);
+            shows = rw floor (shows-kept s t w (st .floor) (rw (floor-inside i o) at (o .others)) _ (e .behind) shown);
             fitting = f .fitting;
             stand = f .stand;
             sound = f .sound;

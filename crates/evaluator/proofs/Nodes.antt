@@ -19,12 +19,6 @@ use Rattle.evaluator.specs.Stands.{cell, next, RowAt, LeafAt, NodeAt, No
 -- Atoms
 
 -- what a kind tells of an atom
-pub kind-nil : (a : Atom) → atom-kind a ≡ 0 → a ≡ nil
-kind-nil nil h = refl
-kind-nil (array bs) h = absurd (omega arith)
-kind-nil (int v) h = absurd (omega arith)
-kind-nil (ref m n) h = absurd (omega arith)
-
 pub kind-array : (a : Atom) → atom-kind a ≡ 2 → (bs : List ℕ) × (a ≡ array bs)
 kind-array nil h = absurd (omega arith)
 kind-array (array bs) h = (bs, refl)
@@ -108,9 +102,6 @@ module _ {s t : List ℕ} {r : ℕ} where
 
   pub leaf-fits : {a : Atom} → Bytes s → LeafAt s t r a → Fits a
   leaf-fits b l = leaf-spelled b l .0
-
-  pub leaf-shorter : {a : Atom} → Bytes s → LeafAt s t r a → length (atom-bytes a) ≤ cell t r 2 - cell t r 1
-  leaf-shorter b l = omega (arith, leaf-spelled b l .1, row-size (l .row))
 
 -- Nodes, one after the other
 

@@ -5,8 +5,7 @@ use mathlib.Core.Path.{_≡_, refl, sym, ap, _∙_, subst}
 use mathlib.Core.List.{List, [], _∷_, map}
 use mathlib.Core.Bool.{Bool, true, false}
 use native.Mathlib.Omega.{arith}
-use lib.ListN.{length, getD, take, drop}
-use lib.Seq.{slice, take-take, drop-drop}
+use lib.ListN.{length, getD, drop}
 use lib.Dec.{eqb}
 use borrow.Author.Tests.{eq-eqb, eqb-true, eqb-false}
 use mir.Val.{Val}
@@ -19,35 +18,14 @@ use Rattle.spec.specs.Plan.{Defined, value, function, Definition, Scope, Found 
 use Rattle.laws.proofs.Fits.{Fits}
 use Rattle.evaluator.specs.Stands.{key-of}
 use Rattle.evaluator.specs.Entries.{Entry, entries-at, find}
-use Rattle.evaluator.specs.Completed.{Stand, ArgumentsAt}
+use Rattle.evaluator.specs.Completed.{Stand, ArgumentsAt, Untouched}
 use Rattle.evaluator.specs.Planned.{CodeAt, EntryAt, value-at, function-at, Shows, Lent, no-code, in-code}
 use Rattle.evaluator.specs.declared.plan.Code.{Code}
 use Rattle.evaluator.specs.declared.scope.Found.{Found}
 use Rattle.evaluator.specs.declared.scope.Found.the-variants.{Value, Function, Nothing}
 use Rattle.evaluator.proofs.Entries.{from-packed, to-packed, find-value, find-function, find-other}
+use Rattle.evaluator.proofs.Places.{slice-below, stand-above}
 use Rattle.evaluator.proofs.Keys.{key-same, key-small}
-
--- Parts of the workspace
-
-slice-from : (f t : ℕ) (l : List ℕ) → slice f t l ≡ take (t - f) (drop f l)
-slice-from zero t l = let all : t - 0 ≡ t = omega arith in rw all
-slice-from (suc f) zero l = let none : 0 - suc f ≡ 0 = omega arith in rw none
-slice-from (suc f) (suc t) [] = go (suc t - suc f)
-  where
-    go : (k : ℕ) → [] ≡ take {A = ℕ} k []
-    go zero = refl
-    go (suc k) = refl
-slice-from (suc f) (suc t) (x ∷ l) = let back : suc t - suc f ≡ t - f = omega arith in rw back (slice-from f t l)
-
--- a part above what changed, and one below it
-slice-above : (w w′ : List ℕ) (k f t : ℕ) → drop k w′ ≡ drop k w → k ≤ f → slice f t w′ ≡ slice f t w
-slice-above w w′ k f t e h =
-    let past : k + (f - k) ≡ f = omega arith in
-    let rest : drop f w′ ≡ drop f w = rw past at (sym (drop-drop (f - k) k w′) ∙ ap (drop (f - k)) e ∙ drop-drop (f - k) k w) in
-    slice-from f t w′ ∙ ap (take (t - f)) rest ∙ sym (slice-from f t w)
-
-slice-below : (w w′ : List ℕ) (k f t : ℕ) → take k w′ ≡ take k w → t ≤ k → slice f t w′ ≡ slice f t w
-slice-below w w′ k f t e h = ap (drop f) (sym (take-take t k w′ h) ∙ ap (take t) e ∙ take-take t k w h)
 
 -- Places
 
@@ -109,25 +87,18 @@ module _ (s t w : List ℕ) (floor : ℕ) where
   shows-more e es d ds h l = (h, l)
 
   -- a definition elsewhere in the workspace, or a lower floor
-  entry-kept : (w′ : List ℕ) → drop floor w′ ≡ drop floor w → length w′ ≡ length w → (e : Entry) (m n : ℕ) (c : Defined)
+  entry-kept : {w′ : List ℕ} {below : ℕ} → Untouched w w′ below floor → (e : Entry) (m n : ℕ) (c : Defined)
       → EntryAt s t w floor e m n c → EntryAt s t w′ floor e m n c
-  entry-kept w′ same size e m n (value vs) (value-at from to f k p low order stand) =
-      value-at from to f k p low order
-      (record {
-        order = stand .order;
-        inside = omega (arith, size, stand .inside);
-        bytes = slice-above w w′ floor from to same low ∙ stand .bytes;
-      })
-  entry-kept w′ same size e m n (function body) (function-at f k code) = function-at f k code
+  entry-kept u e m n (value vs) (value-at from to f k p low order stand) = value-at from to f k p low order (stand-above u low stand)
+  entry-kept u e m n (function body) (function-at f k code) = function-at f k code
 
-  pub shows-kept : (w′ : List ℕ) → drop floor w′ ≡ drop floor w → length w′ ≡ length w → (es : List Entry) (ds : Scope)
+  pub shows-kept : {w′ : List ℕ} {below : ℕ} → Untouched w w′ below floor → (es : List Entry) (ds : Scope)
       → Shows s t w floor es ds → Shows s t w′ floor es ds
   unfolding Shows
-  shows-kept w′ same size [] [] h = tt
-  shows-kept w′ same size [] (d ∷ ds) h = absurd h
-  shows-kept w′ same size (e ∷ es) [] h = absurd h
-  shows-kept w′ same size (e ∷ es) (d ∷ ds) h =
-      (entry-kept w′ same size e (d .marker) (d .name) (d .content) (h .0), shows-kept w′ same size es ds (h .1))
+  shows-kept u [] [] h = tt
+  shows-kept u [] (d ∷ ds) h = absurd h
+  shows-kept u (e ∷ es) [] h = absurd h
+  shows-kept u (e ∷ es) (d ∷ ds) h = (entry-kept u e (d .marker) (d .name) (d .content) (h .0), shows-kept u es ds (h .1))
 
   entry-lower : (floor′ : ℕ) → floor′ ≤ floor → (e : Entry) (m n : ℕ) (c : Defined) → EntryAt s t w floor e m n c → EntryAt s t w floor′ e m n c
   entry-lower floor′ less e m n (value vs) (value-at from to f k p low order stand) = value-at from to f k p (omega arith) order stand
@@ -206,22 +177,14 @@ module _ (s t w : List ℕ) (floor : ℕ) where
 
 -- Arguments
 
-arguments-kept : (w w′ args : List ℕ) (top i from to : ℕ) (vs : Exprs) → take top w′ ≡ take top w → to ≤ top → ArgumentsAt w args i from to vs
-    → ArgumentsAt w′ args i from to vs
-unfolding ArgumentsAt
-arguments-kept w w′ args top i from to none same h a = a
-arguments-kept w w′ args top i from to (more v vs) same h a =
-    let mid = a .0 in (
-      mid,
-      a .1,
-      a .2,
-      slice-below w w′ top from mid same (omega (arith, a .2)) ∙ a .3,
-      a .4,
-      arguments-kept w w′ args top (i + 1) mid to vs same h (a .5),
-    )
+module _ {w w′ : List ℕ} {top from : ℕ} (u : Untouched w w′ top from) (args : List ℕ) where
+  arguments-kept : (i a b : ℕ) (vs : Exprs) → b ≤ top → ArgumentsAt w args i a b vs → ArgumentsAt w′ args i a b vs
+  unfolding ArgumentsAt
+  arguments-kept i a b none h x = x
+  arguments-kept i a b (more v vs) h x =
+      (x .0, x .1, x .2, slice-below u a (x .0) (omega (arith, x .2)) ∙ x .3, x .4, arguments-kept (i + 1) (x .0) b vs h (x .5))
 
-pub lent-kept : (w w′ args : List ℕ) (code : Code) (top top′ : ℕ) (xs : Arguments) → Lent w args code top xs → length w′ ≡ length w
-    → take top w′ ≡ take top w → top ≤ top′ → Lent w′ args code top′ xs
-lent-kept w w′ args code top top′ xs (no-code h) whole same up = no-code h
-lent-kept w w′ args code top top′ xs (in-code from h size below inside short at) whole same up =
-    in-code from h size (omega arith) (omega arith) (omega arith) (arguments-kept w w′ args top 0 from (code .to) _ same below at)
+  pub lent-kept : (code : Code) (top′ : ℕ) (xs : Arguments) → Lent w args code top xs → top ≤ top′ → Lent w′ args code top′ xs
+  lent-kept code top′ xs (no-code h) up = no-code h
+  lent-kept code top′ xs (in-code a h size below inside short at) up =
+      in-code a h size (omega arith) (omega (arith, u .size)) (omega (arith, u .size)) (arguments-kept 0 a (code .to) _ below at)

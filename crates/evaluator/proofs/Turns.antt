@@ -1,7 +1,7 @@
 -- How a list goes on: what is known before each of its expressions, and what one expression leaves of it, on lists and numbers alone.
 use Prim.Native.Nat.{ℕ, _+_, _-_, _≤_, _<_}
 use mathlib.Core.Path.{_≡_, refl, sym, ap, _∙_, subst}
-use mathlib.Core.List.{List, [], _∷_, _++_, append-nil}
+use mathlib.Core.List.{List, _∷_, _++_, append-nil}
 use mathlib.Core.Bool.{Bool, true, false, _||_}
 use native.Mathlib.Omega.{arith}
 use lib.Seq.{slice, slice-empty}
@@ -27,6 +27,7 @@ use Rattle.evaluator.specs.declared.values.State.{State}
 use Rattle.evaluator.specs.declared.plan.Stands.{Stands}
 use Rattle.evaluator.specs.declared.plan.Code.{Code}
 use Rattle.evaluator.proofs.Nodes.{MoreAt, append-nodes, markers-append, nodes-append, nodes-done, nodes-more, node-next-in}
+use Rattle.evaluator.proofs.Borne.{some-append}
 use Rattle.evaluator.proofs.Places.{slice-split, untouched-less, untouched-then, stand-below}
 use Rattle.evaluator.proofs.Shown.{shows-more, shows-kept, shows-lower, lent-kept}
 
@@ -44,15 +45,6 @@ stand-append w a b c vs us x y = record {
 }
 
 -- Where the next expression stands
-
-some-append : (test : ℕ → Bool) (xs ys : List ℕ) → some test (xs ++ ys) ≡ some test xs || some test ys
-unfolding some
-some-append test [] ys = refl
-some-append test (x ∷ xs) ys = go (test x) (some-append test xs ys)
-  where
-    go : (b : Bool) → some test (xs ++ ys) ≡ some test xs || some test ys → b || some test (xs ++ ys) ≡ (b || some test xs) || some test ys
-    go true h = refl
-    go false h = h
 
 either-way : (a b : Bool) → a || b ≡ b || a
 either-way true true = refl
@@ -233,7 +225,7 @@ module _ (s t : List ℕ) (bound codes : ℕ) (args : List ℕ) (stands : Stands
           let order′ = o .stand .order in
           let size = o .others .size in
           let shown : Shows s t w′ (st′ .floor) (entries sc) (one .here .scope) =
-          rw (floor, l .scope) (shows-kept s t w (st .floor) w′ (o .others .upper) size (entries sc) (g .here .scope) (set .scope)) in
+          rw (floor, l .scope) (shows-kept s t w (st .floor) (o .others) (entries sc) (g .here .scope) (set .scope)) in
           rw e (record {
             rest = going-more .rest;
             place = beyond (going-more .head) (g .place);
@@ -249,7 +241,7 @@ module _ (s t : List ℕ) (bound codes : ℕ) (args : List ℕ) (stands : Stands
                 counted = o .counted;
                 most = o .most;
                 arguments = subst (λ x. Lent w′ args code (st′ .top) x) (sym (arguments-next one (st′ .steps) (st′ .room) (o .is)))
-                    (lent-kept w w′ args code (st .top) (st′ .top) (g .here .arguments) (set .arguments) size (o .others .lower) order′);
+                    (lent-kept (o .others) args code (st′ .top) (g .here .arguments) (set .arguments) order′);
                 place = placed-beyond s t row (going-more .head) (going-more .node) stands (g .place) (set .place);
               };
               fitting = record { paid = o .paid; below = omega (arith, size, r .fitting .below); short = omega (arith, size, r .fitting .short) };
@@ -280,7 +272,7 @@ module _ (s t : List ℕ) (bound codes : ℕ) (args : List ℕ) (stands : Stands
           let shown : Shows s t w′ (st′ .floor) (record { key = key; place = place } ∷ entries sc) (d ∷ g .here .scope) =
           shows-more s t w′ (st′ .floor) (record { key = key; place = place }) (entries sc) d (g .here .scope) (l .entry)
           (shows-lower s t w′ (st .floor) (st′ .floor) (l .floor) (entries sc) (g .here .scope)
-          (shows-kept s t w (st .floor) w′ (l .others .upper) size (entries sc) (g .here .scope) (set .scope))) in
+          (shows-kept s t w (st .floor) (l .others) (entries sc) (g .here .scope) (set .scope))) in
           rw e (record {
             rest = going-more .rest;
             place = beyond (going-more .head) (g .place);
@@ -295,7 +287,7 @@ module _ (s t : List ℕ) (bound codes : ℕ) (args : List ℕ) (stands : Stands
                 namespaces = l .namespaces;
                 counted = l .counted ∙ set .counted;
                 most = rw (l .counted) (set .most);
-                arguments = lent-kept w w′ args code (st .top) (st′ .top) (g .here .arguments) (set .arguments) size (l .others .lower) (omega arith);
+                arguments = lent-kept (l .others) args code (st′ .top) (g .here .arguments) (set .arguments) (omega arith);
                 place = placed-beyond s t row (going-more .head) (going-more .node) stands (g .place) (set .place);
               };
               fitting = record { paid = l .paid; below = omega (arith, size, l .floor, r .fitting .below); short = omega (arith, size, r .fitting .short) };

@@ -28,6 +28,10 @@ pub record Stand (w : List ℕ) (from to : ℕ) (vs : Exprs) : Type 0 where
 abbrev pub with-top : State → ℕ → ℕ → State
 with-top st room top = record { steps = st .steps; room = room; top = top; floor = st .floor; names = st .names }
 
+-- one step less
+abbrev pub stepped : State → State
+stepped st = record { steps = st .steps - 1; room = st .room; top = st .top; floor = st .floor; names = st .names }
+
 -- what is below one place and from another on is as it was
 pub record Untouched (w w′ : List ℕ) (below from : ℕ) : Type 0 where
   pub size : length w′ ≡ length w

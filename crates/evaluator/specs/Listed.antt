@@ -15,7 +15,7 @@ use Rattle.laws.proofs.Values.{Sound, FitsNode, FitsNodes, SoundScope, SoundHer
 use Rattle.evaluator.specs.Stands.{next, NodeAt, NodesAt, key-of}
 use Rattle.evaluator.specs.Entries.{Entry, entries}
 use Rattle.evaluator.specs.Named.{Named}
-use Rattle.evaluator.specs.Completed.{Fitting, Stand, Untouched, with-top, Completed}
+use Rattle.evaluator.specs.Completed.{Fitting, Stand, Untouched, with-top, stepped, Completed}
 use Rattle.evaluator.specs.Planned.{CodeAt, EntryAt, Shows, Finishes, Setting}
 use Rattle.evaluator.specs.declared.scope.Scope.{Scope}
 use Rattle.evaluator.specs.declared.values.State.{State}
@@ -101,8 +101,8 @@ pub record GoesInside (s t w : List ℕ) (sc : List Entry) (st st′ : State) (r
   pub skipped : ℕ
   pub place : Place
   pub finish : Finish
-  pub stepped : 0 < st .steps
-  pub state : st′ ≡ record { steps = st .steps - 1; room = st .room; top = st .top; floor = st .floor; names = st .names }
+  pub some-steps : 0 < st .steps
+  pub state : st′ ≡ stepped st
   pub plan-is : plan e h ≡ inside skipped place finish
   pub nodes : NodesAt s t first (next t row) (skip skipped (elements e))
   pub finishes : Finishes s t w (st .floor) sc (elements e) after skipped place finish

@@ -18,10 +18,6 @@ use Rattle.evaluator.specs.declared.plan.Task.{Task}
 use Rattle.evaluator.specs.declared.element.Step.{Step}
 use Rattle.evaluator.specs.declared.element.Step.the-variants.{Inside, Enter}
 
--- one step less
-abbrev pub stepped : State → State
-stepped st = record { steps = st .steps - 1; room = st .room; top = st .top; floor = st .floor; names = st .names }
-
 -- one namespace more
 abbrev pub one-named : State → State
 one-named st = record { steps = st .steps; room = st .room; top = st .top; floor = st .floor; names = st .names + 1 }

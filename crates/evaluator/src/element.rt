@@ -23,10 +23,10 @@ ghost use Rattle.spec.specs.Evaluation.{Call, one-value, ns-form, eval};
 ghost use Rattle.laws.specs.Holding.{hold};
 ghost use Rattle.evaluator.specs.Stands.{LeafAt};
 ghost use Rattle.evaluator.specs.Entries.{Entry, entries};
-ghost use Rattle.evaluator.specs.Completed.{Fitting, Completed};
+ghost use Rattle.evaluator.specs.Completed.{Fitting, stepped, Completed};
 ghost use Rattle.evaluator.specs.Planned.{CodeAt};
 ghost use Rattle.evaluator.specs.Listed.{Begun, Beginning, SomeBeginning, CanFinish, Finished, CanReturn, Returned, left-by};
-ghost use Rattle.evaluator.specs.Performed.{stepped, one-named, Performing, going};
+ghost use Rattle.evaluator.specs.Performed.{one-named, Performing, going};
 ghost use Rattle.evaluator.specs.declared.values.Out.the-variants.{Done};
 
 // What an expression leaves: its values on top, a definition, or a refusal.
@@ -62,7 +62,7 @@ pub fn leaves(out: Out) -> Left
     }
 }
 
-// The number that stands for a namespace.
+// Keeps the number that stands for a namespace.
 fn put_name(names: &mut [u32], n: usize, name: u32)
     requires { ⌜ n < length (now names) ⌝ }
     ensures { λ _. ⌜ now (names .exit) ≡ set (now (names .entry)) n name ⌝ }
@@ -217,7 +217,7 @@ fn finish_values(w: &mut [u8], state: State, after: After, start: usize, row: us
         After::Call {
             code: _,
             visible: _,
-        } => Left::Stopped { number: 0, row },
+        } => Left::Values(state),
     }
 }
 

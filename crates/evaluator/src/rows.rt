@@ -10,9 +10,7 @@ ghost use Rattle.spec.specs.Nodes.{plain, is, word, Node, branch, Nodes, elemen
 ghost use Rattle.evaluator.specs.Stands.{cell, LeafAt, NodeAt, parts-of, key-of, head-key};
 
 // The names of the core namespace that have rules of their own, as keys of references: the marker times 256, plus the name.
-pub struct Core {
-    pub key: u32,
-}
+pub struct Core;
 
 impl Core {
     pub const MARKER: u32 = 0x20;
@@ -36,8 +34,8 @@ impl Core {
         ensures { λ r. ⌜ r ≡ not (is (word (key / 256) (key % 256)) plain) ⌝ }
     {
         match key {
-            0x2006 => true,
-            0x2009..=0x200D => true,
+            Core::NS => true,
+            Core::DEFINE..=Core::REST => true,
             _ => false,
         }
     }

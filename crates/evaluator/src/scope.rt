@@ -45,9 +45,10 @@ impl Scope {
     pub fn new() -> Self
         ensures { λ r. ⌜ (entries r ≡ []) × (r .len ≡ 0) ⌝ }
     {
+        let none = [0u32; 256];
         Self {
-            keys: [0u32; 256],
-            places: [0u32; 256],
+            keys: none,
+            places: none,
             len: 0,
         }
     }

@@ -111,13 +111,13 @@ unfolding Write
 write-cases P s t o f g = once-read-cases P s t o (λ rs es. put-out (canonical es) 0 (filled rs t) o) f g
 
 -- no more bytes are given than the output has
+put-within : {bs t o : List ℕ} {k : ℕ} {a : Answer} → Put bs k t o a → a .given ≤ length o
+put-within (too-short h) = omega arith
+put-within (fits h) = h
+
 pub write-within : (s t o : List ℕ) → Write s t o .given ≤ length o
 write-within s t o =
-    write-cases (λ (a : Answer). a .given ≤ length o) s t o (λ w p e. omega arith) (λ rs es e. go (put-out-is (canonical es) 0 (filled rs t) o))
-  where
-    go : {bs t′ : List ℕ} {a : Answer} → Put bs 0 t′ o a → a .given ≤ length o
-    go (too-short h) = omega arith
-    go (fits h) = h
+    write-cases (λ (a : Answer). a .given ≤ length o) s t o (λ w p e. omega arith) (λ rs es e. put-within (put-out-is (canonical es) 0 (filled rs t) o))
 
 pub write-kept : (s t o : List ℕ) → Kept t o (Write s t o)
 write-kept s t o =
@@ -195,6 +195,19 @@ evaluation-kept s l = rw (evaluation-answered s l (way s t)) (go (way s t))
     go (wrong-version rs es e h k) = refusal-kept 10 0 (filled rs t) o t (filled-length s t rs es e)
     go (runs rs es e h k) =
         by-end rs (steps-in (run es .events)) (filled-length s t rs es e) (cut (l .steps) (min (l .work) 65536) (run es .events) (run es .end))
+
+pub evaluation-within : (s : List ℕ) (l : Lent) → evaluation s l .given ≤ length (l .output)
+evaluation-within s l = rw (evaluation-answered s l (way s (l .table))) (go (way s (l .table)))
+  where
+    by-end : (rs : List Row) (k : ℕ) (x : End (List Exprs)) → end-answer rs k (filled rs (l .table)) (l .output) x .given ≤ length (l .output)
+    by-end rs k (done ls) = put-within (put-out-is (canonical (result ls)) k (filled rs (l .table)) (l .output))
+    by-end rs k (stopped v r) = omega arith
+
+    go : (y : Way s (l .table)) → answered y l .given ≤ length (l .output)
+    go (unread v p e) = omega arith
+    go (unversioned rs es e h) = omega arith
+    go (wrong-version rs es e h k) = omega arith
+    go (runs rs es e h k) = by-end rs (steps-in (run es .events)) (cut (l .steps) (min (l .work) 65536) (run es .events) (run es .end))
 
 -- what was read fits
 pub reading-fits : (s t : List ℕ) (rs : List Row) (es : Exprs) → Bytes s → reading s t ≡ readable rs es → FitsAll es

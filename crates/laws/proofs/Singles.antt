@@ -432,14 +432,6 @@ module _ (k : ℕ) where
       → SingleScope (left .here .scope)
   eval-scope e h left s t = eval-scope-if (run-code k) (run-code-single k) e h left s t
 
-  pub in-list-scope : (es : Nodes) (p : Place) (h : Here) (left : Left) → SingleScope (h .scope) → in-list (run-code k) es p h .end ≡ done left
-      → SingleScope (left .here .scope)
-  in-list-scope empty p h left s q = rw (in-list-none (run-code k) p h left q) s
-  in-list-scope (cons e es) p h left s q =
-      let t = in-list-split (run-code k) e es p h left q in
-      let a = eval-scope e (standing p h) (t .one) s (t .evaluates) in
-      rw (t .is) (in-list-scope es (beyond e p) (t .one .here) (t .others) a (t .continues))
-
   pub in-list-single : (e : Node) (h : Here) (left : Left) → headed-by rest e ≡ false → SingleScope (h .scope)
       → in-list (run-code k) (cons e empty) inner h .end ≡ done left → Single (left .values)
   in-list-single e h left q s t =

@@ -9,7 +9,7 @@ use Rattle.spec.specs.Expr.{Exprs, size, rows-all, canonical}
 use Rattle.spec.specs.Reading.{tokens, Row, rows-of, row-width, numbers, refused, readable, read}
 use Rattle.spec.specs.Evaluation.{run}
 use Rattle.spec.specs.Calls.{Answer, refusal, acceptance, filled, reading, row-at, Read, Write, Evaluate, Buffer, no-part, chosen, Item}
-use Rattle.laws.specs.Demands.{Bytes, Kept, Lent, evaluation, result-bytes, NoSmaller, Final, Alike, Accepted, meaning-of, SameFirst, values-of, all-steps, with-steps, Counted, SamePrefix}
+use Rattle.laws.specs.Demands.{Bytes, Kept, Lent, evaluation, result-bytes, row-numbers, NoSmaller, SameSizes, Final, Alike, Accepted, meaning-of, SameFirst, values-of, all-steps, with-steps, Counted, SamePrefix}
 use Rattle.laws.specs.Grammar.{SpellsAll, all-rows, WellFormed, item-reading, SpellsItem}
 use Rattle.laws.specs.Sanity.{Inside, FirstFrom, Proper}
 use Rattle.laws.proofs.Rows.{next-row-first, numbers-fourth}
@@ -17,10 +17,10 @@ use Rattle.laws.proofs.Reading.{read-readable, read-refused-roomy, read
 use Rattle.laws.proofs.Parsing.{read-spells}
 use Rattle.laws.proofs.Items.{spelled-rows, item-spelled, item-past}
 use Rattle.laws.proofs.Values.{run-proper}
-use Rattle.laws.proofs.Calls.{put-out-bytes, read-kept, read-within, write-out, write-room, write-within, write-kept, evaluation-kept}
+use Rattle.laws.proofs.Calls.{put-out-bytes, read-kept, read-within, write-out, write-room, write-within, write-kept, evaluation-kept, evaluation-within}
 use Rattle.laws.proofs.Results.{meant, canonical-reads, same-canonical, written-same, writing, written-means, written-canonical, written-reads, written-stream, left-canonical, left-length, left-stream, left-reads, same-prefix}
 use Rattle.laws.proofs.Places.{read-order, read-inside, read-at-most, write-at-most, evaluation-at-most}
-use Rattle.laws.proofs.Retry.{evaluate-alike}
+use Rattle.laws.proofs.Retry.{read-alike, write-alike, evaluate-alike, contents-alike}
 use Rattle.laws.proofs.Count.{counted, enough-same, short-refused, sixteen-short}
 
 -- Demand 1: "Every public call ends and answers for all inputs": the calls are functions on all lists. "Bad input gets the refusal number and
@@ -48,6 +48,9 @@ read-fits = read-within
 
 pub write-fits : (s t o : List ℕ) → Write s t o .given ≤ length o
 write-fits = write-within
+
+pub evaluation-fits : (s : List ℕ) (l : Lent) → evaluation s l .given ≤ length (l .output)
+evaluation-fits = evaluation-within
 
 pub evaluation-keeps : (s : List ℕ) (l : Lent) → Kept (l .table) (l .output) (evaluation s l)
 evaluation-keeps = evaluation-kept
@@ -145,6 +148,18 @@ module _ (s : List ℕ) (l : Lent) (stream : Bytes s) (accepted : evaluation s l
 
 pub retry : (s : List ℕ) (l m : Lent) → NoSmaller l m → Final (evaluation s l) → Alike (evaluation s l) (evaluation s m)
 retry = evaluate-alike
+
+-- "whatever table, workspace and output held before": no answer depends on it, whichever it is, 16, 17 and 18 too. Of the workspace only the
+-- length counts.
+
+pub contents : (s : List ℕ) (l m : Lent) → SameSizes l m → Alike (evaluation s l) (evaluation s m)
+contents = contents-alike
+
+pub write-contents : (s t t′ o o′ : List ℕ) → length t ≡ length t′ → length o ≡ length o′ → Alike (Write s t o) (Write s t′ o′)
+write-contents = write-alike
+
+pub read-contents : (s t t′ : List ℕ) → length t ≡ length t′ → Alike (Read s t) (Read s t′) × (row-numbers (Read s t) ≡ row-numbers (Read s t′))
+read-contents = read-alike
 
 -- "The count is always the one that document 01 defines, never above the steps given."
 

@@ -1,12 +1,12 @@
 -- Document 01, "For demand 3" and "Step count": the words in which the demands are stated.
-use Prim.Native.Nat.{ℕ, _-_, _≤_, _<_, min}
+use Prim.Native.Nat.{ℕ, _-_, _*_, _≤_, _<_, min}
 use mathlib.Core.Path.{_≡_}
 use mathlib.Core.List.{List, [], _∷_, _++_, map}
 use mathlib.Core.Bool.{not}
 use lib.ListN.{length, take}
 use lib.Dec.{ltb}
 use Rattle.spec.specs.Expr.{if_then_else_, same, Exprs, size, first, canonical}
-use Rattle.spec.specs.Reading.{tokens, meaning, rows-of, Reading, refused, readable, read}
+use Rattle.spec.specs.Reading.{tokens, meaning, rows-of, row-width, Reading, refused, readable, read}
 use Rattle.spec.specs.Runs.{Event, step, charge, End, done, stopped, steps-in}
 use Rattle.spec.specs.Evaluation.{run, result}
 use Rattle.spec.specs.Calls.{Answer, Evaluate, reading, is-versioned, version-bytes, row-at}
@@ -46,12 +46,23 @@ with-steps n l = record { table = l .table; work = l .work; output = l .output; 
 abbrev pub result-bytes : Answer → List ℕ
 result-bytes a = take (a .given) (a .output)
 
+-- the numbers of the rows that Read has given
+abbrev pub row-numbers : Answer → List ℕ
+row-numbers a = take (row-width * a .given) (a .table)
+
 -- "with tables of equal length, and with steps, workspace and output each no smaller the second time"
 pub record NoSmaller (l m : Lent) : Type 0 where
   pub tables : length (l .table) ≡ length (m .table)
   pub work : l .work ≤ m .work
   pub outputs : length (l .output) ≤ length (m .output)
   pub steps : l .steps ≤ m .steps
+
+-- "whatever table, workspace and output held before": two lendings that differ in nothing else
+pub record SameSizes (l m : Lent) : Type 0 where
+  pub tables : length (l .table) ≡ length (m .table)
+  pub work : l .work ≡ m .work
+  pub outputs : length (l .output) ≡ length (m .output)
+  pub steps : l .steps ≡ m .steps
 
 -- "accepts, or refuses for a reason other than steps, workspace or output room": an answer that a retry does not change
 pub record Final (a : Answer) : Type 0 where

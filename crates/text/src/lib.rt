@@ -1,5 +1,5 @@
-// Text for standard output, gathered in a buffer so that a call of the system writes much of it. `used` is how many of the buffer's
-// bytes are in use, and each function gives how many are so afterwards.
+// Text for standard output, gathered in a buffer so that a call of the system writes much of it; and numbers that were written. `used` is how
+// many of the buffer's bytes are in use, and each function that takes it gives how many are so afterwards.
 ghost use Prim.Native.Nat.{_≤_};
 ghost use Rattle.text.specs.Size.{buffer-size};
 use libc::STDOUT_FILENO;
@@ -69,4 +69,32 @@ pub fn refused(buffer: &mut Buffer, used: usize, number: u32, place: usize) -> u
     let past_space = byte(buffer, past_number, b' ');
     let past_place = decimal(buffer, past_space, place as u64);
     byte(buffer, past_place, b'\n')
+}
+
+// Writes out the line of a refusal.
+pub fn print_refusal(number: u32, place: usize) {
+    let mut buffer = [0u8; BUFFER_SIZE];
+    let used = refused(&mut buffer, 0, number, place);
+    flush(&buffer, used);
+}
+
+// A decimal number that was written, with one digit more; above 64 bits, the largest.
+pub fn with_digit(value: u64, digit: u8) -> u64 {
+    let d = digit as u64;
+    if value <= (u64::MAX - d) / 10 {
+        value * 10 + d
+    } else {
+        u64::MAX
+    }
+}
+
+// As many elements of a buffer as were asked for; all if it has fewer.
+pub fn within(count: u64, size: usize) -> usize
+    ensures { λ r. ⌜ r ≤ size ⌝ }
+{
+    if count < size as u64 {
+        count as usize
+    } else {
+        size
+    }
 }

@@ -6,10 +6,10 @@ use Rattle.bulk_calls.proofs.main.Statement.{statement}
 use Rattle.bulk_calls.proofs.main.Tie as tie
 
 abbrev Inv-loop : tie.InvT-loop
-Inv-loop source₀ stream₀ result₀ table₀ output₀ buffer₀ used₀ at₀ source stream result table output buffer used at = used ≤ buffer-size
+Inv-loop source₀ stream₀ result₀ table₀ workspace₀ output₀ buffer₀ used₀ at₀ source stream result table workspace output buffer used at = used ≤ buffer-size
 
 abbrev μ-loop : tie.MeasureT-loop
-μ-loop source₀ stream₀ result₀ table₀ output₀ buffer₀ used₀ at₀ source stream result table output buffer used at = at .left
+μ-loop source₀ stream₀ result₀ table₀ workspace₀ output₀ buffer₀ used₀ at₀ source stream result table workspace output buffer used at = at .left
 
 start-requires : tie.Need-start-requires Inv-loop μ-loop
 start-requires c κs = search needs

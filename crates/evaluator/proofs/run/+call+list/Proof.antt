@@ -23,11 +23,11 @@ use Rattle.evaluator.specs.declared.plan.Stands.{Stands}
 use Rattle.evaluator.specs.declared.plan.Stands.the-variants.{Inner}
 use Rattle.evaluator.specs.declared.plan.After.{After}
 use Rattle.evaluator.specs.declared.values.Out.{Out}
-use Rattle.evaluator.specs.declared.values.Out.the-variants.{Done, Refused}
+use Rattle.evaluator.specs.declared.values.Out.the-variants.{Done}
 use Rattle.evaluator.specs.declared.element.Left.{Left as Answer}
 use Rattle.evaluator.specs.declared.element.Left.the-variants.{Stopped}
 use Rattle.evaluator.specs.declared.element.Step.{Step}
-use Rattle.evaluator.specs.declared.element.Step.the-variants.{Leaves, Inside, Enter}
+use Rattle.evaluator.specs.declared.element.Step.the-variants.{Inside, Enter}
 use Rattle.evaluator.proofs.Nodes.{node-whole}
 use Rattle.evaluator.proofs.Entries.{entries-length}
 use Rattle.evaluator.proofs.Turns.{held-list, Going, going-start, going-over, going-more, standing-here, held-next, going-begins, going-ceased, going-values, going-definition}

@@ -1,0 +1,182 @@
+//! Whether time is linear in a stream's bytes, the steps taken and the bytes charged: as much
+//! work in streams of three sizes takes as much time.
+
+use crate::bounds::{self, Needs};
+use crate::pieces::{
+    arg, array, beginning, call, define, form, function, long_length, nested, ns, rest, subst,
+};
+use crate::programs::start;
+use crate::report::Report;
+use crate::requests::{evaluate_line, Request};
+use std::io;
+use std::sync::Arc;
+use std::time::{Duration, Instant};
+
+/// The sizes of a kind are its smallest and these multiples of it.
+const MULTIPLES: [usize; 3] = [1, 4, 16];
+/// Of bytes, steps and charges, in one run.
+const WORK: u64 = 3_000_000;
+/// Were a kind quadratic, the largest would take 16 times as long as the smallest.
+const MOST: u32 = 3;
+/// The least time of so many rounds counts.
+const ROUNDS: usize = 3;
+const MOST_ROUNDS: usize = 12;
+
+struct Kind {
+    name: &'static str,
+    stream: fn(usize) -> Vec<u8>,
+}
+
+/// The worst stream of each kind that was thought of, for a multiple of its smallest size.
+const KINDS: [Kind; 12] = [
+    Kind {
+        name: "a long list",
+        stream: |size| after_beginning(&vec![0x00; 3_000 * size]),
+    },
+    Kind {
+        name: "a long form",
+        stream: |size| after_beginning(&nested(1, &vec![0x00; 1_500 * size])),
+    },
+    Kind {
+        name: "deep forms",
+        stream: |size| after_beginning(&nested(60, &vec![0x00; 60 * size])),
+    },
+    Kind {
+        name: "references past 256 definitions",
+        stream: |size| {
+            let definitions = (0..=255).flat_map(|k| define(k, &[0x80]));
+            let references = [0x29, 0x00].repeat(1_000 * size);
+            after_beginning(&[definitions.collect(), references].concat())
+        },
+    },
+    Kind {
+        name: "definitions in many forms",
+        stream: |size| after_beginning(&form(&[&define(0, &[0x80])]).repeat(400 * size)),
+    },
+    Kind {
+        name: "many arguments",
+        stream: |size| {
+            let arguments = vec![0x00; 1_300 * size];
+            after_beginning(&form(&[&subst(&rest(0)), &arguments]))
+        },
+    },
+    Kind {
+        name: "arguments handed on by 32 codes",
+        stream: |size| {
+            let chain = (1..32).flat_map(|k| function(k, &call(k - 1, &rest(0))));
+            let functions = [function(0, &[0x00]), chain.collect()].concat();
+            after_beginning(&[functions, call(31, &vec![0x00; 120 * size])].concat())
+        },
+    },
+    Kind {
+        name: "`arg` behind a large argument",
+        stream: |size| {
+            let large = nested(1, &vec![0x00; 500 * size]);
+            let code = arg(1).repeat(500 * size);
+            after_beginning(&form(&[&subst(&code), &large, &[0x00]]))
+        },
+    },
+    Kind {
+        name: "`arg` of a large argument",
+        stream: |size| {
+            let large = array(&vec![0xAA; 60 * size]);
+            after_beginning(&form(&[&subst(&arg(0).repeat(30)), &large]))
+        },
+    },
+    Kind {
+        name: "empty `rest`s",
+        stream: |size| after_beginning(&form(&[&subst(&rest(0).repeat(800 * size))])),
+    },
+    Kind {
+        name: "64 namespaces behind many references",
+        stream: |size| {
+            let references = [0x21, 0x00].repeat(1_700 * size);
+            let id = |k: u8| [&vec![0xAA; 63][..], &[k]].concat();
+            let namespaces = (0..63).flat_map(|k| ns(0x30 + k, &id(k)));
+            after_beginning(&[references, namespaces.collect()].concat())
+        },
+    },
+    Kind {
+        name: "a long length in code called often",
+        stream: |size| {
+            let code = function(0, &long_length(1_000 * size));
+            after_beginning(&[code, call(0, &[]).repeat(500 * size)].concat())
+        },
+    },
+];
+
+fn after_beginning(rest: &[u8]) -> Vec<u8> {
+    [&beginning()[..], rest].concat()
+}
+
+/// Measures every kind with the first program; the second tells how much work a stream is.
+pub fn measure(first: &str, second: &str, report: &mut Report) -> io::Result<()> {
+    for kind in KINDS {
+        let Some(sizes) = sizes(&kind, second)? else {
+            report.fail(&format!("{}: not accepted", kind.name));
+            continue;
+        };
+        let times = least_times(first, &sizes, report)?;
+        println!("{:<40}{times:>12.1?}", kind.name);
+        match is_linear(&times) {
+            true => report.pass(),
+            false => report.fail(&format!("{}: not linear", kind.name)),
+        }
+    }
+    Ok(())
+}
+
+/// For each size the requests that are so much work; none if a stream isn't accepted.
+fn sizes(kind: &Kind, second: &str) -> io::Result<Option<Vec<Arc<Vec<Request>>>>> {
+    let streams = MULTIPLES.map(kind.stream);
+    let asked = streams.iter().map(|stream| bounds::needs_request(stream));
+    let mut told = start(second, &Arc::new(asked.collect()))?;
+    let requests = streams.iter().map(|stream| {
+        let needs = bounds::needs(&told.next_answer().unwrap_or_default())?;
+        Some(Arc::new(requests(stream, &needs)?))
+    });
+    Ok(requests.collect())
+}
+
+fn requests(stream: &[u8], needs: &Needs) -> Option<Vec<Request>> {
+    let work = stream.len() as u64 + needs.steps_and_charges()?;
+    let request = || Request::expecting(evaluate_line(stream, bounds::LARGE), "ok");
+    Some((0..WORK.div_ceil(work)).map(|_| request()).collect())
+}
+
+/// Some rounds, and more as long as noise may be what makes them differ.
+fn least_times(
+    path: &str,
+    sizes: &[Arc<Vec<Request>>],
+    report: &mut Report,
+) -> io::Result<Vec<Duration>> {
+    let mut times = vec![Duration::MAX; sizes.len()];
+    for round in 1..=MOST_ROUNDS {
+        for (time, requests) in times.iter_mut().zip(sizes) {
+            *time = run(path, requests, report)?.min(*time);
+        }
+        if round >= ROUNDS && is_linear(&times) {
+            break;
+        }
+    }
+    Ok(times)
+}
+
+fn run(path: &str, requests: &Arc<Vec<Request>>, report: &mut Report) -> io::Result<Duration> {
+    let began = Instant::now();
+    let mut program = start(path, requests)?;
+    for request in requests.iter() {
+        let answer = program.next_answer().unwrap_or_default();
+        if !request.allows(&answer) {
+            report.fail("a stream to measure was refused");
+        }
+    }
+    let time = began.elapsed();
+    report.check_end(path, program, requests.len());
+    Ok(time)
+}
+
+/// Larger streams took no longer than the smallest, but for noise.
+fn is_linear(times: &[Duration]) -> bool {
+    times.iter().all(|time| *time <= MOST * times[0])
+}
