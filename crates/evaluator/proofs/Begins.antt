@@ -37,7 +37,7 @@ use Rattle.evaluator.proofs.Places.{untouched-none}
 -- Values completed
 
 -- `from` is the state before all that the values replace
-pub completed-from : (s t w w′ names′ : List ℕ) (sc : List Entry) (from st : State) (start row : ℕ) (vs : Exprs) (h h′ : Here) (out : Out)
+completed-from : (s t w w′ names′ : List ℕ) (sc : List Entry) (from st : State) (start row : ℕ) (vs : Exprs) (h h′ : Here) (out : Out)
     → from .top ≡ start → from .floor ≡ st .floor → Fitting w st → start ≤ st .top → h′ .scope ≡ h .scope → Named s t names′ (h′ .namespaces)
     → st .names ≡ length (h′ .namespaces) → st .names ≤ 64 → Completed w w′ st start row vs out
     → LeftBy s t w w′ names′ sc from h (hold (st .steps) (st .room) (complete row vs h′)) (left-by out)
@@ -83,7 +83,7 @@ module _ (s t : List ℕ) (row : ℕ) (run : Call) (h : Here) where
     pub eval-none : steps ≡ 0 → hold steps w (eval run e h) ≡ ceased 16 row
     eval-none z = rw (eval-plan e n) (hold-step-none steps w row _ z)
 
-    pub eval-step : 0 < steps → hold steps w (eval run e h) ≡ hold (steps - 1) w (perform run row (eval-all run (elements e)) h (plan e h))
+    eval-step : 0 < steps → hold steps w (eval run e h) ≡ hold (steps - 1) w (perform run row (eval-all run (elements e)) h (plan e h))
     eval-step l = rw (eval-plan e n) (hold-step steps w row _ l)
 
 -- the values that a plan says are left are no deeper than 64 forms

@@ -154,7 +154,7 @@ module _ {s t : List ℕ} {bound codes : ℕ} {args : List ℕ} {stands : Stands
   next-held = held-next s t bound codes args stands code end g on
 
   module _ {st′ : State} {first : ℕ} {after : After} (i : GoesInside s t w (entries sc) st st′ row first head here after) where
-    pub inside-ready : Ready s t bound codes w names args sc st′ (stands-in after) code first (next t row) (skip (i .skipped) (elements head)) (i .place) here
+    inside-ready : Ready s t bound codes w names args sc st′ (stands-in after) code first (next t row) (skip (i .skipped) (elements head)) (i .place) here
     inside-ready =
         let r = g .ready in
         let set = r .setting in
@@ -195,7 +195,7 @@ module _ {s t : List ℕ} {bound codes : ℕ} {args : List ℕ} {stands : Stands
         eval-inside (run-code codes) head here (i .skipped) (i .place) (i .finish) (st .steps) (st .room) (i .plan-is) (inside-not-top (i .finishes)) (i .some-steps)
         ∙ rw (i .state, node-row s t row head (b .node))
 
-    pub inside-refused : (n r : ℕ) → inner-held ≡ ceased n r → next-held ≡ ceased n r
+    inside-refused : (n r : ℕ) → inner-held ≡ ceased n r → next-held ≡ ceased n r
     inside-refused n r h = held-is ∙ rw h
 
     module _ {w₁ names₁ : List ℕ} {st₁ : State} (o : Over s t w w₁ names₁ st′ inner-held st₁) where
@@ -211,13 +211,13 @@ module _ {s t : List ℕ} {bound codes : ℕ} {args : List ℕ} {stands : Stands
       same-namespaces : o .left .here .namespaces ≡ g .here .namespaces
       same-namespaces = in-list-stays (run-code codes) (skip (i .skipped) (elements head)) (i .place) here (o .left) ends-inside .namespaces (inside-not-top (i .finishes))
 
-      pub inside-named : Named s t names₁ (g .here .namespaces)
+      inside-named : Named s t names₁ (g .here .namespaces)
       inside-named = subst (λ ks. Named s t names₁ ks) same-namespaces (o .namespaces)
 
-      pub inside-counted : st₁ .names ≡ length (g .here .namespaces)
+      inside-counted : st₁ .names ≡ length (g .here .namespaces)
       inside-counted = o .counted ∙ ap length same-namespaces
 
-      pub inside-finishing : Finishing w₁ st₁ (st .top) (i .finish) (o .left .values)
+      inside-finishing : Finishing w₁ st₁ (st .top) (i .finish) (o .left .values)
       inside-finishing =
           let r = g .ready in
           let size = o .others .size in
@@ -233,7 +233,7 @@ module _ {s t : List ℕ} {bound codes : ℕ} {args : List ℕ} {stands : Stands
           }
 
       -- what it leaves, if that is what finishing the values leaves
-      pub inside-left : (w₂ names₂ : List ℕ) (left : Answer)
+      inside-left : (w₂ names₂ : List ℕ) (left : Answer)
           → LeftBy s t w₁ w₂ names₂ (entries sc) (with-top st₁ (st₁ .room) (st .top)) here
           (hold (st₁ .steps) (st₁ .room) (finish (run-code codes) row here (i .finish) (o .left .values))) left
           → LeftBy s t w w₂ names₂ (entries sc) st here next-held left

@@ -22,7 +22,7 @@ use Rattle.evaluator.proofs.Nodes.{leaf-fits, form-nodes}
 pub key-marker : (m n : ℕ) → n < 256 → key-of m n / 256 ≡ m
 key-marker m n h = omega arith
 
-pub key-name : (m n : ℕ) → n < 256 → key-of m n % 256 ≡ n
+key-name : (m n : ℕ) → n < 256 → key-of m n % 256 ≡ n
 key-name m n h = omega arith
 
 pub key-same : (m n k l : ℕ) → n < 256 → l < 256 → key-of m n ≡ key-of k l → (m ≡ k) × (n ≡ l)
@@ -77,12 +77,8 @@ module _ {k : ℕ} {v : Word} where
       go rest q = absurd (h₆ q)
       go plain q = refl
 
-  pub is-key : WordOf k v → (w : Word) → Function w → v ≡ w → k ≡ word-key w
-  is-key (function f e) w g q = rw q at e
-  is-key (other e none) w g q = absurd (omega (arith, g, ap name-byte (sym q ∙ e)))
-
   -- a test for a function name is a test of keys
-  pub is-test : WordOf k v → (w : Word) → Function w → eqb k (word-key w) ≡ is v w
+  is-test : WordOf k v → (w : Word) → Function w → eqb k (word-key w) ≡ is v w
   is-test (function f e) w g = go (eqb (name-byte v) (name-byte w)) refl
     where
       go : (b : Bool) → eqb (name-byte v) (name-byte w) ≡ b → eqb k (word-key w) ≡ b
@@ -194,7 +190,7 @@ module _ (s : List ℕ) (from to : ℕ) (inside : to ≤ length s) where
   pub part-size : (x : List ℕ) → slice from to s ≡ x → length x ≡ to - from
   part-size x e = ap length (sym e) ∙ length-slice from to s inside
 
-  pub part-at : (p : List ℕ) (y : ℕ) (ys : List ℕ) (i : ℕ) → slice from to s ≡ p ++ (y ∷ ys) → i ≡ from + length p → getD s i 0 ≡ y
+  part-at : (p : List ℕ) (y : ℕ) (ys : List ℕ) (i : ℕ) → slice from to s ≡ p ++ (y ∷ ys) → i ≡ from + length p → getD s i 0 ≡ y
   part-at p y ys i e at =
       let size : length p + suc (length ys) ≡ to - from = sym (length-append p (y ∷ ys)) ∙ part-size (p ++ (y ∷ ys)) e in
       rw at
@@ -203,7 +199,7 @@ module _ (s : List ℕ) (from to : ℕ) (inside : to ≤ length s) where
       ∙ ap (λ (l : List ℕ). getD l (length p) 0) e
       ∙ getD-at p y ys 0 (length p) refl)
 
-  pub ref-at : (m n : ℕ) → slice from to s ≡ marker-bytes m ++ (n ∷ []) → RefAt s from to m n
+  ref-at : (m n : ℕ) → slice from to s ≡ marker-bytes m ++ (n ∷ []) → RefAt s from to m n
   ref-at m n = go (marker-bytes-are m)
     where
       go : {ms : List ℕ} → Mark m ms → slice from to s ≡ ms ++ (n ∷ []) → RefAt s from to m n

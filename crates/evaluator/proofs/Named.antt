@@ -18,10 +18,10 @@ use Rattle.evaluator.proofs.Nodes.{leaf-array}
 
 -- A marker and a row in one number
 
-pub named-marker : (m row : ℕ) → row < 65536 → named m row / 65536 ≡ m
+named-marker : (m row : ℕ) → row < 65536 → named m row / 65536 ≡ m
 named-marker m row h = omega arith
 
-pub named-row : (m row : ℕ) → row < 65536 → named m row % 65536 ≡ row
+named-row : (m row : ℕ) → row < 65536 → named m row % 65536 ≡ row
 named-row m row h = omega arith
 
 module _ (s t : List ℕ) where
@@ -75,7 +75,7 @@ module _ (s t : List ℕ) where
   -- One more
 
   -- what is stored behind the namespaces changes none of them
-  pub named-kept : (names : List ℕ) (i v : ℕ) (ks : List Namespace) → length ks ≤ i → Named s t names ks → Named s t (set names i v) ks
+  named-kept : (names : List ℕ) (i v : ℕ) (ks : List Namespace) → length ks ≤ i → Named s t names ks → Named s t (set names i v) ks
   unfolding Named
   named-kept names i v [] h n = tt
   named-kept names i v (k ∷ ks) h ((row, is, leaf), n) =

@@ -119,12 +119,6 @@ unfoldable pub append-nodes : Nodes → Nodes → Nodes
 append-nodes empty fs = fs
 append-nodes (cons e es) fs = cons e (append-nodes es fs)
 
--- one node moved from the nodes behind to those in front
-pub append-one : (es : Nodes) (e : Node) (fs : Nodes) → append-nodes (append-nodes es (cons e empty)) fs ≡ append-nodes es (cons e fs)
-unfolding append-nodes
-append-one empty e fs = refl
-append-one (cons x es) e fs = ap (cons x) (append-one es e fs)
-
 pub markers-append : (es fs : Nodes) → markers-all (append-nodes es fs) ≡ markers-all es ++ markers-all fs
 unfolding append-nodes markers-all
 markers-append empty fs = refl
@@ -132,7 +126,7 @@ markers-append (cons e es) fs =
     ap (λ (l : List ℕ). markers e ++ l) (markers-append es fs) ∙ sym (append-assoc (markers e) (markers-all es) (markers-all fs))
 
 module _ (s t : List ℕ) where
-  pub nodes-order : (r end : ℕ) (es : Nodes) → NodesAt s t r end es → r ≤ end
+  nodes-order : (r end : ℕ) (es : Nodes) → NodesAt s t r end es → r ≤ end
   unfolding NodeAt
   nodes-order r end empty n = omega (arith, n)
   nodes-order r end (cons e es) n = omega (arith, n .0, n .1)

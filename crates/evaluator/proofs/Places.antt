@@ -49,7 +49,7 @@ module _ {w w′ : List ℕ} {below from : ℕ} (u : Untouched w w′ below from
   pub slice-below : (a b : ℕ) → b ≤ below → slice a b w′ ≡ slice a b w
   slice-below a b h = ap (drop a) (untouched-less b from h (omega arith) u .lower)
 
-  pub slice-above : (a b : ℕ) → from ≤ a → slice a b w′ ≡ slice a b w
+  slice-above : (a b : ℕ) → from ≤ a → slice a b w′ ≡ slice a b w
   slice-above a b h =
       slice-take a b w′ ∙ ap (take (b - a)) (untouched-less below a (omega arith) h u .upper) ∙ sym (slice-take a b w)
 
@@ -61,11 +61,11 @@ module _ {w w′ : List ℕ} {below from : ℕ} (u : Untouched w w′ below from
   stand-above {a} {b} h there =
       record { order = there .order; inside = omega (arith, u .size, there .inside); bytes = slice-above a b h ∙ there .bytes }
 
-  pub byte-below : (i : ℕ) → i < below → getD w′ i 0 ≡ getD w i 0
+  byte-below : (i : ℕ) → i < below → getD w′ i 0 ≡ getD w i 0
   byte-below i h =
       sym (getD-take below w′ i 0 h) ∙ ap (λ (l : List ℕ). getD l i 0) (u .lower) ∙ getD-take below w i 0 h
 
-  pub byte-above : (i : ℕ) → from ≤ i → getD w′ i 0 ≡ getD w i 0
+  byte-above : (i : ℕ) → from ≤ i → getD w′ i 0 ≡ getD w i 0
   byte-above i h =
       let far : from + (i - from) ≡ i = omega arith in
       rw (← far) (sym (getD-drop from w′ (i - from) 0) ∙ ap (λ (l : List ℕ). getD l (i - from) 0) (u .upper) ∙ getD-drop from w (i - from) 0)

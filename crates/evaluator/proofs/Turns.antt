@@ -57,7 +57,7 @@ module _ (s t : List ℕ) (row : ℕ) (e : Node) (node : NodeAt s t row e) where
   unfolding NodeAt
   alone = (node-next-in s t row e node, omega arith, node, refl)
 
-  pub placed-beyond : (stands : Stands) (p : Place) → Placed s t row stands p → Placed s t (next t row) stands (beyond e p)
+  placed-beyond : (stands : Stands) (p : Place) → Placed s t row stands p → Placed s t (next t row) stands (beyond e p)
   unfolding markers
   placed-beyond stands (top earlier) (at-top es nodes same) =
       at-top (append-nodes es (cons e empty)) (nodes-append s t 0 row (next t row) es (cons e empty) nodes alone)

@@ -34,7 +34,7 @@ module _ {A B : Type 0} where
   and-hold-twice (ceased v r) f g = refl
 
   -- what follows, in two parts
-  pub and-hold-then : {C : Type 0} (x : Held A) {f : A → ℕ → ℕ → Held C} (g : A → ℕ → ℕ → Held B) (k : B → ℕ → ℕ → Held C)
+  and-hold-then : {C : Type 0} (x : Held A) {f : A → ℕ → ℕ → Held C} (g : A → ℕ → ℕ → Held B) (k : B → ℕ → ℕ → Held C)
       → ((a : A) (s w : ℕ) → x ≡ kept a s w → f a s w ≡ and-hold (g a s w) k) → and-hold x f ≡ and-hold (and-hold x g) k
   and-hold-then (kept a s w) g k h = h a s w refl
   and-hold-then (ceased v r) g k h = refl
@@ -92,11 +92,11 @@ module _ {A : Type 0} (s w : ℕ) where
     hold-step h = rw (ne-eqb s 0 (λ e. omega arith))
 
     -- 17: "workspace charge doesn't fit"
-    pub hold-charge-none : (n : ℕ) → w < n → hold s w (before (charge r n) run) ≡ ceased 17 r
+    hold-charge-none : (n : ℕ) → w < n → hold s w (before (charge r n) run) ≡ ceased 17 r
     unfolding hold-events
     hold-charge-none n h = rw (lt-ltb w n h)
 
-    pub hold-charge : (n : ℕ) → n ≤ w → hold s w (before (charge r n) run) ≡ hold s (w - n) run
+    hold-charge : (n : ℕ) → n ≤ w → hold s w (before (charge r n) run) ≡ hold s (w - n) run
     unfolding hold-events
     hold-charge n h = rw (le-ltb w n h)
 
@@ -205,7 +205,7 @@ module _ (call : Call) where
       rw (hold-bind s w ev (λ one. bind (ls one) λ others. give (together one others)))
       (and-hold-same (hold s w ev) λ one s′ w′ q. hold-bind s′ w′ (ls one) (λ others. give (together one others)))
 
-  pub drop-skip : (k : ℕ) (es : Nodes) → drop k (eval-all call es) ≡ eval-all call (skip k es)
+  drop-skip : (k : ℕ) (es : Nodes) → drop k (eval-all call es) ≡ eval-all call (skip k es)
   unfolding eval skip
   drop-skip zero es = refl
   drop-skip (suc k) empty = refl

@@ -315,11 +315,11 @@ pub record Split (call : Call) (e : Node) (es : Nodes) (p : Place) (h : Here) (l
   pub is : left ≡ together one others
 
 module _ (call : Call) where
-  pub in-list-none : (p : Place) (h : Here) (left : Left) → in-list call empty p h .end ≡ done left → left ≡ record { values = none; here = h }
+  in-list-none : (p : Place) (h : Here) (left : Left) → in-list call empty p h .end ≡ done left → left ≡ record { values = none; here = h }
   unfolding in-list
   in-list-none p h left q = cc
 
-  pub in-list-split : (e : Node) (es : Nodes) (p : Place) (h : Here) (left : Left) → in-list call (cons e es) p h .end ≡ done left
+  in-list-split : (e : Node) (es : Nodes) (p : Place) (h : Here) (left : Left) → in-list call (cons e es) p h .end ≡ done left
       → Split call e es p h left
   unfolding in-list
   in-list-split e es p h left q =
@@ -423,7 +423,7 @@ pair us vs ws x y q = (x .value, y .value, q ∙ rw (x .is, y .is))
 
 module _ (k : ℕ) where
   -- an expression that is no `rest` form, where no definition is allowed, leaves one value
-  pub eval-single : (e : Node) (h : Here) (left : Left) → headed-by rest e ≡ false → h .place ≡ inner → SingleScope (h .scope)
+  eval-single : (e : Node) (h : Here) (left : Left) → headed-by rest e ≡ false → h .place ≡ inner → SingleScope (h .scope)
       → eval (run-code k) e h .end ≡ done left → Single (left .values)
   eval-single e h left q i s t = eval-single-if (run-code k) (run-code-single k) e h left q i s t
 

@@ -49,10 +49,10 @@ returns c t rs es reads fills =
     rows-short (a .stream .now) t (a .table .now) (a .workspace .now) _ (a .output .now) (a .steps) rs fills _ _ (told v t rs es reads fills _ (c .before .before .size .given .1)) (c .if1 .taken)
 
 slice-reshare-prefix-copy : tie.Need-slice-reshare-prefix-copy
-slice-reshare-prefix-copy c = inside (c .before .before)
+slice-reshare-prefix-copy c = omega (arith, inside (c .before .before))
 
 slice-aggregate-copy : tie.Need-slice-aggregate-copy
-slice-aggregate-copy c = sym (length-take-le _ (c .before .before .before .before .before .before .before .evaluate .last .1 .1 .1 .0) (inside (c .before .before .before)))
+slice-aggregate-copy c = sym (length-take-le _ (c .before .before .before .before .before .before .before .evaluate .last .1 .1 .1 .0) (omega (arith, inside (c .before .before .before))))
 
 copy-requires : tie.Need-copy-requires
 copy-requires c κs = omega (arith, length-take-le (c .before .before .before .before .size .given .0 .0) (c .before .before .before .before .before .before .before .before .evaluate .last .1 .1 .1 .0) (inside (c .before .before .before .before)), c .before .before .if1 .left)

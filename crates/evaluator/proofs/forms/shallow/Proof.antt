@@ -35,7 +35,7 @@ enum-told : tie.Need-enum-told Inv-loop μ-loop
 enum-told c = search needs
 
 returns : tie.Need-returns Inv-loop μ-loop
-returns c = at-token (c .before .before .before) Opening (c .before .enum-told .given .1) .0 (c .if1 .taken)
+returns c = at-token (c .before .before .before) Opening (c .before .enum-told .given .1) .0 (omega (arith, c .if1 .taken))
 
 add-depth : tie.Need-add-depth Inv-loop μ-loop
 add-depth c = omega arith

@@ -47,7 +47,7 @@ returns-3 c = λ w floor top q sc es xs h l.
     let a = c .before .before .before .before .before .before .before .before .before .args in
     let g = code-given w (a .args .now) (a .code) top xs l (c .before .before .before .if2 .left) in
     refused 15 (c .refuse3 .ensures)
-    (number (c .before .before .before .before .before) q es xs h ∙ arg-none w (a .args .now) (a .code) xs g _ (c .before .if3 .taken))
+    (number (c .before .before .before .before .before) q es xs h ∙ arg-none w (a .args .now) (a .code) xs g _ (omega (arith, c .before .if3 .taken)))
 
 mul-place : tie.Need-mul-place
 mul-place c = search needs
