@@ -6,10 +6,8 @@ ghost use mathlib.Core.Path.{_≡_};
 ghost use mathlib.Core.List.{List, []};
 ghost use Prim.Native.Nat.{ℕ, _/_};
 ghost use lib.ListN.{length};
-ghost use Rattle.spec.specs.Expr.{Exprs};
-ghost use Rattle.spec.specs.Reading.{Row, row-width, readable};
-ghost use Rattle.spec.specs.Calls.{filled, reading, Read, Write, Evaluate, Item, Buffer as Chosen, chosen};
-ghost use Rattle.evaluator.specs.Evaluated.{HasRead};
+ghost use Rattle.spec.specs.Reading.{row-width};
+ghost use Rattle.spec.specs.Calls.{Read, Write, Evaluate, Item, Buffer as Chosen, chosen};
 ghost use Rattle.bulk.specs.Answers.{Answered, AnsweredEvaluation, asked, of-buffer, part-bytes};
 
 // The numbers of a row.
@@ -80,40 +78,6 @@ pub fn write(stream: &[u8], table: &mut [u32], output: &mut [u8]) -> Answer
     }
 }
 
-// Evaluates a stream whose rows are in the table, then writes the result.
-fn evaluate_rows(
-    stream: &[u8],
-    table: &[u32],
-    rows: usize,
-    workspace: &mut [u8],
-    output: &mut [u8],
-    steps: u64,
-) -> Evaluation
-    requires { ⌜ HasRead (now stream) (now table) rows ⌝ }
-    ensures { λ r. ⌜ ((t : List ℕ) (rs : List Row) (es : Exprs) → reading (now (stream .entry)) t ≡ readable rs es → now (table .entry) ≡ filled rs t
-        → AnsweredEvaluation (Evaluate (now (stream .entry)) t (length (now (workspace .entry))) (now (output .entry)) steps) r (now (table .entry)) (now (output .exit))) ⌝ }
-{
-    match evaluator::evaluate(stream, table, rows, workspace, steps) {
-        Result::Refused { number, place } => Evaluation::Refused { number, place },
-        Result::Is {
-            length: size,
-            steps: taken,
-        } => {
-            if output.len() < size {
-                return Evaluation::Refused {
-                    number: 18,
-                    place: 0,
-                };
-            }
-            bytes::copy(&workspace[..size], output);
-            Evaluation::Accepted {
-                length: size,
-                steps: taken,
-            }
-        }
-    }
-}
-
 // Reads a stream and evaluates it in a workspace, with so many steps, then writes the result. Gives its length and the steps taken. A refusal leaves the output as it was; what the workspace holds afterwards is free.
 pub fn evaluate(
     stream: &[u8],
@@ -129,7 +93,25 @@ pub fn evaluate(
         Checked::Wrong { number, place } => Evaluation::Refused { number, place },
         Checked::Right { rows, length: _ } => {
             reader::fill(stream, table);
-            evaluate_rows(stream, table, rows, workspace, output, steps)
+            match evaluator::evaluate(stream, table, rows, workspace, steps) {
+                Result::Refused { number, place } => Evaluation::Refused { number, place },
+                Result::Is {
+                    length: size,
+                    steps: taken,
+                } => {
+                    if output.len() < size {
+                        return Evaluation::Refused {
+                            number: 18,
+                            place: 0,
+                        };
+                    }
+                    bytes::copy(&workspace[..size], output);
+                    Evaluation::Accepted {
+                        length: size,
+                        steps: taken,
+                    }
+                }
+            }
         }
     }
 }
