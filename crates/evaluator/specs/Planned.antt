@@ -57,10 +57,11 @@ pub data Placed (s t : List ℕ) (row : ℕ) : Stands → Place → Type 0 where
 
 -- What is to be done
 
--- a form's elements are one after the head, or two, that are no `rest` forms
+-- the elements of a define: its head, its reference, and a value that is no `rest` form
 pub data OneMore : Nodes → Type 0 where
   one-more : (h a v : Node) → headed-by rest v ≡ false → OneMore (cons h (cons a (cons v empty)))
 
+-- the elements of a concat: its head, and two operands that are no `rest` forms
 pub data TwoMore : Nodes → Type 0 where
   two-more : (h a b : Node) → headed-by rest a ≡ false → headed-by rest b ≡ false → TwoMore (cons h (cons a (cons b empty)))
 

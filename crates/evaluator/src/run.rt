@@ -1,4 +1,4 @@
-// The recursive evaluator: a list of expressions, and the code of a call. The steps that are left fall at each call.
+// The recursive evaluator: a list of expressions, and the code of a call. The steps that are left fall at each call of `list`.
 use crate::element;
 use crate::element::Left;
 use crate::element::Step;
