@@ -1,6 +1,6 @@
 -- The token at a place by its first byte, as the code gives it: document 01's table of first bytes.
 use Prim.Native.Nat.{ℕ, suc, _+_, _-_, _≤_, _<_}
-use mathlib.Core.Path.{_≡_, _∙_}
+use mathlib.Core.Path.{_≡_, ap, _∙_}
 use mathlib.Core.List.{List, _∷_}
 use native.Mathlib.Omega.{arith}
 use native.Mathlib.Numerals.{add-one}
@@ -12,7 +12,7 @@ use Rattle.spec.specs.Expr.{if_then_else_, int}
 use Rattle.spec.specs.Reading.{taken, and-then, take-bytes, length-expr, marker, name, as-array, read-atom, token}
 use Rattle.atoms.specs.Tokens.{token-at, shown, shown-atom}
 use Rattle.atoms.specs.declared.Token.the-variants.{Opening, Closing, Whole, Bad}
-use Rattle.atoms.proofs.Places.{left-at}
+use Rattle.atoms.proofs.Places.{left-at, shown-array, shown-reference}
 
 module _ (s : List ℕ) (p : ℕ) (inside : p < length s) where
   pub first-opening : getD s p 0 ≡ 0x01 → shown (token-at s p) ≡ Opening
@@ -93,3 +93,19 @@ module _ (s : List ℕ) (p : ℕ) (inside : p < length s) where
       pub first-small : 0xC0 ≤ getD s p 0
           → shown (token-at s p) ≡ shown-atom p (length s) (and-then (take-bytes (getD s p 0 - 0xC0) (drop (suc p) s)) as-array)
       first-small h = from-80 (omega arith) ∙ rw (le-ltb (getD s p 0) 0xC0 h)
+
+  -- atoms that are whole, by their first byte alone
+  pub int-whole : 0x80 ≤ getD s p 0 → getD s p 0 < 0xC0 → shown (token-at s p) ≡ Whole 3 p (p + 1)
+  int-whole h l = first-int (λ e. omega arith) (λ e. omega arith) (λ e. omega arith) (λ e. omega arith) (omega arith) h l
+
+  pub short-whole : 0x10 ≤ getD s p 0 → getD s p 0 < 0x7F → 1 < length s - p → shown (token-at s p) ≡ Whole 4 p (p + 2)
+  short-whole h l more =
+      let end : suc p + 1 ≡ p + 2 = omega arith in
+      first-short (λ e. omega arith) (λ e. omega arith) (λ e. omega arith) (λ e. omega arith) h l
+      ∙ shown-reference s p (getD s p 0) (suc p) (omega arith) (omega arith)
+      ∙ ap (Whole 4 p) end
+
+  pub small-whole : 0xC0 ≤ getD s p 0 → getD s p 0 - 0xC0 < length s - p → shown (token-at s p) ≡ Whole 2 (p + 1) (p + 1 + (getD s p 0 - 0xC0))
+  small-whole h more =
+      first-small (λ e. omega arith) (λ e. omega arith) (λ e. omega arith) (λ e. omega arith) (omega arith) h
+      ∙ rw (← add-one p) (shown-array s p (p + 1) (getD s p 0 - 0xC0) (omega arith) (omega arith))

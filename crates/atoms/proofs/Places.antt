@@ -19,7 +19,7 @@ use Rattle.laws.specs.Grammar.{SpellsLength}
 use Rattle.laws.proofs.Basics.{impossible}
 use Rattle.laws.proofs.Fits.{bytes-drop}
 use Rattle.laws.proofs.Spelling.{SplitOff, plain-taken, length-taken}
-use Rattle.laws.proofs.Steps.{none-left, split-size, split-rest}
+use Rattle.laws.proofs.Steps.{all-bytes, none-left, split-size, split-rest}
 use Rattle.atoms.specs.Tokens.{measured, leading-threes, plain, around, shown-atom}
 use Rattle.atoms.specs.declared.Length.{Length}
 use Rattle.atoms.specs.declared.Length.the-variants.{Is, Wrong}
@@ -312,6 +312,63 @@ module _ (s : List ℕ) (p v e : ℕ) (stream : Bytes s) (inside : p ≤ length 
       go : (l : List ℕ) → Bytes l → (n : ℕ) (t : List ℕ) → plain l ≡ taken n t → SplitOff (SpellsLength 7 n) l t
       go [] b n t q = impossible (cc)
       go (c ∷ l) b n t q = plain-taken 7 c l n t (b .0) q
+
+-- the bytes of a length that was told are those of the exact one
+pub told-bytes : (s : List ℕ) (v e : ℕ) (x : Taken ℕ) → length s ≤ 65536 → ToldLength s x v e → take-bytes v (drop e s) ≡ and-then x take-bytes
+told-bytes s v e x h t =
+    let size = length-drop e s in
+    ap (λ (n : ℕ). take-bytes n (drop e s)) (t .held)
+    ∙ sym (take-held (t .exact) (drop e s) (omega arith))
+    ∙ sym (ap (λ (y : Taken ℕ). and-then y take-bytes) (t .is))
+
+-- the bytes of a generic array whose 03 is at a place, by the length behind it: a small integer, or one or two bytes
+module _ (s : List ℕ) (at : ℕ) (bytes : (i : ℕ) → getD s i 0 < 256) (most : length s ≤ 65536) (inside : at + 3 < length s) where
+  by-plain : (v e : ℕ) → (getD s (at + 1) 0 ≡ 0x03 → ⊥) → measured (length s) (plain (drop (at + 1) s)) ≡ Is v e
+      → take-bytes v (drop e s) ≡ and-then (length-expr 7 (drop (suc at) s)) take-bytes
+  unfolding around
+  by-plain v e other m =
+      let none : 0 ≡ leading-threes 8 (drop (at + 1) s) = sym (threes-other s (at + 1) 8 (omega arith) other) in
+      let is = counted s (at + 1) 0 (omega arith) none (λ q. omega arith) .is in
+      let here : at + 1 + 0 ≡ at + 1 = omega arith in
+      rw (← add-one at)
+      (told-bytes s v e (length-expr 7 (drop (at + 1) s)) most
+      (told-length s (at + 1) v e (all-bytes s bytes) (omega arith) (ap (measured (length s)) (is ∙ ap (λ (k : ℕ). plain (drop k s)) here) ∙ m)))
+
+  pub array-int : 0x80 ≤ getD s (at + 1) 0 → getD s (at + 1) 0 < 0xC0
+      → take-bytes (getD s (at + 1) 0 - 0x80) (drop (at + 2) s) ≡ and-then (length-expr 7 (drop (suc at) s)) take-bytes
+  array-int h l =
+      let e : at + 1 + 1 ≡ at + 2 = omega arith in
+      by-plain _ (at + 2) (λ q. omega arith) (plain-int s (at + 1) (omega arith) h l ∙ ap (Is (getD s (at + 1) 0 - 0x80)) e)
+
+  -- behind a byte C1 or C2, the number of the bytes that follow
+  of-bytes : (e n : ℕ) → 0xC0 ≤ getD s (at + 1) 0 → e ≡ at + 2 + (getD s (at + 1) 0 - 0xC0) → e ≤ length s → n < 65536
+      → natural 0 (take (e - (at + 2)) (drop (at + 2) s)) ≡ n
+      → take-bytes n (drop e s) ≡ and-then (length-expr 7 (drop (suc at) s)) take-bytes
+  of-bytes e n h end l few is =
+      let two : at + 1 + 1 ≡ at + 2 = omega arith in
+      let held : min n 65537 ≡ n = omega arith in
+      by-plain n e (λ q. omega arith)
+      (plain-array s (at + 1) (omega arith) h e (omega arith) l
+      ∙ ap (λ (k : ℕ). Is (min (natural 0 (take (e - k) (drop k s))) 65537) e) two
+      ∙ ap (λ (k : ℕ). Is (min k 65537) e) is
+      ∙ ap (λ (k : ℕ). Is k e) held)
+
+  pub array-one : getD s (at + 1) 0 ≡ 0xC1 → take-bytes (getD s (at + 2) 0) (drop (at + 3) s) ≡ and-then (length-expr 7 (drop (suc at) s)) take-bytes
+  array-one h =
+      of-bytes (at + 3) (getD s (at + 2) 0) (omega arith) (omega arith) (omega arith) (omega (arith, bytes (at + 2)))
+      (natural-step s 0 (at + 2) (at + 3) (omega arith) (omega arith) ∙ natural-end s (0 * 256 + getD s (at + 2) 0) (at + 2 + 1) (at + 3) (omega arith) ∙ omega arith)
+
+  pub array-two : getD s (at + 1) 0 ≡ 0xC2
+      → take-bytes (getD s (at + 2) 0 * 256 + getD s (at + 3) 0) (drop (at + 4) s) ≡ and-then (length-expr 7 (drop (suc at) s)) take-bytes
+  array-two h =
+      let next : at + 2 + 1 ≡ at + 3 = omega arith in
+      of-bytes (at + 4) (getD s (at + 2) 0 * 256 + getD s (at + 3) 0) (omega arith) (omega arith) (omega arith)
+      (omega (arith, bytes (at + 2), bytes (at + 3)))
+      (natural-step s 0 (at + 2) (at + 4) (omega arith) (omega arith)
+      ∙ natural-step s (0 * 256 + getD s (at + 2) 0) (at + 2 + 1) (at + 4) (omega arith) (omega arith)
+      ∙ natural-end s ((0 * 256 + getD s (at + 2) 0) * 256 + getD s (at + 2 + 1) 0) (at + 2 + 1 + 1) (at + 4) (omega arith)
+      ∙ ap (λ (k : ℕ). (0 * 256 + getD s (at + 2) 0) * 256 + getD s k 0) next
+      ∙ omega arith)
 
 -- a length that is wrong is wrong for what stands around it
 pub around-wrong : (end k : ℕ) (x : Taken ℕ) (w p : ℕ) → measured end x ≡ Wrong w p → measured end (around k x) ≡ Wrong w p

@@ -134,8 +134,8 @@ fn length_at(s: &[u8], at: usize) -> Length
     }
 }
 
-// The generic array whose 03 is at a place.
-fn array_at(s: &[u8], at: usize) -> Token
+// The generic array whose 03 is at a place, by its length expression of any shape.
+fn any_array(s: &[u8], at: usize) -> Token
     requires { ⌜ (length (now s) ≤ 65536) × (at < length (now s)) ⌝ }
     ensures { λ r.
         ⌜ r ≡ shown-atom at (length (now (s .entry)))
@@ -144,6 +144,25 @@ fn array_at(s: &[u8], at: usize) -> Token
     match length_at(s, at + 1) {
         Length::Wrong { number, place } => Token::Bad { number, place },
         Length::Is { value, end } => bytes_at(s, end, value),
+    }
+}
+
+// The generic array whose 03 is at a place. The lengths that a canonical stream has, and small integers, are read here, the others by `any_array`.
+fn array_at(s: &[u8], at: usize) -> Token
+    requires { ⌜ (length (now s) ≤ 65536) × (at < length (now s)) ⌝ }
+    ensures { λ r.
+        ⌜ r ≡ shown-atom at (length (now (s .entry)))
+        (and-then (and-then (length-expr 7 (drop (suc at) (now (s .entry)))) take-bytes) as-array) ⌝ }
+{
+    if s.len() - at < 4 {
+        return any_array(s, at);
+    }
+    let b = s[at + 1];
+    match b {
+        0x80..=0xBF => bytes_at(s, at + 2, (b - 0x80) as usize),
+        0xC1 => bytes_at(s, at + 3, s[at + 2] as usize),
+        0xC2 => bytes_at(s, at + 4, (s[at + 2] as usize) * 256 + (s[at + 3] as usize)),
+        _ => any_array(s, at),
     }
 }
 
@@ -210,8 +229,8 @@ fn long_reference(s: &[u8], at: usize) -> Token
     }
 }
 
-// The token at a place of a stream.
-pub fn token_at(s: &[u8], at: usize) -> Token
+// The token at a place of a stream, whichever it is.
+pub fn any_token(s: &[u8], at: usize) -> Token
     requires { ⌜ (length (now s) ≤ 65536) × (at < length (now s)) ⌝ }
     ensures { λ r. ⌜ r ≡ shown (token-at (now (s .entry)) at) ⌝ }
 {
@@ -238,4 +257,58 @@ pub fn token_at(s: &[u8], at: usize) -> Token
         },
         0xC0..=0xFF => bytes_at(s, at + 1, (b - 0xC0) as usize),
     }
+}
+
+// The token at a place of a stream. The common ones are told here, in so few instructions that they are compiled into the loops over tokens; the
+// others by `any_token`.
+pub fn token_at(s: &[u8], at: usize) -> Token
+    requires { ⌜ (length (now s) ≤ 65536) × (at < length (now s)) ⌝ }
+    ensures { λ r. ⌜ r ≡ shown (token-at (now (s .entry)) at) ⌝ }
+{
+    let b = s[at];
+    let left = s.len() - at;
+    match b {
+        0x00 => {
+            return Token::Whole {
+                kind: 0,
+                body: at,
+                end: at + 1,
+            };
+        }
+        0x01 => {
+            return Token::Opening;
+        }
+        0x02 => {
+            return Token::Closing;
+        }
+        0x10..=0x7E => {
+            if 1 < left {
+                return Token::Whole {
+                    kind: 4,
+                    body: at,
+                    end: at + 2,
+                };
+            }
+        }
+        0x80..=0xBF => {
+            return Token::Whole {
+                kind: 3,
+                body: at,
+                end: at + 1,
+            };
+        }
+        0xC0..=0xFF => {
+            let size = (b - 0xC0) as usize;
+            if size < left {
+                return Token::Whole {
+                    kind: 2,
+                    body: at + 1,
+                    end: at + 1 + size,
+                };
+            }
+        }
+        _ => {}
+    }
+    let other = any_token(s, at);
+    other
 }

@@ -1,13 +1,13 @@
 -- How many forms are open at once in the canonical bytes of values, token by token: the law behind the loop of `forms::shallow`.
-use Prim.Native.Nat.{ℕ, _+_, _-_, _≤_, _<_}
+use Prim.Native.Nat.{ℕ, _+_, _-_, _*_, _≤_, _<_}
 use mathlib.Core.Path.{_≡_, sym, subst}
 use mathlib.Core.List.{List, [], _∷_, _++_, append-assoc, append-nil}
 use mathlib.Core.Bool.{Bool, true, false}
 use native.Mathlib.Omega.{arith}
-use lib.ListN.{length}
+use lib.ListN.{length, length-append}
 use lib.Dec.{leb}
 use borrow.Author.Tests.{le-leb, lt-leb}
-use Rattle.spec.specs.Expr.{Expr, atom, form, Exprs, none, more, depth, deepest, canonical}
+use Rattle.spec.specs.Expr.{Expr, atom, form, Exprs, none, more, depth, deepest, bytes, canonical}
 use Rattle.spec.specs.Reading.{Token, opening, closing, whole, bad, tokens}
 use Rattle.laws.specs.Demands.{Bytes}
 use Rattle.laws.specs.Grammar.{Spells, SpellsAll}
@@ -18,6 +18,24 @@ use Rattle.atoms.specs.Tokens.{token-at, shown}
 use Rattle.atoms.specs.declared.Token.{Token as Answer}
 use Rattle.atoms.specs.declared.Token.the-variants.{Opening, Closing, Whole, Bad}
 use Rattle.atoms.proofs.Next.{Next, next}
+
+-- Few bytes hold few forms
+
+mutual
+  unfolding depth bytes
+
+  depth-size : (e : Expr) → 2 * depth e ≤ length (bytes e)
+  depth-size (atom a) = omega arith
+  depth-size (form es) = simp length-append (omega (arith, deepest-size es))
+
+  deepest-size : (es : Exprs) → 2 * deepest es ≤ length (canonical es)
+  deepest-size none = omega arith
+  deepest-size (more e es) = simp length-append (omega (arith, depth-size e, deepest-size es))
+
+pub few-bytes : (vs : Exprs) → length (canonical vs) < 128 → true ≡ leb (deepest vs) 63
+few-bytes vs h = sym (le-leb (deepest vs) 63 (omega (arith, deepest-size vs)))
+
+-- Token by token
 
 -- tokens that close the d open forms, and whether at most 63 forms are open at once
 abbrev pub Within : List Token → ℕ → Bool → Type 0
@@ -63,7 +81,7 @@ within-canonical vs f =
     (λ h. le-leb (deepest vs) 63 (omega arith)) (λ h. lt-leb (deepest vs) 63 (omega arith)))
 
 -- At place p of the canonical bytes of values, d forms are open, and what is left decides whether the values are shallow.
-pub record Diving (s : List ℕ) (p d : ℕ) : Type 0 where
+pub record Nesting (s : List ℕ) (p d : ℕ) : Type 0 where
   pub stream : Bytes s
   pub some : (vs : Exprs) × (s ≡ canonical vs) × FitsAll vs
   pub each : (vs : Exprs) → s ≡ canonical vs → FitsAll vs → Within (tokens-from s p) d (leb (deepest vs) 63)
@@ -72,38 +90,38 @@ pub record Diving (s : List ℕ) (p d : ℕ) : Type 0 where
 abbrev pub Answers : List ℕ → Bool → Type 0
 Answers s b = (vs : Exprs) → s ≡ canonical vs → FitsAll vs → b ≡ leb (deepest vs) 63
 
-pub diving-start : (s : List ℕ) → Bytes s → ((vs : Exprs) × (s ≡ canonical vs) × FitsAll vs) → Diving s 0 0
-diving-start s stream some = record {
+pub nesting-start : (s : List ℕ) → Bytes s → ((vs : Exprs) × (s ≡ canonical vs) × FitsAll vs) → Nesting s 0 0
+nesting-start s stream some = record {
   stream = stream;
   some = some;
   each = λ vs is f. rw is (within-canonical vs f);
 }
 
 -- what holds after each kind of token
-abbrev pub DivingTurn : (s : List ℕ) (p d : ℕ) → Answer → Type 0
-DivingTurn s p d Opening = (63 ≤ d → Answers s false) × (d < 63 → Diving s (p + 1) (d + 1))
-DivingTurn s p d Closing = (0 < d) × Diving s (p + 1) (d - 1)
-DivingTurn s p d (Whole k b e) = (p < e) × Diving s e d
-DivingTurn s p d (Bad w q) = ⊥
+abbrev pub NestingTurn : (s : List ℕ) (p d : ℕ) → Answer → Type 0
+NestingTurn s p d Opening = (63 ≤ d → Answers s false) × (d < 63 → Nesting s (p + 1) (d + 1))
+NestingTurn s p d Closing = (0 < d) × Nesting s (p + 1) (d - 1)
+NestingTurn s p d (Whole k b e) = (p < e) × Nesting s e d
+NestingTurn s p d (Bad w q) = ⊥
 
-module _ (s : List ℕ) (p d : ℕ) (f : Diving s p d) where
-  pub diving-end : length s ≤ p → Answers s true
-  diving-end h vs is fits = sym (rw (tokens-end s p h) at (f .each vs is fits))
+module _ (s : List ℕ) (p d : ℕ) (f : Nesting s p d) where
+  pub nesting-end : length s ≤ p → Answers s true
+  nesting-end h vs is fits = sym (rw (tokens-end s p h) at (f .each vs is fits))
 
-  pub diving-turn : p < length s → (r : Answer) → r ≡ shown (token-at s p) → DivingTurn s p d r
-  diving-turn inside r told = go r (next s p r (f .stream) inside told)
+  pub nesting-turn : p < length s → (r : Answer) → r ≡ shown (token-at s p) → NestingTurn s p d r
+  nesting-turn inside r told = go r (next s p r (f .stream) inside told)
     where
       -- what is known of the tokens from here on
       here : (ts : List Token) → tokens-from s p ≡ ts → (vs : Exprs) → s ≡ canonical vs → FitsAll vs → Within ts d (leb (deepest vs) 63)
       here ts e vs is fits = subst (λ (l : List Token). Within l d (leb (deepest vs) 63)) e (f .each vs is fits)
 
-      dive : (q e : ℕ) → ((vs : Exprs) → s ≡ canonical vs → FitsAll vs → Within (tokens-from s q) e (leb (deepest vs) 63)) → Diving s q e
+      dive : (q e : ℕ) → ((vs : Exprs) → s ≡ canonical vs → FitsAll vs → Within (tokens-from s q) e (leb (deepest vs) 63)) → Nesting s q e
       dive q e each = record { stream = f .stream; some = f .some; each = each }
 
       one : (ts : List Token) → tokens-from s p ≡ ts → Within ts d (leb (deepest (f .some .0)) 63)
       one ts e = here ts e (f .some .0) (f .some .1) (f .some .2)
 
-      go : (r : Answer) → Next s p r → DivingTurn s p d r
+      go : (r : Answer) → Next s p r → NestingTurn s p d r
       go Opening is = (
         λ h vs v fits. sym (here _ is vs v fits .0 h),
         λ h. dive (p + 1) (d + 1) (λ vs v fits. here _ is vs v fits .1 h),

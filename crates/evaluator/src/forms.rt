@@ -17,12 +17,15 @@ ghost use Rattle.evaluator.specs.Entries.{pack};
 ghost use Rattle.evaluator.specs.Joins.{array-at};
 ghost use Rattle.evaluator.specs.Completed.{Fitting, Stand, Completed, Joined, ArgumentsAt};
 
-// Whether values have at most 63 forms one inside another.
+// Whether values have at most 63 forms one inside another. 64 would take 128 bytes.
 fn shallow(values: &[u8]) -> bool
     requires { ⌜ length (now values) ≤ 65536 ⌝ }
     requires { ⌜ ((vs : Exprs) × (now values ≡ canonical vs) × FitsAll vs) ⌝ }
     ensures { λ r. ⌜ ((vs : Exprs) → now (values .entry) ≡ canonical vs → FitsAll vs → r ≡ leb (deepest vs) 63) ⌝ }
 {
+    if values.len() < 128 {
+        return true;
+    }
     let mut at: usize = 0;
     let mut depth: usize = 0;
     while at < values.len() {
@@ -89,7 +92,7 @@ fn array_at(w: &[u8], at: usize) -> Bytes
     if w.len() <= at {
         return Bytes::Other;
     }
-    match atoms::token_at(w, at) {
+    match atoms::any_token(w, at) {
         Token::Opening => Bytes::Other,
         Token::Closing => Bytes::Other,
         Token::Whole { kind, body, end } => {

@@ -1,73 +1,136 @@
--- `atoms::array_at` meets its contract: a length that is wrong, or the array of that many bytes.
+-- `atoms::array_at` meets its contract: the bytes that a short length gives, and `any_array` for the others.
 -- Assumes nothing.
 use borrow.Author.Needs.{needs}
-use Prim.Native.Nat.{ℕ, suc, _≤_}
-use mathlib.Core.Path.{_≡_, sym, ap, _∙_}
+use Prim.Native.Nat.{ℕ, suc, _+_}
+use mathlib.Core.Path.{_≡_, ap, _∙_}
 use mathlib.Core.List.{List}
 use native.Mathlib.Omega.{arith}
-use native.Mathlib.Numerals.{add-one}
-use lib.ListN.{length, drop, length-drop}
+use lib.ListN.{length, drop}
 use Rattle.spec.specs.Reading.{Taken, and-then, take-bytes, length-expr, as-array}
-use Rattle.laws.proofs.Steps.{all-bytes}
 use Rattle.atoms.specs.Tokens.{shown-atom}
-use Rattle.atoms.specs.declared.Length.the-variants.{Is}
-use Rattle.atoms.proofs.Places.{take-held, ToldLength, told-length, array-wrong}
+use Rattle.atoms.specs.declared.Token.{Token}
+use Rattle.atoms.proofs.Places.{array-int, array-one, array-two}
 use Rattle.atoms.proofs.array_at.Statement.{statement}
 use Rattle.atoms.proofs.array_at.Tie as tie
 
-add-length-at : tie.Need-add-length-at
-add-length-at c = search needs
+-- the array whose bytes these are
+by-bytes : (s : List ℕ) (at : ℕ) {r : Token} {x y : Taken (List ℕ)} → r ≡ shown-atom at (length s) (and-then x as-array) → x ≡ y
+    → r ≡ shown-atom at (length s) (and-then y as-array)
+by-bytes s at told is = told ∙ ap (λ (z : Taken (List ℕ)). shown-atom at (length s) (and-then z as-array)) is
 
-length-at-requires : tie.Need-length-at-requires
-length-at-requires c κs = search needs
+sub-if1 : tie.Need-sub-if1
+sub-if1 c = search needs
 
-enum-known-number : tie.Need-enum-known-number
-enum-known-number c = search needs
-
-enum-known-value : tie.Need-enum-known-value
-enum-known-value c = search needs
-
--- what was told of the length
-at-length : (c : tie.After-length-at) (v e : ℕ) → c .length-at .result ≡ Is v e
-    → ToldLength (c .before .before .args .s .now) (length-expr 7 (drop (suc (c .before .before .args .at)) (c .before .before .args .s .now))) v e
-at-length c v e told =
-    let a = c .before .before .args in
-    let stream = all-bytes (a .s .now) (λ i. c .before .shared-slice-known .given i .fits) in
-    told-length (a .s .now) (suc (a .at)) v e stream (omega arith) (rw (← add-one (a .at)) (sym (c .length-at .ensures) ∙ told))
-
-bytes-at-requires : tie.Need-bytes-at-requires
-bytes-at-requires c κs = at-length (c .before .before .before) _ _ (c .before .value .given .1) .inside
+any-array-requires : tie.Need-any-array-requires
+any-array-requires c κs = search needs
 
 returns : tie.Need-returns
-returns c =
-    let a = c .before .before .before .before .before .args in
-    let s = a .s .now in
-    sym (array-wrong (a .at) (length s) (length-expr 7 (drop (suc (a .at)) s)) _ _ (rw (← add-one (a .at)) (sym (c .before .before .before .length-at .ensures) ∙ c .before .number .given .1)))
+returns c = search needs
 
--- the bytes of a length that was told are those of the exact one
-told-bytes : (s : List ℕ) (v e : ℕ) (x : Taken ℕ) → length s ≤ 65536 → ToldLength s x v e → take-bytes v (drop e s) ≡ and-then x take-bytes
-told-bytes s v e x h t =
-    let size = length-drop e s in
-    ap (λ (n : ℕ). take-bytes n (drop e s)) (t .held)
-    ∙ sym (take-held (t .exact) (drop e s) (omega arith))
-    ∙ sym (ap (λ (y : Taken ℕ). and-then y take-bytes) (t .is))
+add-b : tie.Need-add-b
+add-b c = search needs
+
+shared-slice-read-b : tie.Need-shared-slice-read-b
+shared-slice-read-b c = search needs
+
+add-bytes-at : tie.Need-add-bytes-at
+add-bytes-at c = search needs
+
+add-bytes-at-2 : tie.Need-add-bytes-at-2
+add-bytes-at-2 c = search needs
+
+shared-slice-read-bytes-at : tie.Need-shared-slice-read-bytes-at
+shared-slice-read-bytes-at c = search needs
+
+cast-bytes-at : tie.Need-cast-bytes-at
+cast-bytes-at c = omega (arith, c .shared-slice-known3 .given (c .before .before .before .before .before .args .at + 2))
+
+bytes-at-requires : tie.Need-bytes-at-requires
+bytes-at-requires c κs = search needs
+
+add-bytes-at-3 : tie.Need-add-bytes-at-3
+add-bytes-at-3 c = search needs
+
+add-bytes-at-4 : tie.Need-add-bytes-at-4
+add-bytes-at-4 c = search needs
+
+shared-slice-read-bytes-at-2 : tie.Need-shared-slice-read-bytes-at-2
+shared-slice-read-bytes-at-2 c = search needs
+
+cast-bytes-at-2 : tie.Need-cast-bytes-at-2
+cast-bytes-at-2 c = omega (arith, c .shared-slice-known4 .given (c .before .before .before .before .before .args .at + 2))
+
+mul-bytes-at : tie.Need-mul-bytes-at
+mul-bytes-at c = omega (arith, c .shared-slice-known4 .given (c .before .before .before .before .before .args .at + 2))
+
+add-bytes-at-5 : tie.Need-add-bytes-at-5
+add-bytes-at-5 c = search needs
+
+shared-slice-read-bytes-at-3 : tie.Need-shared-slice-read-bytes-at-3
+shared-slice-read-bytes-at-3 c = search needs
+
+cast-bytes-at-3 : tie.Need-cast-bytes-at-3
+cast-bytes-at-3 c = omega (arith, c .shared-slice-known5 .given (c .before .before .before .before .before .before .args .at + 3))
+
+add-bytes-at-6 : tie.Need-add-bytes-at-6
+add-bytes-at-6 c = let a = c .before .before .before .before .before .before .args in omega (arith, c .shared-slice-known5 .given (a .at + 2), c .shared-slice-known5 .given (a .at + 3))
+
+bytes-at-requires-2 : tie.Need-bytes-at-requires-2
+bytes-at-requires-2 c κs = search needs
+
+add-bytes-at-7 : tie.Need-add-bytes-at-7
+add-bytes-at-7 c = search needs
+
+cast-bytes-at-4 : tie.Need-cast-bytes-at-4
+cast-bytes-at-4 c = search needs
+
+bytes-at-requires-3 : tie.Need-bytes-at-requires-3
+bytes-at-requires-3 c κs = search needs
+
+any-array-requires-2 : tie.Need-any-array-requires-2
+any-array-requires-2 c κs = search needs
 
 returns-2 : tie.Need-returns-2
-returns-2 c =
-    let a = c .before .before .before .before .before .before .args in
-    let s = a .s .now in
-    let t = at-length (c .before .before .before .before) _ _ (c .before .before .value .given .1) in
-    c .bytes-at .ensures (a .at)
-    ∙ ap (λ (y : Taken (List ℕ)). shown-atom (a .at) (length s) (and-then y as-array)) (told-bytes s _ _ _ (omega arith) t)
+returns-2 c = by-bytes (c .before .before .before .before .before .before .args .s .now) (c .before .before .before .before .before .before .args .at) (c .bytes-at .ensures (c .before .before .before .before .before .before .args .at)) (array-one (c .before .before .before .before .before .before .args .s .now) (c .before .before .before .before .before .before .args .at) (λ i. c .before .before .before .shared-slice-known2 .given i .fits) (omega arith) (omega arith) (c .before .before .match .keys1))
+
+returns-3 : tie.Need-returns-3
+returns-3 c = by-bytes (c .before .before .before .before .before .before .before .args .s .now) (c .before .before .before .before .before .before .before .args .at) (c .bytes-at2 .ensures (c .before .before .before .before .before .before .before .args .at)) (array-two (c .before .before .before .before .before .before .before .args .s .now) (c .before .before .before .before .before .before .before .args .at) (λ i. c .before .before .before .before .shared-slice-known2 .given i .fits) (omega arith) (omega arith) (c .before .before .before .match .keys2))
+
+returns-4 : tie.Need-returns-4
+returns-4 c = by-bytes (c .before .before .before .before .before .before .before .args .s .now) (c .before .before .before .before .before .before .before .args .at) (c .bytes-at3 .ensures (c .before .before .before .before .before .before .before .args .at)) (array-int (c .before .before .before .before .before .before .before .args .s .now) (c .before .before .before .before .before .before .before .args .at) (λ i. c .before .before .before .before .shared-slice-known2 .given i .fits) (omega arith) (omega arith) (c .before .before .if2 .left) (c .before .if3 .taken))
+
+returns-5 : tie.Need-returns-5
+returns-5 c = search needs
 
 pub array-at-spec : {M : Type 1} → statement M
 array-at-spec =
     tie.close
     (tie.spec
-    add-length-at
-    length-at-requires
-    enum-known-number
-    enum-known-value
-    bytes-at-requires
+    sub-if1
+    any-array-requires
     returns
-    returns-2)
+    add-b
+    shared-slice-read-b
+    add-bytes-at
+    add-bytes-at-2
+    shared-slice-read-bytes-at
+    cast-bytes-at
+    bytes-at-requires
+    add-bytes-at-3
+    add-bytes-at-4
+    shared-slice-read-bytes-at-2
+    cast-bytes-at-2
+    mul-bytes-at
+    add-bytes-at-5
+    shared-slice-read-bytes-at-3
+    cast-bytes-at-3
+    add-bytes-at-6
+    bytes-at-requires-2
+    add-bytes-at-7
+    cast-bytes-at-4
+    bytes-at-requires-3
+    any-array-requires-2
+    returns-2
+    returns-3
+    returns-4
+    returns-5)

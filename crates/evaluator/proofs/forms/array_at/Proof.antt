@@ -13,14 +13,14 @@ use Rattle.evaluator.proofs.forms.array_at.Tie as tie
 returns : tie.Need-returns
 returns c = let a = c .before .before .args in rw (le-ltb (a .at) (length (a .w .now)) (c .if1 .taken))
 
-token-at-requires : tie.Need-token-at-requires
-token-at-requires c κs = search needs
+any-token-requires : tie.Need-any-token-requires
+any-token-requires c κs = search needs
 
 -- what stands there if the token is this one
-at-token : (c : tie.After-token-at) (r : Token) → c .token-at .result ≡ r → let a = c .before .before .before .args in array-of r ≡ array-at (a .w .now) (a .at)
+at-token : (c : tie.After-any-token) (r : Token) → c .any-token .result ≡ r → let a = c .before .before .before .args in array-of r ≡ array-at (a .w .now) (a .at)
 at-token c r e =
     let a = c .before .before .before .args in
-    rw (lt-ltb (a .at) (length (a .w .now)) (c .before .if1 .left)) (ap array-of (sym e ∙ c .token-at .ensures))
+    rw (lt-ltb (a .at) (length (a .w .now)) (c .before .if1 .left)) (ap array-of (sym e ∙ c .any-token .ensures))
 
 enum-told : tie.Need-enum-told
 enum-told c = search needs
@@ -58,7 +58,7 @@ array-at-spec =
     tie.close
     (tie.spec
     returns
-    token-at-requires
+    any-token-requires
     enum-told
     enum-told-2
     enum-known-kind

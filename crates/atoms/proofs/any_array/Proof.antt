@@ -1,0 +1,65 @@
+-- `atoms::any_array` meets its contract: a length that is wrong, or the array of that many bytes.
+-- Assumes nothing.
+use borrow.Author.Needs.{needs}
+use Prim.Native.Nat.{ℕ, suc}
+use mathlib.Core.Path.{_≡_, sym, ap, _∙_}
+use mathlib.Core.List.{List}
+use native.Mathlib.Omega.{arith}
+use native.Mathlib.Numerals.{add-one}
+use lib.ListN.{length, drop}
+use Rattle.spec.specs.Reading.{Taken, and-then, length-expr, as-array}
+use Rattle.laws.proofs.Steps.{all-bytes}
+use Rattle.atoms.specs.Tokens.{shown-atom}
+use Rattle.atoms.specs.declared.Length.the-variants.{Is}
+use Rattle.atoms.proofs.Places.{ToldLength, told-length, told-bytes, array-wrong}
+use Rattle.atoms.proofs.any_array.Statement.{statement}
+use Rattle.atoms.proofs.any_array.Tie as tie
+
+add-length-at : tie.Need-add-length-at
+add-length-at c = search needs
+
+length-at-requires : tie.Need-length-at-requires
+length-at-requires c κs = search needs
+
+enum-known-number : tie.Need-enum-known-number
+enum-known-number c = search needs
+
+enum-known-value : tie.Need-enum-known-value
+enum-known-value c = search needs
+
+-- what was told of the length
+at-length : (c : tie.After-length-at) (v e : ℕ) → c .length-at .result ≡ Is v e
+    → ToldLength (c .before .before .args .s .now) (length-expr 7 (drop (suc (c .before .before .args .at)) (c .before .before .args .s .now))) v e
+at-length c v e told =
+    let a = c .before .before .args in
+    let stream = all-bytes (a .s .now) (λ i. c .before .shared-slice-known .given i .fits) in
+    told-length (a .s .now) (suc (a .at)) v e stream (omega arith) (rw (← add-one (a .at)) (sym (c .length-at .ensures) ∙ told))
+
+bytes-at-requires : tie.Need-bytes-at-requires
+bytes-at-requires c κs = at-length (c .before .before .before) _ _ (c .before .value .given .1) .inside
+
+returns : tie.Need-returns
+returns c =
+    let a = c .before .before .before .before .before .args in
+    let s = a .s .now in
+    sym (array-wrong (a .at) (length s) (length-expr 7 (drop (suc (a .at)) s)) _ _ (rw (← add-one (a .at)) (sym (c .before .before .before .length-at .ensures) ∙ c .before .number .given .1)))
+
+returns-2 : tie.Need-returns-2
+returns-2 c =
+    let a = c .before .before .before .before .before .before .args in
+    let s = a .s .now in
+    let t = at-length (c .before .before .before .before) _ _ (c .before .before .value .given .1) in
+    c .bytes-at .ensures (a .at)
+    ∙ ap (λ (y : Taken (List ℕ)). shown-atom (a .at) (length s) (and-then y as-array)) (told-bytes s _ _ _ (omega arith) t)
+
+pub any-array-spec : {M : Type 1} → statement M
+any-array-spec =
+    tie.close
+    (tie.spec
+    add-length-at
+    length-at-requires
+    enum-known-number
+    enum-known-value
+    bytes-at-requires
+    returns
+    returns-2)
