@@ -1,4 +1,5 @@
 -- What Evaluate answers: a refusal in reading, or what the evaluation of the rows told, with the result put out if there is room.
+-- Document 01: "Evaluate", and "18 last of all". Assumes nothing.
 use Prim.Native.Nat.{ℕ, _+_, _/_, _≤_, _<_}
 use mathlib.Core.Path.{_≡_, sym, ap}
 use mathlib.Core.List.{List, _++_}

@@ -1,4 +1,5 @@
 -- Laws of a scope's entries: packed parts, one more definition, fewer of them, and what a key finds.
+-- Document 01: "the latest visible definition of that marker and name". Assumes nothing.
 use Prim.Native.Nat.{ℕ, zero, suc, _+_, _-_, _≤_, _<_}
 use mathlib.Core.Path.{_≡_, refl, ap}
 use mathlib.Core.List.{List, _∷_}

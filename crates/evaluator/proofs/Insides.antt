@@ -1,4 +1,5 @@
 -- What is inside an expression, evaluated first: what is known there, and what the expression leaves when it is finished or its code was run.
+-- Document 01: "Evaluation goes depth first". Assumes nothing.
 use Prim.Native.Nat.{ℕ, zero, suc, _-_, _≤_, _<_}
 use mathlib.Core.Path.{_≡_, refl, sym, ap, _∙_, subst}
 use mathlib.Core.List.{List}

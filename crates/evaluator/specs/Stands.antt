@@ -1,4 +1,5 @@
 -- When the rows of a table, with their stream, are nodes: what a row has to say of the expression that it is of.
+-- Document 01: "Table". Assumes nothing.
 use Prim.Native.Nat.{ℕ, _+_, _*_, _≤_, _<_}
 use mathlib.Core.Path.{_≡_}
 use mathlib.Core.List.{List}

@@ -1,4 +1,5 @@
 -- Laws of the calls: the ways in which they answer, what they leave in the buffers, and what follows from an acceptance.
+-- Document 01: "The calls". Assumes nothing.
 use Prim.Native.Nat.{ℕ, _*_, _/_, _≤_, _<_, min}
 use mathlib.Core.Path.{_≡_, refl, ap, _∙_}
 use mathlib.Core.List.{List, []}

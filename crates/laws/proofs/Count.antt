@@ -1,4 +1,4 @@
--- Steps: what Evaluate counts, and when it gives refusal 16.
+-- Steps: what Evaluate counts, and when it gives refusal 16. Document 01: "Step count". Assumes nothing.
 use Prim.Native.Nat.{ℕ, zero, suc, _/_, _≤_, _<_, min}
 use mathlib.Core.Path.{_≡_, refl, sym, ap, _∙_}
 use mathlib.Core.List.{List, [], _∷_, map}

@@ -1,4 +1,5 @@
 -- What Write has written and what Evaluate has left: the canonical bytes of a meaning that can be read.
+-- Document 01: "Canonical", "Result". Assumes nothing.
 use Prim.Native.Nat.{ℕ, _+_, _/_, _≤_}
 use mathlib.Core.Path.{_≡_, sym, ap, _∙_}
 use mathlib.Core.Logic.{_↔_}
