@@ -43,7 +43,7 @@ pub record Single (vs : Exprs) : Type 0 where
   pub value : Expr
   pub is : vs ≡ only value
 
-abbrev pub SingleDefined : Defined → Type 0
+abbrev SingleDefined : Defined → Type 0
 SingleDefined (value vs) = Single vs
 SingleDefined (function es) = Unit {0}
 
