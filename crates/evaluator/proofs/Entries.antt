@@ -9,7 +9,6 @@ use lib.ListN.{length, getD, set, drop}
 use lib.Seq.{getD-set-same, getD-set-other}
 use borrow.Author.Tests.{eq-eqb, ne-eqb}
 use Rattle.evaluator.specs.Entries.{pack, packed-from, packed-to, function-bit, Entry, entries-at, find}
-use Rattle.evaluator.specs.declared.scope.Found.{Found}
 use Rattle.evaluator.specs.declared.scope.Found.the-variants.{Value, Function}
 
 -- Packed parts

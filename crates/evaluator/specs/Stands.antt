@@ -7,7 +7,7 @@ use lib.ListN.{length, getD}
 use lib.Seq.{slice}
 use Rattle.spec.specs.Expr.{Atom, if-ref}
 use Rattle.spec.specs.Reading.{atom-kind, row-width}
-use Rattle.spec.specs.Nodes.{is, Node, leaf, branch, Nodes, empty, cons}
+use Rattle.spec.specs.Nodes.{Node, leaf, branch, Nodes, empty, cons}
 use Rattle.laws.specs.Grammar.{SpellsAtom}
 use Rattle.evaluator.specs.declared.rows.Parts.{Parts}
 
