@@ -1,4 +1,4 @@
--- The token at a place by its first byte, as the code gives it: document 01's table of first bytes.
+-- The token at a place by its first byte, as the code gives it: document 01's table of first bytes. Assumes nothing.
 use Prim.Native.Nat.{ℕ, suc, _+_, _-_, _≤_, _<_}
 use mathlib.Core.Path.{_≡_, ap, _∙_}
 use mathlib.Core.List.{List, _∷_}

@@ -1,4 +1,5 @@
 -- What a token that the code was given says of the stream from its place on: the law behind every loop over tokens.
+-- Document 01: "Bytes to expressions". Assumes nothing.
 use Prim.Native.Nat.{ℕ, _+_, _-_, _≤_, _<_}
 use mathlib.Core.Path.{_≡_, refl, sym, ap, _∙_}
 use mathlib.Core.List.{List, [], _∷_, _++_, append-assoc}

@@ -1,5 +1,6 @@
 -- Bytes left and places: what `measured` and `shown` give of bytes that are left from a place on. And lengths as the code takes them: the
 -- bytes 03 first, then the innermost length, then outwards; and held at 65,537. And markers, byte by byte.
+-- Document 01: "A length expression is a small integer or an array", "After 7F, bytes are read up to the first that isn't FF". Assumes nothing.
 use Prim.Native.Nat.{ℕ, zero, suc, _+_, _-_, _*_, _≤_, _<_, min}
 use mathlib.Core.Path.{_≡_, refl, sym, ap, _∙_}
 use mathlib.Core.List.{List, [], _∷_}

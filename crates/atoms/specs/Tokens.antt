@@ -1,4 +1,5 @@
 -- What this crate's functions answer, as `Reading` of the crate `spec` defines it. A definition says "bytes left"; the code says places.
+-- Document 01: "Bytes to expressions". Assumes nothing.
 use Prim.Native.Nat.{ℕ, zero, suc, _-_, min}
 use mathlib.Core.List.{List, [], _∷_}
 use lib.ListN.{length, drop, getD}

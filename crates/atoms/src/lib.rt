@@ -1,4 +1,4 @@
-// What stands at a place of a stream: a form's 01 or 02, a whole atom, or a refusal.
+// What stands at a place of a stream: a form's 01 or 02, a whole atom, or a refusal. Document 01: "Bytes to expressions", refusals 2 to 7.
 ghost use mathlib.Core.Path.{_≡_};
 ghost use Prim.Native.Nat.{ℕ, suc, _-_, _≤_, _<_, min};
 ghost use lib.ListN.{length, take, drop};

@@ -1,5 +1,6 @@
 -- The demands, as theorems about what the public calls answer and leave in their buffers. Above each stands what was demanded, and what it says
 -- for a caller. They follow from the theorems over the definitions, since an answer and its buffers are decided by what the definition answers.
+-- Assumes nothing.
 use Prim.Native.Nat.{ℕ, _*_, _/_, _≤_, _<_}
 use mathlib.Core.Path.{_≡_, refl, sym, ap, _∙_}
 use mathlib.Core.Logic.{_↔_}

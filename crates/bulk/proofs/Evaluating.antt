@@ -1,5 +1,6 @@
 -- What Evaluate answers: a refusal in reading, or what the evaluation of the rows told, with the result put out if there is room.
-use Prim.Native.Nat.{ℕ, _+_, _/_, _≤_, _<_}
+-- Document 01: "Evaluate", and "18 last of all". Assumes nothing.
+use Prim.Native.Nat.{ℕ, _/_, _≤_, _<_}
 use mathlib.Core.Path.{_≡_, sym, ap}
 use mathlib.Core.List.{List, _++_}
 use native.Mathlib.Omega.{arith}
@@ -7,7 +8,7 @@ use lib.ListN.{length, take, drop}
 use lib.Seq.{length-take-le, take-length}
 use borrow.Author.Tests.{lt-ltb, le-ltb}
 use Rattle.spec.specs.Reading.{tokens, rows-of, row-width, Row}
-use Rattle.spec.specs.Calls.{over, filled, put-out, reading, Evaluate}
+use Rattle.spec.specs.Calls.{over, filled, put-out, Evaluate}
 use Rattle.laws.specs.Demands.{meaning-of}
 use Rattle.reader.specs.declared.Checked.the-variants.{Wrong}
 use Rattle.evaluator.specs.Evaluated.{HasRead, Evaluated}

@@ -1,4 +1,4 @@
--- What an answer gives is there: for callers that go on to use the rows, the bytes or the part.
+-- What an answer gives is there: for callers that go on to use the rows, the bytes or the part. Document 01: "The calls". Assumes nothing.
 use Prim.Native.Nat.{ℕ, _+_, _-_, _*_, _≤_, max}
 use mathlib.Core.Path.{_≡_, sym, ap, _∙_}
 use mathlib.Core.List.{List, []}

@@ -1,4 +1,4 @@
--- What the first pass told, and what Read, Write and Item then answer.
+-- What the first pass told, and what Read, Write and Item then answer. Document 01: "Read", "Write" and "Item". Assumes nothing.
 use Prim.Native.Nat.{ℕ, _+_, _*_, _/_, _≤_, _<_}
 use mathlib.Core.Path.{_≡_, refl, sym, ap, _∙_}
 use mathlib.Core.List.{List, [], _++_}

@@ -1,4 +1,5 @@
 -- What the public calls answer: document 01's number and values for each case of an answer that is an enum.
+-- Document 01: "For any answer that is an enum, a definition gives this paper's number and values for each of its cases." Assumes nothing.
 use Prim.Native.Nat.{ℕ, _-_, _≤_}
 use mathlib.Core.Path.{_≡_}
 use mathlib.Core.List.{List, []}

@@ -1,5 +1,5 @@
 -- The words in which the demands are stated of the public calls. A call stands here as its contract has it: the code's answer, and table and
--- output afterwards, that have answered as the definition does.
+-- output afterwards, that have answered as the definition does. Assumes nothing.
 use Prim.Native.Nat.{ℕ}
 use mathlib.Core.Path.{_≡_}
 use mathlib.Core.List.{List}

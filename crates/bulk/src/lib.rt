@@ -1,4 +1,5 @@
-// The public calls. Each answers for every input, and asks nothing of its caller.
+// The public calls: document 01, "The calls" and "How much the contracts must say". Each answers for every input, asks nothing of its caller, and
+// assumes nothing.
 use evaluator::Result;
 use reader::Checked;
 use reader::Found;

@@ -1,4 +1,4 @@
-// What an answer prints.
+// What an answer prints. Assumes the contract that the kit states of C's `write`.
 ghost use Prim.Native.Nat.{_*_, _≤_, _<_};
 ghost use lib.ListN.{length};
 ghost use Rattle.spec.specs.Reading.{row-width};

@@ -1,4 +1,4 @@
-// The calls that requests ask for.
+// The calls that requests ask for. Assumes the contract that the kit states of C's `write`.
 ghost use Prim.Native.Nat.{_≤_};
 ghost use Rattle.text.specs.Size.{buffer-size};
 use crate::answers;

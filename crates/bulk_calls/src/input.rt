@@ -1,4 +1,4 @@
-// Standard input, a byte at a time through a buffer.
+// Standard input, a byte at a time through a buffer. Assumes the contract that the kit states of C's `read`.
 ghost use mathlib.Core.Path.{_≡_};
 ghost use Prim.Native.Nat.{_-_, _≤_};
 use libc::STDIN_FILENO;

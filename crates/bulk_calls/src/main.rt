@@ -1,4 +1,4 @@
-// Answers requests on standard input, one a line, each with a line.
+// Answers requests on standard input, one a line, each with a line. Assumes the contracts that the kit states of C's `read` and `write`.
 mod answers;
 mod calls;
 mod input;

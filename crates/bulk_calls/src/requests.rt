@@ -1,4 +1,4 @@
-// The requests, one a line: a name and its words, parted by single spaces.
+// The requests, one a line: a name and its words, parted by single spaces. Assumes the contract that the kit states of C's `read`.
 ghost use Prim.Native.Nat.{_≤_};
 use crate::input::Input;
 use crate::input::Source;

@@ -1,5 +1,5 @@
 // The words of a request. Each function takes its word and leaves the byte behind it at hand. What can't be taken makes the line no
-// request, and nothing makes it one again.
+// request, and nothing makes it one again. Assumes the contract that the kit states of C's `read`.
 ghost use Prim.Native.Nat.{_-_, _≤_, _<_};
 use crate::input::Input;
 use crate::input::Source;

@@ -1,4 +1,5 @@
-// The program's arguments: how many steps may be taken, and how many bytes of workspace there are.
+// The program's arguments: how many steps may be taken, and how many bytes of workspace there are. Assumes the contracts that the kit states of
+// its calls in C for arguments.
 pub const WORKSPACE_SIZE: usize = 65536;
 
 // Over in a second.

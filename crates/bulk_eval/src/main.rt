@@ -1,4 +1,5 @@
 // Evaluates the stream on standard input and writes the result to standard output, or prints its refusal: bulk_eval [STEPS [WORKSPACE]].
+// Assumes the contracts that the kit states of C's `read` and `write`.
 mod arguments;
 
 use crate::arguments::Bounds;

@@ -1,4 +1,5 @@
-// Lists the rows of the stream on standard input, or prints its refusal.
+// Lists the rows of the stream on standard input, or prints its refusal: document 01, "The listing program".
+// Assumes the contracts that the kit states of C's `read` and `write`.
 ghost use Prim.Native.Nat.{_*_, _≤_};
 ghost use lib.ListN.{length};
 ghost use Rattle.spec.specs.Reading.{row-width};

@@ -1,4 +1,5 @@
 // Writes the stream on standard input canonically to standard output, or prints its refusal.
+// Assumes the contracts that the kit states of C's `read` and `write`.
 use bulk::Answer;
 use libc::STDIN_FILENO;
 use libc::STDOUT_FILENO;

@@ -1,4 +1,5 @@
 -- Laws of an expression's step: what it leaves when its values are completed, its evaluation by its plan, and what each task leaves.
+-- Document 01: "Steps", and "In one expression: 16, 13, 12, 11, 14, 15, 19 (for define, before its value), its contents, then 6, 17." Assumes nothing.
 use Prim.Native.Nat.{ℕ, _+_, _-_, _≤_, _<_}
 use mathlib.Core.Path.{_≡_, refl, sym, _∙_}
 use mathlib.Core.List.{List}

@@ -1,5 +1,6 @@
 -- Lengths that were read, read again from place to place: what stands around a number, which number a plain length is, and that of a
 -- short number's bytes the last three tell. And where an array's bytes begin, by its row.
+-- Document 01: "A generic array may itself be the length of another." Assumes nothing.
 use Prim.Native.Nat.{ℕ, zero, suc, _+_, _-_, _*_, _≤_, _<_, min}
 use mathlib.Core.Path.{_≡_, refl, sym, ap, _∙_, subst}
 use mathlib.Core.List.{List, [], _∷_, _++_, append-assoc}

@@ -1,5 +1,5 @@
 -- Laws of markers row by row: each row of nodes one after the other has a node of its own, and whether a reference among them bears a marker
--- is found in these one by one.
+-- is found in these one by one. Document 01: "marker borne by a reference earlier in the stream". Assumes nothing.
 use Prim.Native.Nat.{ℕ, _+_, _/_, _≤_, _<_}
 use mathlib.Core.Path.{_≡_, refl, sym, ap, _∙_, subst}
 use mathlib.Core.List.{List, [], _∷_, _++_}

@@ -1,4 +1,5 @@
 -- A call: where its code is run, and what it leaves when the code was run.
+-- Document 01: "The arguments are, in order; then the code, with the function's definitions [..] and these arguments." Assumes nothing.
 use Prim.Native.Nat.{ℕ, suc, _+_, _-_, _≤_, _<_}
 use mathlib.Core.Path.{_≡_, refl, sym, ap, _∙_, subst}
 use mathlib.Core.List.{List}

@@ -1,5 +1,6 @@
 -- Laws of completing a value: its bytes written where all that stood there ends, or no room for them; of values that stand in the workspace
 -- already; of an atom and of an `ns` form in the stream; and of a definition's values.
+-- Document 01: "when an expression's value is complete, its canonical length is charged". Assumes nothing.
 use Prim.Native.Nat.{ℕ, suc, _+_, _-_, _≤_, _<_}
 use mathlib.Core.Path.{_≡_, refl, sym, ap, _∙_}
 use mathlib.Core.List.{List, [], _∷_, _++_, append-assoc, append-nil}

@@ -1,4 +1,5 @@
 -- Laws of a scope's entries: packed parts, one more definition, fewer of them, and what a key finds.
+-- Document 01: "the latest visible definition of that marker and name". Assumes nothing.
 use Prim.Native.Nat.{ℕ, zero, suc, _+_, _-_, _≤_, _<_}
 use mathlib.Core.Path.{_≡_, refl, ap}
 use mathlib.Core.List.{List, _∷_}
@@ -8,7 +9,6 @@ use lib.ListN.{length, getD, set, drop}
 use lib.Seq.{getD-set-same, getD-set-other}
 use borrow.Author.Tests.{eq-eqb, ne-eqb}
 use Rattle.evaluator.specs.Entries.{pack, packed-from, packed-to, function-bit, Entry, entries-at, find}
-use Rattle.evaluator.specs.declared.scope.Found.{Found}
 use Rattle.evaluator.specs.declared.scope.Found.the-variants.{Value, Function}
 
 -- Packed parts

@@ -1,4 +1,5 @@
 -- Laws of the evaluation of a whole stream: how its first expression is looked at, how its run begins and ends, and what is answered.
+-- Document 01: "The stream must begin with exactly the six bytes", "Result". Assumes nothing.
 use Prim.Native.Nat.{ℕ, _+_, _-_, _/_, _≤_, _<_, min}
 use mathlib.Core.Path.{_≡_, refl, sym, ap, _∙_}
 use mathlib.Core.List.{List, [], _++_}

@@ -1,4 +1,5 @@
 -- Laws of finishing a form by the values of what is inside it: a data form, a definition, a concat; and whether a code gives one value.
+-- Document 01: the values of data forms, define, concat and calls in "Evaluation". Assumes nothing.
 use Prim.Native.Nat.{ℕ, _+_, _≤_, _<_}
 use mathlib.Core.Path.{_≡_, refl, sym, ap, _∙_}
 use mathlib.Core.List.{List, [], _∷_, _++_}

@@ -1,4 +1,5 @@
 -- Laws of the rules for references and for forms by their head: which rule a key asks for, and what is planned by it.
+-- Document 01: the rules for references and by a form's head in "Evaluation". Assumes nothing.
 use Prim.Native.Nat.{ℕ, _+_, _-_, _≤_, _<_}
 use mathlib.Core.Path.{_≡_, refl, sym, ap, _∙_, subst as along}
 use mathlib.Core.List.{List}

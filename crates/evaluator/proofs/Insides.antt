@@ -1,4 +1,5 @@
 -- What is inside an expression, evaluated first: what is known there, and what the expression leaves when it is finished or its code was run.
+-- Document 01: "Evaluation goes depth first". Assumes nothing.
 use Prim.Native.Nat.{ℕ, zero, suc, _-_, _≤_, _<_}
 use mathlib.Core.Path.{_≡_, refl, sym, ap, _∙_, subst}
 use mathlib.Core.List.{List}
@@ -6,7 +7,7 @@ use native.Mathlib.Omega.{arith}
 use lib.ListN.{length, drop}
 use Rattle.spec.specs.Nodes.{Node, leaf, branch, Nodes, empty, cons, elements}
 use Rattle.spec.specs.Runs.{done, Run}
-use Rattle.spec.specs.Plan.{Scope as Definitions, Place, element, Here, Finish, as-call, inside, plan}
+use Rattle.spec.specs.Plan.{Scope as Definitions, Place, Here, Finish, as-call, inside, plan}
 use Rattle.spec.specs.Evaluation.{Left, Call, finish, eval, run-code}
 use Rattle.laws.specs.Holding.{Held, ceased, hold, and-hold, NotTop, in-list, skip}
 use Rattle.laws.proofs.Holding.{hold-kept, hold-step, hold-inside}

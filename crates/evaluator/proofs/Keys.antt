@@ -1,4 +1,5 @@
 -- Laws of keys: a key says which word a reference is, and it is found in the reference's first byte, its last two and its length.
+-- Document 01: "Names of the core namespace, marker 0x20", "7F (127) and all of these are added up to give the marker". Assumes nothing.
 use Prim.Native.Nat.{ℕ, suc, _+_, _*_, _-_, _/_, _%_, _≤_, _<_}
 use mathlib.Core.Path.{_≡_, refl, sym, ap, _∙_}
 use mathlib.Core.List.{List, [], _∷_, _++_, append-assoc}

@@ -1,4 +1,5 @@
 -- Laws of values made of others that stand in the workspace: the form of values, and the join of two arrays.
+-- Document 01: "The value is the form of the values.", "both arrays; their bytes joined". Assumes nothing.
 use Prim.Native.Nat.{ℕ, suc, _+_, _-_, _≤_, _<_}
 use mathlib.Core.Path.{_≡_, refl, sym, ap, _∙_, subst}
 use mathlib.Core.List.{List, [], _∷_, _++_, append-assoc, append-nil, head-eq-of-cons-eq}

@@ -1,5 +1,5 @@
 -- Laws of the array of namespaces: what is left of it while code goes from the latest to the first, and one more namespace. And of `same`:
--- bytes at two places, one by one, and arrays by their rows.
+-- bytes at two places, one by one, and arrays by their rows. Document 01: "associates ref's marker with id", "id used before". Assumes nothing.
 use Prim.Native.Nat.{ℕ, suc, _+_, _-_, _/_, _%_, _≤_, _<_}
 use mathlib.Core.Path.{_≡_, refl, sym, ap, _∙_}
 use mathlib.Core.List.{List, [], _∷_}

@@ -1,5 +1,5 @@
 -- Laws of `NodeAt` and `NodesAt`: what the row of a node tells of it, and of nodes one after the other, one for each thing that code asks of
--- a row.
+-- a row. Document 01: "Table". Assumes nothing.
 use Prim.Native.Nat.{ℕ, suc, _+_, _-_, _*_, _≤_, _<_}
 use mathlib.Core.Path.{_≡_, refl, sym, ap, _∙_, subst}
 use mathlib.Core.List.{List, [], _∷_, _++_, append-assoc, append-nil}

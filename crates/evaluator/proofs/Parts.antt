@@ -1,4 +1,5 @@
 -- What code finds out of a form by its rows: its head, how many elements it has, and where the second and the third are.
+-- Document 01: "elements in ns, define, concat, arg, rest, counted as written". Assumes nothing.
 use Prim.Native.Nat.{ℕ, _+_, _*_, _≤_, _<_}
 use mathlib.Core.Path.{_≡_, refl, sym, ap, _∙_, subst}
 use mathlib.Core.List.{List}

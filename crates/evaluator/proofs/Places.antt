@@ -1,4 +1,5 @@
 -- Laws of places in the workspace: parts one behind the other, what is written and what that leaves as it was, and a move byte for byte.
+-- Document 01: "Workspace" says how much; where in it is the code's own. Assumes nothing.
 use Prim.Native.Nat.{ℕ, zero, suc, _+_, _-_, _≤_, _<_}
 use mathlib.Core.Path.{_≡_, refl, sym, ap, _∙_}
 use mathlib.Core.List.{List, [], _∷_, _++_, append-assoc, append-nil}

@@ -1,9 +1,9 @@
 -- Laws of the rules: which elements a form has, by its parts; what each rule refuses, in its order, and what it does, by the tests that code
--- makes; and where the arguments of code stand.
+-- makes; and where the arguments of code stand. Document 01: the rules of "Evaluation", refusals 11 to 15 and 19. Assumes nothing.
 use Prim.Native.Nat.{ℕ, zero, suc, _+_, _-_, _/_, _≤_, _<_}
 use mathlib.Core.Path.{_≡_, refl, sym, ap, _∙_, subst}
 use mathlib.Core.List.{List, _++_, append-nil}
-use mathlib.Core.Bool.{Bool, true, false, not, _||_}
+use mathlib.Core.Bool.{Bool, true, false, _||_}
 use lib.ListN.{length, take, drop, getD}
 use lib.Seq.{slice, slice-empty, take-add, drop-append-le, drop-at, length-take-le}
 use lib.Dec.{ltb, leb, eqb}
@@ -206,12 +206,9 @@ module _ (s t : List ℕ) (row : ℕ) where
 
 -- ns
 
--- the rule where the elements are a reference and an array
+-- the rule where the elements behind the head are a reference and an array, whatever their rows
 abbrev ns-rule : List ℕ → Here → ℕ → ℕ → List ℕ → Plan
-ns-rule earlier h m n id =
-    if ltb (length id) 1 || ltb 64 (length id) then refuse 11 else
-    if eqb m core || some (eqb m) earlier || some (λ k. same (k .id) id) (h .namespaces) then refuse 14 else
-    if leb 64 (length (h .namespaces)) then refuse 19 else associate m n id
+ns-rule earlier h m n id = plan-ns (top earlier) (cons (leaf 0 nil) (cons (leaf 0 (ref m n)) (cons (leaf 0 (array id)) empty))) h
 
 -- what stands behind a head that is a reference
 behind-reference : (s t : List ℕ) (r : ℕ) (e : Node) (es : Nodes) → NodeAt s t r e → head-word (cons e es) ≡ ns → next t r ≡ r + 1
@@ -312,14 +309,9 @@ module _ (s t : List ℕ) (row m n : ℕ) (id : List ℕ) (a b : ℕ) (head : No
 
 -- define
 
--- the rule where the first of the two is a reference
+-- the rule where the first of the two is a reference, whatever its row
 abbrev definition-rule : Here → Node → ℕ → ℕ → Plan
-definition-rule h v m n =
-    if headed-by rest v then refuse 11 else
-    if eqb m core || not (some (λ k. eqb (k .marker) m) (h .namespaces)) then refuse 14 else
-    if leb 256 (length (h .scope)) then refuse 19 else
-    if headed-by substitution v then define-function (record { marker = m; name = n; content = function (tail (elements v)) }) else
-    inside 2 inner (as-definition m n)
+definition-rule h v m n = plan-definition (cons (leaf 0 nil) (cons (leaf 0 (ref m n)) (cons v empty))) h
 
 pub definition-count : (es : Nodes) (h : Here) → (parts-of es .count ≡ 3 → ⊥) → plan-definition es h ≡ refuse 11
 definition-count es h k = not-two es (λ a v. expect-ref a (definition-rule h v)) k

@@ -1,5 +1,6 @@
 -- Laws of the visible definitions, as a scope's entries show them: what a key finds against what a name finds, and that a part of the
 -- workspace elsewhere may change. And the same of the arguments.
+-- Document 01: "a list of definitions that are visible at each place". Assumes nothing.
 use Prim.Native.Nat.{ℕ, zero, suc, _+_, _-_, _≤_, _<_}
 use mathlib.Core.Path.{_≡_, refl, sym, ap, _∙_, subst}
 use mathlib.Core.List.{List, [], _∷_, map}

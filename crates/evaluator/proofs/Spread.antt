@@ -1,4 +1,5 @@
 -- Where values stand one after the other, and that the places are packed: the law behind the loop of `forms::spread`.
+-- Document 01: "argument n", "the arguments without the first n". Assumes nothing.
 use Prim.Native.Nat.{ℕ, _+_, _-_, _≤_, _<_}
 use mathlib.Core.Path.{_≡_, refl, sym, ap, _∙_, subst}
 use mathlib.Core.List.{List, [], _++_, append-assoc, append-nil}

@@ -1,5 +1,5 @@
 -- The rows that reading leaves in a table are the nodes of what it read: the rows and the bytes of every expression, from the first to the
--- last.
+-- last. Document 01: "Table". Assumes nothing.
 use Prim.Native.Nat.{ℕ, _+_, _*_, _≤_, _<_}
 use mathlib.Core.Path.{_≡_, refl, sym, ap, _∙_, subst}
 use mathlib.Core.List.{List, [], _∷_, _++_, append-assoc, append-nil}

@@ -1,5 +1,6 @@
 -- How a list goes on: what is known before each of its expressions, and what one expression leaves of it, on lists and numbers alone.
-use Prim.Native.Nat.{ℕ, _+_, _-_, _≤_, _<_}
+-- Document 01: "Evaluation goes depth first, left to right, over a list of definitions". Assumes nothing.
+use Prim.Native.Nat.{ℕ, _≤_, _<_}
 use mathlib.Core.Path.{_≡_, refl, sym, ap, _∙_, subst}
 use mathlib.Core.List.{List, _∷_, _++_, append-nil}
 use mathlib.Core.Bool.{Bool, true, false, _||_}

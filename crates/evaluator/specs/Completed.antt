@@ -1,6 +1,6 @@
 -- What completing a value does to the workspace. Values stand in it as their canonical bytes, in two stacks: from its start up to `top` the
 -- finished values of all open lists, one after the other; from `floor` to its end the values of visible definitions. What is held has been
--- charged, so that a charge that fits is room enough.
+-- charged, so that a charge that fits is room enough. Document 01: "Workspace". Assumes nothing.
 use Prim.Native.Nat.{ℕ, _+_, _-_, _≤_, _<_}
 use mathlib.Core.Path.{_≡_}
 use mathlib.Core.List.{List, _++_}

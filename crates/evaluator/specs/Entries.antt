@@ -1,4 +1,5 @@
 -- What a scope holds: of each visible definition a key and a number, and what a key finds.
+-- Document 01: "a list of definitions that are visible at each place". Assumes nothing.
 use Prim.Native.Nat.{ℕ, zero, suc, _+_, _-_, _*_, _/_, _%_}
 use mathlib.Core.List.{List, [], _∷_}
 use lib.ListN.{length, getD}

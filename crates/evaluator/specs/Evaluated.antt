@@ -1,4 +1,4 @@
--- What the evaluation of a stream that was read answers, against `Evaluate` of the crate `spec`.
+-- What the evaluation of a stream that was read answers, against `Evaluate` of the crate `spec`. Document 01: "Evaluate". Assumes nothing.
 use Prim.Native.Nat.{ℕ, _-_, _≤_, _<_}
 use mathlib.Core.Path.{_≡_}
 use mathlib.Core.List.{List}

@@ -1,4 +1,5 @@
 -- What the code asks of each of two values that it joins: whether it is an array, and where its bytes are.
+-- Document 01: "both evaluated, both arrays; their bytes joined". Assumes nothing.
 use Prim.Native.Nat.{ℕ}
 use mathlib.Core.List.{List}
 use lib.ListN.{length}

@@ -1,4 +1,4 @@
--- Where a length expression of a stream ends.
+-- Where a length expression of a stream ends. Document 01: "A length expression is a small integer or an array". Assumes nothing.
 use Prim.Native.Nat.{ℕ, _-_, _≤_}
 use mathlib.Core.Path.{_≡_}
 use mathlib.Core.List.{List}

@@ -1,5 +1,5 @@
 -- What the evaluator's functions know and answer, against `Evaluation` of the crate `spec`: the run held to the steps and the workspace that
--- are left.
+-- are left. Document 01: "Evaluation", "Steps" and "Workspace". Assumes nothing.
 use Prim.Native.Nat.{ℕ, _+_, _-_, _≤_, _<_}
 use mathlib.Core.Path.{_≡_}
 use mathlib.Core.List.{List}

@@ -1,4 +1,4 @@
--- What the array of namespaces holds.
+-- What the array of namespaces holds. Document 01: "associates ref's marker with id". Assumes nothing.
 use Prim.Native.Nat.{ℕ, _+_, _*_}
 use mathlib.Core.Path.{_≡_}
 use mathlib.Core.List.{List, [], _∷_}

@@ -1,5 +1,5 @@
--- What is known of an expression when its step is taken and its task is to be carried out.
-use Prim.Native.Nat.{ℕ, _+_, _-_, _≤_, _<_}
+-- What is known of an expression when its step is taken and its task is to be carried out. Document 01: "Steps". Assumes nothing.
+use Prim.Native.Nat.{ℕ, _+_, _≤_, _<_}
 use mathlib.Core.Path.{_≡_}
 use mathlib.Core.List.{List}
 use lib.ListN.{length}

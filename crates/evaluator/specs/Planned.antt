@@ -1,4 +1,5 @@
 -- What the planner knows of the place where an expression is evaluated, and what it answers, against `Plan` of the crate `spec`.
+-- Document 01: the rules of "Evaluation". Assumes nothing.
 use Prim.Native.Nat.{ℕ, _+_, _-_, _≤_, _<_}
 use mathlib.Core.Path.{_≡_}
 use mathlib.Core.List.{List, [], _∷_}

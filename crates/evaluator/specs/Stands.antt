@@ -1,4 +1,5 @@
 -- When the rows of a table, with their stream, are nodes: what a row has to say of the expression that it is of.
+-- Document 01: "Table". Assumes nothing.
 use Prim.Native.Nat.{ℕ, _+_, _*_, _≤_, _<_}
 use mathlib.Core.Path.{_≡_}
 use mathlib.Core.List.{List}
@@ -6,7 +7,7 @@ use lib.ListN.{length, getD}
 use lib.Seq.{slice}
 use Rattle.spec.specs.Expr.{Atom, if-ref}
 use Rattle.spec.specs.Reading.{atom-kind, row-width}
-use Rattle.spec.specs.Nodes.{is, Node, leaf, branch, Nodes, empty, cons}
+use Rattle.spec.specs.Nodes.{Node, leaf, branch, Nodes, empty, cons}
 use Rattle.laws.specs.Grammar.{SpellsAtom}
 use Rattle.evaluator.specs.declared.rows.Parts.{Parts}
 

@@ -1,4 +1,5 @@
 // Where an array's bytes begin. Its length was read before, and however long that is written, it is not read whole again.
+// Document 01: "generic array".
 use crate::rows::start;
 ghost use mathlib.Core.Path.{_≡_};
 ghost use mathlib.Core.List.{List};

@@ -1,4 +1,4 @@
-// One expression: its step, its rule, and what it leaves. Nothing here evaluates what is inside it.
+// One expression: its step, its rule, and what it leaves. Nothing here evaluates what is inside it. Document 01: "Steps", refusal 16.
 use crate::forms;
 use crate::plan;
 use crate::plan::After;

@@ -1,4 +1,4 @@
-// Values made of others: forms, the join of two arrays; and where arguments stand.
+// Values made of others: forms, the join of two arrays; and where arguments stand. Document 01: "The value is the form of the values.", refusal 6.
 use crate::moves;
 use crate::scope;
 use crate::values;

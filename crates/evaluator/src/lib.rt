@@ -1,4 +1,4 @@
-// The evaluator: a stream whose rows are in a table, evaluated in a workspace.
+// The evaluator: a stream whose rows are in a table, evaluated in a workspace. Document 01: "Evaluate", refusals 9 and 10.
 mod arrays;
 mod element;
 mod forms;

@@ -1,4 +1,4 @@
-// The namespaces that are associated: of each its marker, and the row of its id.
+// The namespaces that are associated: of each its marker, and the row of its id. Document 01: `( ns ref id )`.
 use crate::arrays;
 use crate::rows;
 ghost use mathlib.Core.Path.{_≡_};

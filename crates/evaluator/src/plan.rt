@@ -1,4 +1,5 @@
 // What is to be done with an expression whose step is taken: the refusals 13, 12, 11, 14, 15, 19, and the rule that applies. Nothing here writes.
+// Document 01: the rules of "Evaluation".
 use crate::arrays;
 use crate::namespaces;
 use crate::rows;

@@ -1,4 +1,4 @@
-// What a table's rows say of the expressions of a stream.
+// What a table's rows say of the expressions of a stream. Document 01: "Table".
 use reader::ROW_WIDTH;
 ghost use mathlib.Core.Path.{_≡_};
 ghost use mathlib.Core.Bool.{not};

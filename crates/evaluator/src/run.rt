@@ -1,4 +1,5 @@
 // The recursive evaluator: a list of expressions, and the code of a call. The steps that are left fall at each call of `list`.
+// Document 01: "depth first, left to right".
 use crate::element;
 use crate::element::Left;
 use crate::element::Step;

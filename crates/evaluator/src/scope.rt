@@ -1,4 +1,4 @@
-// The visible definitions, by value.
+// The visible definitions, by value. Document 01: "a list of definitions that are visible at each place".
 ghost use mathlib.Core.Path.{_≡_};
 ghost use mathlib.Core.List.{[], _∷_};
 ghost use Prim.Native.Nat.{_+_, _-_, _≤_, _<_};

@@ -1,4 +1,5 @@
 // Values as canonical bytes in the workspace: the finished ones from its start up to `top`, those of visible definitions from `floor` to its end.
+// Document 01: "Workspace", refusal 17.
 use crate::arrays;
 use crate::moves;
 use crate::rows;

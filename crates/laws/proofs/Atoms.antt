@@ -1,5 +1,5 @@
 -- Laws of `read-atom`: an atom that is read fits and has no more canonical bytes than it was written with, a refusal's place is in the
--- stream, and the canonical bytes of an atom that fits are read as that atom.
+-- stream, and the canonical bytes of an atom that fits are read as that atom. Document 01: "Bytes to expressions", "Canonical". Assumes nothing.
 use Prim.Native.Nat.{ℕ, zero, suc, _+_, _-_, _*_, _/_, _≤_, _<_}
 use mathlib.Core.Path.{_≡_, refl, ap}
 use mathlib.Core.List.{List, [], _∷_, _++_}

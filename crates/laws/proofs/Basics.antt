@@ -1,4 +1,4 @@
--- What follows from two constructors that would be equal: `cc` proves 0 ≡ 1 from such an equation.
+-- What follows from two constructors that would be equal: `cc` proves 0 ≡ 1 from such an equation. Assumes nothing.
 use Prim.Native.Nat.{ℕ}
 use mathlib.Core.Path.{_≡_}
 use native.Mathlib.Omega.{arith}

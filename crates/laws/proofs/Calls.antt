@@ -1,4 +1,5 @@
 -- Laws of the calls: the ways in which they answer, what they leave in the buffers, and what follows from an acceptance.
+-- Document 01: "The calls". Assumes nothing.
 use Prim.Native.Nat.{ℕ, _*_, _/_, _≤_, _<_, min}
 use mathlib.Core.Path.{_≡_, refl, ap, _∙_}
 use mathlib.Core.List.{List, []}
@@ -35,7 +36,7 @@ put-out-is bs k t o = go (ltb (length o) (length bs)) refl
     go true e = too-short (ltb-true (length o) (length bs) e)
     go false e = fits (ltb-false (length o) (length bs) e)
 
-pub put-out-room : (bs : List ℕ) (k : ℕ) (t o : List ℕ) → length bs ≤ length o → put-out bs k t o ≡ acceptance (length bs) k t (over bs o)
+put-out-room : (bs : List ℕ) (k : ℕ) (t o : List ℕ) → length bs ≤ length o → put-out bs k t o ≡ acceptance (length bs) k t (over bs o)
 unfolding put-out
 put-out-room bs k t o h = rw (le-ltb (length o) (length bs) h)
 
@@ -59,7 +60,7 @@ refusal-kept : (w p : ℕ) (t o u : List ℕ) → length t ≡ length u → Kept
 refusal-kept w p t o u h = record { tables = h; outputs = refl; refused = λ z. refl }
 
 -- the rows have room in the table
-pub filled-length : (s t : List ℕ) (rs : List Row) (es : Exprs) → reading s t ≡ readable rs es → length (filled rs t) ≡ length t
+filled-length : (s t : List ℕ) (rs : List Row) (es : Exprs) → reading s t ≡ readable rs es → length (filled rs t) ≡ length t
 filled-length s t rs es e =
     let r = read-readable s (length t / 4) rs es e in
     let size : length rs ≡ length (rows-of (tokens 0 0 s)) = ap length (r .rows-are) in

@@ -1,4 +1,5 @@
 -- Laws of the canonical bytes: the shapes of an array's head and of a marker, appended lists, and that they are bytes.
+-- Document 01: "Canonical". Assumes nothing.
 use Prim.Native.Nat.{ℕ, zero, suc, _+_, _-_, _/_, _%_, _≤_, _<_}
 use mathlib.Core.Path.{_≡_, refl}
 use mathlib.Core.List.{List, [], _∷_, _++_, append-assoc}

@@ -1,4 +1,5 @@
 -- What a run leaves has been charged: the canonical bytes of the result are no more than what the run charges in all.
+-- Document 01: "Workspace". Assumes nothing.
 use Prim.Native.Nat.{ℕ, _+_, _≤_}
 use mathlib.Core.Path.{_≡_, refl}
 use mathlib.Core.List.{List, [], _∷_, _++_}

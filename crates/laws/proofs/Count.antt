@@ -1,4 +1,4 @@
--- Steps: what Evaluate counts, and when it gives refusal 16.
+-- Steps: what Evaluate counts, and when it gives refusal 16. Document 01: "Step count". Assumes nothing.
 use Prim.Native.Nat.{ℕ, zero, suc, _/_, _≤_, _<_, min}
 use mathlib.Core.Path.{_≡_, refl, sym, ap, _∙_}
 use mathlib.Core.List.{List, [], _∷_, map}
@@ -22,7 +22,7 @@ use Rattle.laws.proofs.Calls.{Put, too-short, fits, put-out-is, Way, un
 use Rattle.laws.proofs.Results.{ran, ran-means}
 
 -- a refusal counts nothing
-abbrev pub CountsNothing : Answer → Type 0
+abbrev CountsNothing : Answer → Type 0
 CountsNothing a = (a .number ≡ 0 → ⊥) → a .steps ≡ 0
 
 put-counted : {bs : List ℕ} {k : ℕ} {t o : List ℕ} {a : Answer} → Put bs k t o a → CountsNothing a
@@ -40,7 +40,7 @@ way-counted s t (wrong-version rs es e x y) l h = refl
 way-counted s t (runs rs es e x y) l h =
     end-counted rs _ (filled rs t) (l .output) (cut (l .steps) (min (l .work) 65536) (run es .events) (run es .end)) h
 
-pub refused-counted : (s : List ℕ) (l : Lent) → CountsNothing (evaluation s l)
+refused-counted : (s : List ℕ) (l : Lent) → CountsNothing (evaluation s l)
 refused-counted s l = rw (evaluation-answered s l (way s (l .table))) (way-counted s (l .table) (way s (l .table)) l)
 
 -- Refusal 16
@@ -138,7 +138,7 @@ sixteen-short s l b h =
     rw (steps-stepped s (l .table) y (l .work)) (way-sixteen s (l .table) y l b (rw (evaluation-answered s l y) at h))
 
 -- an accepted evaluation takes all the steps that the rules take
-pub ran-all-steps : (s : List ℕ) (l : Lent) → evaluation s l .number ≡ 0 → (r : Ran s l)
+ran-all-steps : (s : List ℕ) (l : Lent) → evaluation s l .number ≡ 0 → (r : Ran s l)
     → steps-in (run (r .meaning) .events) ≡ length (all-steps s l)
 ran-all-steps s l h r = go (way s (l .table))
   where

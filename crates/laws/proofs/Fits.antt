@@ -1,5 +1,5 @@
 -- Laws of `Bytes`. And which expressions have canonical bytes that can be read back, depth and length apart: those in which the numbers
--- are small enough.
+-- are small enough. Document 01: "Canonical". Assumes nothing.
 use Prim.Native.Nat.{ℕ, zero, suc, _≤_, _<_}
 use mathlib.Core.List.{List, [], _∷_, _++_}
 use lib.ListN.{take, drop}

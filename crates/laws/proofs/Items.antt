@@ -1,5 +1,5 @@
 -- Where the rows of spelled expressions are: the row of an expression has its kind and goes from its first byte to one past its last. So
--- what Item gives spells the expression that was asked for.
+-- what Item gives spells the expression that was asked for. Document 01: "Table", "Item". Assumes nothing.
 use Prim.Native.Nat.{ℕ, zero, suc, _+_, _≤_, _<_}
 use mathlib.Core.Path.{_≡_, refl, sym, ap, _∙_}
 use mathlib.Core.List.{List, [], _∷_, _++_, append-assoc, append-nil}

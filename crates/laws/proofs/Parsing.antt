@@ -1,4 +1,5 @@
 -- `read` is the parser of the grammar: a stream that is read as some expressions spells them. Where their rows are, and what Item gives.
+-- Document 01: "Bytes to expressions". Assumes nothing.
 use Prim.Native.Nat.{ℕ, _+_, _-_, _≤_}
 use mathlib.Core.Path.{_≡_, refl, sym, ap, _∙_, subst}
 use mathlib.Core.List.{List, [], _∷_, _++_, append-assoc}

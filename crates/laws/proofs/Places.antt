@@ -1,4 +1,5 @@
 -- Where rows and refusals are: rows in order and in the stream, and no place past the stream's end.
+-- Document 01: "Table", and the column "Place" of "Numbers given instead". Assumes nothing.
 use Prim.Native.Nat.{ℕ, _/_, _≤_, _<_, min}
 use mathlib.Core.Path.{_≡_}
 use mathlib.Core.List.{List, []}

@@ -1,5 +1,5 @@
 -- The first q expressions of the top level leave the same whatever follows them: the run of these alone ends as the whole run does. And
--- laws of `result`.
+-- laws of `result`. Document 01: "For demand 3". Assumes nothing.
 use Prim.Native.Nat.{ℕ, zero, suc, _+_}
 use mathlib.Core.Path.{_≡_, refl, ap, _∙_}
 use mathlib.Core.List.{List, [], _∷_, _++_}

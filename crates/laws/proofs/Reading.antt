@@ -1,4 +1,5 @@
 -- Laws of `read`: what holds of a meaning that was read, and that the canonical bytes of such a meaning are read as that meaning.
+-- Document 01: "Bytes to expressions", "Canonical". Assumes nothing.
 use Prim.Native.Nat.{ℕ, zero, suc, _+_, _-_, _≤_}
 use mathlib.Core.Path.{_≡_, refl, sym, ap, _∙_, subst}
 use mathlib.Core.Logic.{_⊎_, inl, inr}
@@ -92,7 +93,7 @@ read-readable s room rs es h = go (ltb 65536 (length s)) refl (check (length s) 
     go false e right k h = record { short = ltb-false 65536 (length s) e; passes = k; rows-are = cc; means = cc }
     go false e (wrong w p) k h = impossible (cc)
 
-pub readable-read : (s : List ℕ) (room : ℕ) → length s ≤ 65536 → check (length s) room (tokens 0 0 s) 0 0 ≡ right
+readable-read : (s : List ℕ) (room : ℕ) → length s ≤ 65536 → check (length s) room (tokens 0 0 s) 0 0 ≡ right
     → read s room ≡ readable (rows-of (tokens 0 0 s)) (meaning-of s)
 unfolding read
 readable-read s room h k = rw (le-ltb 65536 (length s) h, k)

@@ -1,4 +1,5 @@
 -- What Write has written and what Evaluate has left: the canonical bytes of a meaning that can be read.
+-- Document 01: "Canonical", "Result". Assumes nothing.
 use Prim.Native.Nat.{ℕ, _+_, _/_, _≤_}
 use mathlib.Core.Path.{_≡_, sym, ap, _∙_}
 use mathlib.Core.Logic.{_↔_}
@@ -83,7 +84,7 @@ module _ (s : List ℕ) (l : Lent) (stream : Bytes s) (accepted : evaluation s l
   pub ran-means : ran .meaning ≡ meaning-of s
   ran-means = read-readable s (length (l .table) / 4) (ran .rows) (ran .meaning) (ran .reads) .means
 
-  pub ran-ends : run (meaning-of s) .end ≡ done (ran .left)
+  ran-ends : run (meaning-of s) .end ≡ done (ran .left)
   ran-ends = rw (← ran-means) (ran .within .ends)
 
   left-values : result (ran .left) ≡ values-of s
@@ -113,7 +114,7 @@ module _ (s : List ℕ) (l : Lent) (stream : Bytes s) (accepted : evaluation s l
       → read (result-bytes (evaluation s l)) room ≡ readable (rows-of (tokens 0 0 (result-bytes (evaluation s l)))) (values-of s)
   left-reads room h = rw left-canonical (read-canonical (values-of s) room (left-fits .0) (left-fits .1) left-short h)
 
-  pub left-begins : (q : ℕ) → Begins (result-bytes (evaluation s l)) (bytes-of-first q s)
+  left-begins : (q : ℕ) → Begins (result-bytes (evaluation s l)) (bytes-of-first q s)
   left-begins q =
       let ls = left-by (run (meaning-of s) .end) in record {
         back = canonical (result (drop q ls));

@@ -1,5 +1,5 @@
 -- Two calls with one stream and with tables of equal length: with all else no smaller the second time, and with buffers that differ only in what
--- they held before.
+-- they held before. Demand 3. Assumes nothing.
 use Prim.Native.Nat.{ℕ, _*_, _/_, _≤_, min}
 use mathlib.Core.Path.{_≡_, refl, sym, ap, _∙_}
 use mathlib.Core.List.{List, []}

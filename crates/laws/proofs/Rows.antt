@@ -1,5 +1,5 @@
 -- Laws of `rows-of`, for tokens that are right and laid out: how many rows there are, that they stand in the order of their starts, and
--- that each starts before it ends and ends in the stream. And laws of `next-row` and `numbers`, for any rows.
+-- that each starts before it ends and ends in the stream. And laws of `next-row` and `numbers`, for any rows. Document 01: "Table". Assumes nothing.
 use Prim.Native.Nat.{ℕ, zero, suc, _+_, _-_, _*_, _≤_, _<_}
 use mathlib.Core.Path.{_≡_, refl}
 use mathlib.Core.List.{List, [], _∷_}

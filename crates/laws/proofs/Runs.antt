@@ -1,5 +1,5 @@
 -- Laws of `bind`: how a run in two parts ends. Laws of `cut`: more room changes nothing but refusals 16 and 17; what an accepted run
--- took; when 16 is given.
+-- took; when 16 is given. Document 01: "Step count". Assumes nothing.
 use Prim.Native.Nat.{ℕ, zero, suc, _+_, _-_, _≤_, _<_}
 use mathlib.Core.Path.{_≡_, refl, sym}
 use mathlib.Core.List.{List, [], _∷_}

@@ -1,5 +1,6 @@
 -- What evaluation leaves of where it happens: in which places the namespaces and the definitions stay the same. And an invariant: a
 -- definition that is no function has one value.
+-- Document 01: "The definition is visible to what follows in the same list [..] and ends with that list." Assumes nothing.
 use Prim.Native.Nat.{ℕ, zero, suc, _<_}
 use mathlib.Core.Path.{_≡_, refl, ap, _∙_}
 use mathlib.Core.List.{List, [], _∷_, _++_}
@@ -42,7 +43,7 @@ pub record Single (vs : Exprs) : Type 0 where
   pub value : Expr
   pub is : vs ≡ only value
 
-abbrev pub SingleDefined : Defined → Type 0
+abbrev SingleDefined : Defined → Type 0
 SingleDefined (value vs) = Single vs
 SingleDefined (function es) = Unit {0}
 

@@ -1,5 +1,5 @@
 -- Laws of `read-atom` over the grammar: the bytes that spell an atom are read as that atom, and an atom that is read is spelled by the
--- bytes that it was read from.
+-- bytes that it was read from. Document 01: "Bytes to expressions". Assumes nothing.
 use Prim.Native.Nat.{ℕ, zero, suc, _+_, _-_, _*_, _/_, _%_, _≤_, _<_}
 use mathlib.Core.Path.{_≡_, refl, sym, ap, _∙_, subst}
 use mathlib.Core.List.{List, [], _∷_, _++_, append-assoc}

@@ -1,4 +1,5 @@
 -- A stream read from place to place, as code does it: what the token at a place says of the tokens from that place on.
+-- Document 01: "Bytes to expressions". Assumes nothing.
 use Prim.Native.Nat.{ℕ, suc, _+_, _-_, _≤_, _<_}
 use mathlib.Core.Path.{_≡_, refl, sym, ap, _∙_, subst}
 use mathlib.Core.List.{List, [], _∷_, _++_}

@@ -1,5 +1,5 @@
 -- The demands, as theorems over the definitions of the crate `spec`, in the words of specs/Demands. Above each stands what was demanded. A
--- stream is a list of bytes (`Bytes`); whatever is said of a table or an output is said for all lengths and contents.
+-- stream is a list of bytes (`Bytes`); whatever is said of a table or an output is said for all lengths and contents. Assumes nothing.
 use Prim.Native.Nat.{ℕ, _+_, _*_, _/_, _≤_, _<_}
 use mathlib.Core.Path.{_≡_, ap, _∙_}
 use mathlib.Core.Logic.{_↔_}

@@ -1,4 +1,5 @@
 -- Laws of `tokens` and `check`: how the tokens of a stream lie in it, and what holds of tokens that are right.
+-- Document 01: "Bytes to expressions", refusals 2 to 7. Assumes nothing.
 use Prim.Native.Nat.{ℕ, zero, suc, _+_, _-_, _≤_, _<_}
 use mathlib.Core.Path.{_≡_, refl, ap, subst}
 use mathlib.Core.Logic.{_⊎_, inl, inr}

@@ -1,5 +1,6 @@
 -- An invariant of evaluation. If the stream's expressions fit, so do those of the result, and none has over 64 forms one inside another;
 -- every row that the run names is a row of the stream, and it stops only with the numbers of the rules.
+-- Document 01: "a value with over 64 forms one inside another". Assumes nothing.
 use Prim.Native.Nat.{ℕ, zero, suc, _+_, _≤_, _<_}
 use mathlib.Core.Path.{_≡_, refl}
 use mathlib.Core.List.{List, [], _∷_, _++_}
@@ -66,7 +67,7 @@ not-rule n p q = impossible (cc)
 -- What is so in a stream of so many rows
 module _ (bound : ℕ) where
   -- a rule's number, at a row of the stream
-  abbrev pub Stops : ℕ → ℕ → Type 0
+  abbrev Stops : ℕ → ℕ → Type 0
   Stops w r = RuleNumber w × (r < bound)
 
   -- a run that names rows of the stream and stops only as a rule says; P holds of its result
@@ -100,7 +101,7 @@ module _ (bound : ℕ) where
     step-goes : {r : ℕ} {run : Run A} → r < bound → Goes P run → Goes P (before (step r) run)
     step-goes p g = record { rows-below = (p, g .rows-below); holds = g .holds }
 
-  pub goes-proper : {A : Type 0} {P : A → Type 0} {run : Run A} → Goes P run → Proper bound run
+  goes-proper : {A : Type 0} {P : A → Type 0} {run : Run A} → Goes P run → Proper bound run
   goes-proper g = record { rows-below = g .rows-below; stops = λ w r p. rw p at (g .holds) }
 
   -- nodes that fit, at rows of the stream
@@ -134,14 +135,14 @@ module _ (bound : ℕ) where
 
   -- Where an expression is evaluated: values and arguments are sound, and code fits
 
-  abbrev pub SoundDefined : Defined → Type 0
+  abbrev SoundDefined : Defined → Type 0
   SoundDefined (value vs) = Sound vs
   SoundDefined (function es) = FitsNodes es
 
   abbrev pub SoundScope : Scope → Type 0
   SoundScope = EachDefined SoundDefined
 
-  abbrev pub SoundArguments : Arguments → Type 0
+  abbrev SoundArguments : Arguments → Type 0
   SoundArguments outside = Unit {0}
   SoundArguments (given vs) = Sound vs
 
@@ -153,7 +154,7 @@ module _ (bound : ℕ) where
 
   -- Plans: what is to be done for an expression that fits
 
-  abbrev pub SoundFinish : Finish → Type 0
+  abbrev SoundFinish : Finish → Type 0
   SoundFinish as-form = Unit {0}
   SoundFinish (as-definition m n) = Unit {0}
   SoundFinish as-concat = Unit {0}
@@ -277,7 +278,7 @@ module _ (bound : ℕ) where
       (λ m n f. search (if-sound, refuses, plan-reference-sound (look-up m n ds) a (look-up-sound m n ds s) g))
       (leaves (atom-sound a g))
 
-  pub plan-sound : (e : Node) (h : Here) → FitsNode e → SoundHere h → SoundPlan (plan e h)
+  plan-sound : (e : Node) (h : Here) → FitsNode e → SoundHere h → SoundPlan (plan e h)
   plan-sound (leaf r a) h f s = plan-atom-sound a (h .scope) (f .1) (s .0)
   plan-sound (branch r es) h f s = plan-form-sound (head-word es) es h (f .1) s
 
@@ -291,10 +292,10 @@ module _ (bound : ℕ) where
 
   -- Evaluation: an expression that fits leaves sound values, and what follows is evaluated where all is sound too
 
-  abbrev pub SoundLeft : Left → Type 0
+  abbrev SoundLeft : Left → Type 0
   SoundLeft left = Sound (left .values) × SoundHere (left .here)
 
-  abbrev pub SoundMeaning : Meaning → Type 0
+  abbrev SoundMeaning : Meaning → Type 0
   SoundMeaning m = (h : Here) → SoundHere h → Goes SoundLeft (m h)
 
   abbrev SoundMeanings : List Meaning → Type 0
@@ -327,7 +328,7 @@ module _ (bound : ℕ) where
       bind-goes (m .0 h s) λ left l. bind-goes (in-order-sound es (left .here) (m .1) (l .1))
       λ later k. give-goes (append-sound (left .values) (later .values) (l .0) (k .0), k .1)
 
-  abbrev pub SoundCall : Call → Type 0
+  abbrev SoundCall : Call → Type 0
   SoundCall call = (r : ℕ) (code : Nodes) (h : Here) → r < bound → FitsNodes code → SoundHere h → Goes SoundLeft (call r code h)
 
   module _ (call : Call) (calls : SoundCall call) where
@@ -371,7 +372,7 @@ module _ (bound : ℕ) where
       in-order-sound (eval-all (run-code k) code) h (eval-all-sound (run-code k) (run-code-sound k) code f) s
 
   module _ (k : ℕ) where
-    pub in-list-sound : (es : Nodes) (p : Place) (h : Here) → FitsNodes es → SoundHere h → Goes SoundLeft (in-list (run-code k) es p h)
+    in-list-sound : (es : Nodes) (p : Place) (h : Here) → FitsNodes es → SoundHere h → Goes SoundLeft (in-list (run-code k) es p h)
     unfolding in-list
     in-list-sound empty p h f s = give-goes (none-sound, s)
     in-list-sound (cons e es) p h f s =

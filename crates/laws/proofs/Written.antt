@@ -1,4 +1,5 @@
 -- The canonical bytes token by token: those of the tokens of a stream, one after the other, are those of its meaning.
+-- Document 01: "Canonical". Assumes nothing.
 use Prim.Native.Nat.{ℕ, _+_, _-_, _≤_}
 use mathlib.Core.Path.{_≡_, refl, sym, ap, _∙_}
 use mathlib.Core.List.{List, [], _∷_, _++_, append-assoc, append-nil}

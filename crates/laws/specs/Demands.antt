@@ -1,4 +1,4 @@
--- Document 01, "For demand 3" and "Step count": the words in which the demands are stated.
+-- Document 01, "For demand 3" and "Step count": the words in which the demands are stated. Assumes nothing.
 use Prim.Native.Nat.{ℕ, _-_, _*_, _≤_, _<_, min}
 use mathlib.Core.Path.{_≡_}
 use mathlib.Core.List.{List, [], _∷_, _++_, map}

@@ -1,5 +1,5 @@
 -- Document 01, "Bytes to expressions", once more: which bytes spell which expressions, as a grammar. `read` of the crate `spec` is a parser;
--- that it is the parser of this grammar is a theorem.
+-- that it is the parser of this grammar is a theorem. Assumes nothing.
 use Prim.Native.Nat.{ℕ, suc, _+_, _≤_, _<_}
 use mathlib.Core.Path.{_≡_}
 use mathlib.Core.List.{List, [], _∷_, _++_}

@@ -1,4 +1,5 @@
 -- A run held to its bounds, with what is left of them; and the evaluation of a list of nodes, the top level's and any other's alike.
+-- Document 01: "Steps", "Workspace". Assumes nothing.
 use Prim.Native.Nat.{ℕ, zero, suc, _-_}
 use mathlib.Core.List.{List, [], _∷_, _++_}
 use lib.Dec.{ltb, eqb}

@@ -1,4 +1,5 @@
 -- The words of laws that a wrong definition would not meet: about rows, and about what a run names.
+-- Document 01: "Table", "Evaluation". Assumes nothing.
 use Prim.Native.Nat.{ℕ, _≤_, _<_}
 use mathlib.Core.Path.{_≡_}
 use mathlib.Core.List.{List, [], _∷_}

@@ -1,5 +1,5 @@
 -- The first pass as a loop over places: what holds before each turn, what a turn refuses or keeps, whatever token there is, and what the
--- stream's end answers.
+-- stream's end answers. Document 01: "Bytes to expressions", refusals 1 to 8. Assumes nothing.
 use Prim.Native.Nat.{ℕ, _+_, _-_, _≤_, _<_}
 use mathlib.Core.Path.{_≡_, refl, _∙_}
 use mathlib.Core.List.{List, [], _∷_}

@@ -1,4 +1,5 @@
 -- The second pass as a loop over places: what holds before each turn, and that a turn keeps it, whatever token there is.
+-- Document 01: "Table". Assumes nothing.
 use Prim.Native.Nat.{ℕ, zero, suc, _+_, _-_, _*_, _≤_, _<_}
 use mathlib.Core.Path.{_≡_, refl, _∙_}
 use mathlib.Core.List.{List, [], _∷_}

@@ -1,4 +1,5 @@
 -- Walking over expressions without a table: where a form ends, where an expression ends, and which of the top level is asked for.
+-- Document 01: "Item". Assumes nothing.
 use Prim.Native.Nat.{ℕ, suc, _+_, _-_, _≤_, _<_}
 use mathlib.Core.Path.{_≡_, refl, sym, ap, _∙_, subst}
 use mathlib.Core.List.{List, [], _∷_, _++_, append-nil}

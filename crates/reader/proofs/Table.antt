@@ -1,4 +1,4 @@
--- The second pass as a function of the tokens: what it leaves in the table, and that these are the rows.
+-- The second pass as a function of the tokens: what it leaves in the table, and that these are the rows. Document 01: "Table". Assumes nothing.
 use Prim.Native.Nat.{ℕ, suc, _+_, _-_, _*_, _≤_, _<_}
 use mathlib.Core.Path.{_≡_, refl, sym, ap, _∙_}
 use mathlib.Core.List.{List, [], _∷_}

@@ -1,4 +1,5 @@
 -- What this crate's functions answer and leave in the table, as `Reading` and `Calls` of the crate `spec` define it.
+-- Document 01: "Table", "Item". Assumes nothing.
 use Prim.Native.Nat.{ℕ, _+_, _*_}
 use mathlib.Core.Path.{_≡_}
 use mathlib.Core.List.{List}

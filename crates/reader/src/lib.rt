@@ -1,4 +1,5 @@
 // Two passes over a stream: the first checks it and counts, the second writes its rows. And the search for an item.
+// Document 01: "Read", "Table", "Item".
 use atoms::Token;
 ghost use mathlib.Core.Path.{_≡_};
 ghost use Prim.Native.Nat.{_+_, _-_, _*_, _≤_, _<_};

@@ -1,6 +1,6 @@
--- Document 01, "Streams to try": the starred ones, each call with its answer, in one table under one claim. And three more
--- tables: for "Errors that come easily", whose answers a definition with such an error does not give, with Item and the table that Evaluate
--- leaves; for the rules, at their bounds and as written wrongly; and for the refusals that no starred stream is given, with their limits.
+-- Document 01, "Streams to try": the starred ones, each call with its answer, in one table under one claim. And three more tables: for "Errors that
+-- come easily", whose answers a definition with such an error does not give, with Item and the table that Evaluate leaves; for the rules, at their
+-- bounds and as written wrongly; and for the refusals that no starred stream is given, with their limits. Assumes nothing.
 use Prim.Native.Nat.{ℕ, zero, suc, _+_}
 use mathlib.Core.Path.{_≡_, refl}
 use mathlib.Core.List.{List, [], _∷_, _++_, map}

@@ -1,4 +1,4 @@
--- Document 01, "Evaluation": "depth first, left to right, over a list of definitions that are visible at each place", as a run.
+-- Document 01, "Evaluation": "depth first, left to right, over a list of definitions that are visible at each place", as a run. Assumes nothing.
 use Prim.Native.Nat.{ℕ, zero, suc}
 use mathlib.Core.List.{List, [], _∷_, _++_}
 use mathlib.Core.Bool.{Bool, false, not}

@@ -1,6 +1,6 @@
 -- Document 01, "Bytes to expressions": what a stream means, and its canonical bytes. "Meaning is the list of expressions: nil, small
 -- integer with its value, array with its bytes, reference with marker and name, form with its list." It has no places and no way
--- of writing.
+-- of writing. Assumes nothing.
 use Prim.Native.Nat.{ℕ, zero, suc, _+_, _-_, _/_, _%_, max}
 use mathlib.Core.List.{List, [], _∷_, _++_}
 use mathlib.Core.Bool.{Bool, true, false, _&&_, _||_}

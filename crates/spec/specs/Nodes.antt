@@ -1,5 +1,6 @@
 -- Names and nodes. A node is an expression with its row number at every level. The numbers follow from the meaning alone: "in order
 -- of first bytes", from 0. Evaluation speaks of row numbers; only the calls turn one into a place, the row's start.
+-- Document 01: "Names of the core namespace", "Table". Assumes nothing.
 use Prim.Native.Nat.{ℕ, _+_}
 use mathlib.Core.List.{List, [], _∷_, _++_}
 use mathlib.Core.Bool.{Bool}

@@ -1,5 +1,5 @@
 -- Document 01, "Evaluation": what an expression's rule says is to be done once its step is taken, or which refusal it is given: "In one
--- expression: 16, 13, 12, 11, 14, 15, 19 (for define, before its value)". Nothing here evaluates; a call's 19 follows its arguments.
+-- expression: 16, 13, 12, 11, 14, 15, 19 (for define, before its value)". Nothing here evaluates; a call's 19 follows its arguments. Assumes nothing.
 use Prim.Native.Nat.{ℕ}
 use mathlib.Core.List.{List, [], _∷_}
 use mathlib.Core.Bool.{not, _&&_, _||_}

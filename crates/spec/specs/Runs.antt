@@ -1,5 +1,5 @@
 -- Document 01, "Step count": "run these rules [..] with [..] no bound on steps". A run has no bound at all: its events in order, and how
--- it ends. `cut` holds it to a number of steps and a workspace.
+-- it ends. `cut` holds it to a number of steps and a workspace. Assumes nothing.
 use Prim.Native.Nat.{ℕ, _+_, _-_}
 use mathlib.Core.List.{List, [], _∷_, _++_}
 use lib.Dec.{ltb, eqb}

@@ -1,5 +1,6 @@
 // Text for standard output, gathered in a buffer so that a call of the system writes much of it; and numbers that were written. `used` is how
-// many of the buffer's bytes are in use, and each function that takes it gives how many are so afterwards.
+// many of the buffer's bytes are in use, and each function that takes it gives how many are so afterwards. Assumes the contract that the kit states
+// of C's `write`.
 ghost use Prim.Native.Nat.{_≤_};
 ghost use Rattle.text.specs.Size.{buffer-size};
 use libc::STDOUT_FILENO;

@@ -1,4 +1,4 @@
--- What `emit` has written when it has come to a place of the stream, and that each token keeps it.
+-- What `emit` has written when it has come to a place of the stream, and that each token keeps it. Document 01: "Canonical". Assumes nothing.
 use Prim.Native.Nat.{ℕ, _+_, _-_, _≤_}
 use mathlib.Core.Path.{_≡_, refl, sym, ap, _∙_}
 use mathlib.Core.List.{List, [], _∷_, _++_, append-assoc, append-nil}

@@ -1,4 +1,4 @@
--- Laws of `put-at` and `Put`: what was written keeps the length, and can be written on where it ends.
+-- Laws of `put-at` and `Put`: what was written keeps the length, and can be written on where it ends. Assumes nothing.
 use Prim.Native.Nat.{ℕ, _+_, _-_, _≤_}
 use mathlib.Core.Path.{_≡_, refl, sym, ap, _∙_}
 use mathlib.Core.List.{List, _++_, append-assoc}

@@ -1,4 +1,4 @@
--- What this crate's functions write.
+-- What this crate's functions write. Document 01: "Canonical". Assumes nothing.
 use Prim.Native.Nat.{ℕ, _+_}
 use mathlib.Core.Path.{_≡_}
 use mathlib.Core.List.{List, _++_}

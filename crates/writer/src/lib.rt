@@ -1,4 +1,4 @@
-// The canonical stream: of each token of a stream in turn, its canonical bytes.
+// The canonical stream: of each token of a stream in turn, its canonical bytes. Document 01: "Canonical".
 use atoms::Token;
 ghost use Prim.Native.Nat.{_+_, _≤_, _<_};
 ghost use mathlib.Core.Path.{_≡_};

@@ -1,4 +1,4 @@
--- `bulk_calls::main` is safe and ends: the measure is how much of the input is left.
+-- `bulk_calls::main` is safe and ends: the measure is how much of the input is left. Assumes the contracts that the kit states of C's `read` and `write`.
 use Prim.Native.Nat.{_≤_}
 use borrow.Author.Needs.{needs}
 use Rattle.text.specs.Size.{buffer-size}

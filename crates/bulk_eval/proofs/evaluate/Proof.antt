@@ -1,4 +1,5 @@
 -- `bulk_eval::evaluate` is safe: as many bytes are written out as Evaluate gave, and these are there.
+-- Assumes the contract that the kit states of C's `write`.
 use borrow.Author.Needs.{needs}
 use Rattle.bulk.proofs.Given.{given-result}
 use Rattle.bulk_eval.proofs.evaluate.Statement.{statement}

@@ -1,4 +1,4 @@
--- `bulk_list::list` is safe: as many rows are printed as Read gave, and these are there.
+-- `bulk_list::list` is safe: as many rows are printed as Read gave, and these are there. Assumes the contract that the kit states of C's `write`.
 use borrow.Author.Needs.{needs}
 use Rattle.bulk.proofs.Given.{given-rows}
 use Rattle.bulk_list.proofs.list.Statement.{statement}

@@ -1,4 +1,5 @@
 -- `bulk_write::rewrite` is safe: as many bytes are written out as Write gave, and these are there.
+-- Assumes the contract that the kit states of C's `write`.
 use borrow.Author.Needs.{needs}
 use Rattle.bulk.proofs.Given.{given-bytes}
 use Rattle.bulk_write.proofs.rewrite.Statement.{statement}

@@ -1,4 +1,4 @@
--- `evaluate` meets its contract: no version, another version, or the run in the first bytes of the workspace. Assumes nothing.
+-- `evaluator::evaluate` meets its contract: no version, another version, or the run in the first bytes of the workspace. Assumes nothing.
 use borrow.Author.Needs.{needs}
 use lib.ListN.{take, length-take}
 use native.Mathlib.Omega.{arith}

@@ -1,4 +1,4 @@
--- `evaluate_all` meets its contract: the nodes of the stream as a list, evaluated from its beginning. Assumes nothing.
+-- `evaluator::evaluate_all` meets its contract: the nodes of the stream as a list, evaluated from its beginning. Assumes nothing.
 use borrow.Author.Needs.{needs}
 use mathlib.Core.List.{[]}
 use Rattle.spec.specs.Nodes.{number-all}

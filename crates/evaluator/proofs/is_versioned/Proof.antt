@@ -1,4 +1,4 @@
--- `is_versioned` meets its contract: no row, or the key of the first expression's head. Assumes nothing.
+-- `evaluator::is_versioned` meets its contract: no row, or the key of the first expression's head. Assumes nothing.
 use native.Mathlib.Omega.{arith}
 use Rattle.laws.proofs.Steps.{all-bytes}
 use Rattle.evaluator.proofs.Nodes.{nodes-more}

@@ -1,4 +1,5 @@
 -- `bulk_calls::calls::evaluate` is safe: as many bytes are printed as Evaluate gave, and these are there.
+-- Assumes the contract that the kit states of C's `write`.
 use borrow.Author.Needs.{needs}
 use native.Mathlib.Omega.{arith}
 use lib.ListN.{length-append}

@@ -1,4 +1,5 @@
 -- `bulk_calls::calls::item` is safe: the part, from its place on, lies in one of the two buffers.
+-- Assumes the contract that the kit states of C's `write`.
 use borrow.Author.Needs.{needs}
 use Prim.Native.Nat.{ℕ, _-_}
 use native.Mathlib.Omega.{arith}

@@ -1,4 +1,4 @@
--- `bulk_calls::calls::read` is safe: as many rows are printed as Read gave, and these are there.
+-- `bulk_calls::calls::read` is safe: as many rows are printed as Read gave, and these are there. Assumes the contract that the kit states of C's `write`.
 use borrow.Author.Needs.{needs}
 use native.Mathlib.Omega.{arith}
 use lib.ListN.{length-append}

@@ -1,4 +1,4 @@
--- `bulk_calls::words::hex` is safe and ends: the measure is how much of the input is left.
+-- `bulk_calls::words::hex` is safe and ends: the measure is how much of the input is left. Assumes the contract that the kit states of C's `read`.
 use Prim.Native.Nat.{_≤_}
 use borrow.Author.Needs.{needs}
 use Rattle.bulk_calls.proofs.words.hex.Statement.{statement}

@@ -1,4 +1,4 @@
--- `bulk_eval::arguments::number` is safe and ends: the measure is how many bytes are left.
+-- `bulk_eval::arguments::number` is safe and ends: the measure is how many bytes are left. Assumes nothing.
 use Prim.Native.Nat.{_-_}
 use lib.ListN.{length}
 use borrow.Author.Needs.{needs}

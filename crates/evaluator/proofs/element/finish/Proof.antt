@@ -1,4 +1,4 @@
--- `element::finish` meets its contract: a refusal stays, values are finished. Assumes nothing.
+-- `evaluator::element::finish` meets its contract: a refusal stays, values are finished. Assumes nothing.
 use borrow.Author.Needs.{needs}
 use mathlib.Core.Path.{refl}
 use Rattle.evaluator.specs.Listed.{CanFinish}

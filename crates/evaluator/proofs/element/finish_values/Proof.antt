@@ -1,4 +1,4 @@
--- `element::finish_values` meets its contract: a data form, a join, or a definition's values moved. Assumes nothing.
+-- `evaluator::element::finish_values` meets its contract: a data form, a join, or a definition's values moved. Assumes nothing.
 use borrow.Author.Needs.{needs}
 use native.Mathlib.Omega.{arith}
 use Rattle.evaluator.specs.Listed.{CanFinish}

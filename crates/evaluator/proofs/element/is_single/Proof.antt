@@ -1,4 +1,4 @@
--- `element::is_single` meets its contract: no row behind the head, more than one expression, or the head's key of the only one.
+-- `evaluator::element::is_single` meets its contract: no row behind the head, more than one expression, or the head's key of the only one.
 -- Assumes nothing.
 use borrow.Author.Needs.{needs}
 use Prim.Native.Nat.{_+_}

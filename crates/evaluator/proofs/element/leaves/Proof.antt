@@ -1,4 +1,4 @@
--- `element::leaves` meets its contract, by cases. Assumes nothing.
+-- `evaluator::element::leaves` meets its contract, by cases. Assumes nothing.
 use borrow.Author.Needs.{needs}
 use mathlib.Core.Path.{refl}
 use Rattle.evaluator.proofs.element.leaves.Statement.{statement}

@@ -1,4 +1,4 @@
--- `element::returned` meets its contract: a refusal stays; the values of a code are the call's, or the form of them. Assumes nothing.
+-- `evaluator::element::returned` meets its contract: a refusal stays; the values of a code are the call's, or the form of them. Assumes nothing.
 use borrow.Author.Needs.{needs}
 use mathlib.Core.Path.{sym, _∙_}
 use Rattle.evaluator.specs.Listed.{CanReturn}

@@ -1,4 +1,4 @@
--- `forms::put_place` meets its contract: behind the last element nothing is set.
+-- `evaluator::forms::put_place` meets its contract: behind the last element nothing is set.
 -- Assumes nothing.
 use borrow.Author.Needs.{needs}
 use mathlib.Core.Path.{sym}

@@ -1,4 +1,4 @@
--- `forms::shallow` meets its contract. The invariant is `Nesting`, which each token keeps.
+-- `evaluator::forms::shallow` meets its contract: few bytes are shallow. For others the invariant is `Nesting`, which each token keeps.
 -- Assumes nothing.
 use borrow.Author.Needs.{needs}
 use Prim.Native.Nat.{_-_}

@@ -1,4 +1,4 @@
--- `forms::wrapped` meets its contract: refused if too deep or if there is no room, else moved and closed in by 01 and 02.
+-- `evaluator::forms::wrapped` meets its contract: refused if too deep or if there is no room, else moved and closed in by 01 and 02.
 -- Assumes nothing.
 use borrow.Author.Needs.{needs}
 use Prim.Native.Nat.{ℕ}

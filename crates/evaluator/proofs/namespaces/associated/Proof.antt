@@ -1,4 +1,4 @@
--- `associated` meets its contract: what is left to search has the marker if the whole has it. Assumes nothing.
+-- `evaluator::namespaces::associated` meets its contract: what is left to search has the marker if the whole has it. Assumes nothing.
 use borrow.Author.Needs.{needs}
 use Prim.Native.Nat.{ℕ, _-_, _≤_, _<_}
 use mathlib.Core.Path.{_≡_, sym, _∙_}

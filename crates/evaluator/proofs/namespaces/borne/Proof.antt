@@ -1,4 +1,4 @@
--- `borne` meets its contract: the rows that are left bear the marker if any does. Assumes nothing.
+-- `evaluator::namespaces::borne` meets its contract: the rows that are left bear the marker if any does. Assumes nothing.
 use borrow.Author.Needs.{needs}
 use Prim.Native.Nat.{ℕ, _-_, _<_}
 use mathlib.Core.Path.{_≡_, sym, _∙_}

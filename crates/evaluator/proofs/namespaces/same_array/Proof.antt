@@ -1,4 +1,4 @@
--- `same_array` meets its contract: arrays of different lengths differ, others if a byte does. Assumes nothing.
+-- `evaluator::namespaces::same_array` meets its contract: arrays of different lengths differ, others if a byte does. Assumes nothing.
 use borrow.Author.Needs.{needs}
 use Prim.Native.Nat.{ℕ, _+_, _-_, _≤_}
 use mathlib.Core.Path.{_≡_, sym, ap, _∙_}

@@ -1,4 +1,4 @@
--- `plan::associate` meets its contract: one law of the rule for each test. Assumes nothing.
+-- `evaluator::plan::associate` meets its contract: one law of the rule for each test. Assumes nothing.
 use borrow.Author.Needs.{needs}
 use Prim.Native.Nat.{ℕ, _-_, _/_, _≤_, _<_}
 use mathlib.Core.Path.{_≡_, refl, sym, ap, _∙_}

@@ -1,4 +1,4 @@
--- `plan::data` meets its contract. Assumes nothing.
+-- `evaluator::plan::data` meets its contract. Assumes nothing.
 use borrow.Author.Needs.{needs}
 use Rattle.evaluator.proofs.plan.data.Statement.{statement}
 use Rattle.evaluator.proofs.plan.data.Tie as tie

@@ -1,4 +1,4 @@
--- `plan::define` meets its contract: the place is looked at first. Assumes nothing.
+-- `evaluator::plan::define` meets its contract: the place is looked at first. Assumes nothing.
 use borrow.Author.Needs.{needs}
 use mathlib.Core.Path.{ap}
 use Rattle.spec.specs.Plan.{Place, plan-define}

@@ -1,4 +1,4 @@
--- `plan::definition` meets its contract: one law of the rule for each test. Assumes nothing.
+-- `evaluator::plan::definition` meets its contract: one law of the rule for each test. Assumes nothing.
 use borrow.Author.Needs.{needs}
 use Prim.Native.Nat.{ℕ}
 use mathlib.Core.Path.{sym, ap, _∙_}

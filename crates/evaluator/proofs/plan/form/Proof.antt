@@ -1,4 +1,4 @@
--- `plan::form` meets its contract: the head's key says which word it is, and so which rule applies. Assumes nothing.
+-- `evaluator::plan::form` meets its contract: the head's key says which word it is, and so which rule applies. Assumes nothing.
 use Prim.Native.Nat.{ℕ}
 use mathlib.Core.Path.{_≡_, sym, ap, _∙_, subst as along}
 use mathlib.Core.List.{List}

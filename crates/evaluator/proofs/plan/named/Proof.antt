@@ -1,4 +1,4 @@
--- `plan::named` meets its contract: what the head's key found says what is done. Assumes nothing.
+-- `evaluator::plan::named` meets its contract: what the head's key found says what is done. Assumes nothing.
 use borrow.Author.Needs.{needs}
 use Prim.Native.Nat.{ℕ}
 use mathlib.Core.Path.{_≡_, sym, ap, _∙_}

@@ -1,4 +1,4 @@
--- `plan::ns` meets its contract: the place first, then the elements as they are written. Assumes nothing.
+-- `evaluator::plan::ns` meets its contract: the place first, then the elements as they are written. Assumes nothing.
 use borrow.Author.Needs.{needs}
 use Prim.Native.Nat.{ℕ}
 use mathlib.Core.Path.{_≡_, sym, ap, _∙_, subst}

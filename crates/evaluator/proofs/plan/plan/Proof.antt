@@ -1,4 +1,4 @@
--- `plan::plan` meets its contract: a form, a reference, or an atom that is its own value. Assumes nothing.
+-- `evaluator::plan::plan` meets its contract: a form, a reference, or an atom that is its own value. Assumes nothing.
 use mathlib.Core.Path.{sym, _∙_, subst}
 use native.Mathlib.Omega.{arith}
 use Rattle.spec.specs.Nodes.{elements}

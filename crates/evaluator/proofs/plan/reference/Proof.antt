@@ -1,4 +1,4 @@
--- `plan::reference` meets its contract: a function name is refused, else what the key found says what is done. Assumes nothing.
+-- `evaluator::plan::reference` meets its contract: a function name is refused, else what the key found says what is done. Assumes nothing.
 use borrow.Author.Needs.{needs}
 use Prim.Native.Nat.{ℕ}
 use mathlib.Core.Path.{_≡_, sym, ap, _∙_}

@@ -1,4 +1,4 @@
--- `plan::unnamed` meets its contract: no elements, a first element that is no code, or code that is called. Assumes nothing.
+-- `evaluator::plan::unnamed` meets its contract: no elements, a first element that is no code, or code that is called. Assumes nothing.
 use borrow.Author.Needs.{needs}
 use Prim.Native.Nat.{_+_}
 use native.Mathlib.Omega.{arith}

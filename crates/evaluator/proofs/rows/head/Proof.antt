@@ -1,4 +1,4 @@
--- `rows::head` meets its contract: no form, no head, a head that is no reference, or a key.
+-- `evaluator::rows::head` meets its contract: no form, no head, a head that is no reference, or a key.
 -- Assumes nothing.
 use borrow.Author.Needs.{needs}
 use Prim.Native.Nat.{_+_}

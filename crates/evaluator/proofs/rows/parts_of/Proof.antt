@@ -1,4 +1,4 @@
--- `rows::parts_of` meets its contract: it goes from row to row as `parts-from` does.
+-- `evaluator::rows::parts_of` meets its contract: it goes from row to row as `parts-from` does.
 -- Assumes nothing.
 use borrow.Author.Needs.{needs}
 use Prim.Native.Nat.{_+_}

@@ -1,4 +1,4 @@
--- `rows::small` meets its contract.
+-- `evaluator::rows::small` meets its contract.
 -- Assumes nothing.
 use borrow.Author.Needs.{needs}
 use Prim.Native.Nat.{ℕ, _+_}

@@ -1,5 +1,5 @@
--- `run::list` and `run::call` meet their contracts, by recursion on the steps that are left: at each call they are fewer, or as many and it is
--- the code of a call. Assumes nothing.
+-- `evaluator::run::list` and `evaluator::run::call` meet their contracts, by recursion on the steps that are left: at each call they are fewer, or
+-- as many and it is the code of a call. Assumes nothing.
 use Prim.Native.Nat.{ℕ, _+_, _-_, _*_, _<_}
 use mathlib.Core.Path.{_≡_, refl, sym, ap, _∙_, subst}
 use mathlib.Core.List.{List}

@@ -1,4 +1,4 @@
--- `rows::Core::is_function` meets its contract.
+-- `evaluator::rows::Core::is_function` meets its contract.
 -- Assumes nothing.
 use mathlib.Core.Path.{sym}
 use native.Mathlib.Omega.{arith}

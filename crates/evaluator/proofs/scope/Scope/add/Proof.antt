@@ -1,4 +1,4 @@
--- `Scope::add` meets its contract. The arrays' lengths come from what owning the struct tells. Assumes nothing.
+-- `evaluator::scope::Scope::add` meets its contract. The arrays' lengths come from what owning the struct tells. Assumes nothing.
 use borrow.Author.Needs.{needs}
 use mathlib.Core.Path.{_≡_, refl, sym, _∙_}
 use native.Mathlib.Omega.{arith}

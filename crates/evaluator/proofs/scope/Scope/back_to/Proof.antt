@@ -1,4 +1,4 @@
--- `Scope::back_to` meets its contract: the arrays stay, so the entries are fewer. Assumes nothing.
+-- `evaluator::scope::Scope::back_to` meets its contract: the arrays stay, so the entries are fewer. Assumes nothing.
 use mathlib.Core.Path.{refl}
 use Rattle.evaluator.proofs.Entries.{entries-fewer}
 use Rattle.evaluator.proofs.scope.Scope.back_to.Statement.{statement}

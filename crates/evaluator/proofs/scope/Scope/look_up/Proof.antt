@@ -1,4 +1,4 @@
--- `Scope::look_up` meets its contract: what is left to search finds what the whole does. Assumes nothing.
+-- `evaluator::scope::Scope::look_up` meets its contract: what is left to search finds what the whole does. Assumes nothing.
 use borrow.Author.Needs.{needs}
 use Prim.Native.Nat.{ℕ, _-_, _≤_, _<_}
 use mathlib.Core.Path.{_≡_, ap, sym, _∙_}

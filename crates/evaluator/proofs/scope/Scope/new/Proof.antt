@@ -1,4 +1,4 @@
--- `Scope::new` meets its contract. Assumes nothing.
+-- `evaluator::scope::Scope::new` meets its contract. Assumes nothing.
 use mathlib.Core.Path.{refl}
 use Rattle.evaluator.specs.Entries.{entries-at}
 use Rattle.evaluator.proofs.scope.Scope.new.Statement.{statement}
