@@ -1,10 +1,6 @@
 -- How many forms are open at once in the canonical bytes of values, token by token: the law behind the loop of `forms::shallow`.
-<<<<<<< HEAD
-use Prim.Native.Nat.{ℕ, _+_, _-_, _*_, _≤_, _<_}
-=======
 -- Document 01: "in evaluation, a value with over 64 forms one inside another". Assumes nothing.
-use Prim.Native.Nat.{ℕ, _+_, _-_, _≤_, _<_}
->>>>>>> 1a0310cf93cd30ff215855f307d353ec5fa60304
+use Prim.Native.Nat.{ℕ, _+_, _-_, _*_, _≤_, _<_}
 use mathlib.Core.Path.{_≡_, sym, subst}
 use mathlib.Core.List.{List, [], _∷_, _++_, append-assoc, append-nil}
 use mathlib.Core.Bool.{Bool, true, false}
