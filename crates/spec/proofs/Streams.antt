@@ -244,6 +244,10 @@ nested n s = replicate n 0x01 ++ s ++ replicate n 0x02
 deep : List ℕ
 deep = version-form ++ ns-form ++ defines 1 (nested 33 []) ++ nested 32 word-28-01
 
+-- a byte, and 14 times what was defined before joined with itself
+doubled : List ℕ
+doubled = version-form ++ ns-form ++ defines 0 (0xC1 ∷ 0x42 ∷ []) ++ again 14 (defines 0 (joins (word-28 0) (word-28 0)))
+
 -- V and the ns form, 14 bytes and 5 steps, and after them what is refused, or what leaves some bytes
 refuses : List ℕ → ℕ → ℕ → Case
 refuses s w p = evaluates (version-form ++ ns-form ++ s) 65536 9 999 gives refusal w p 9
@@ -347,6 +351,11 @@ rules =
     leaves (define-85 ++ defines 1 (in-form word-28-01) ++ word-28-01) (in-form (0x85 ∷ [])) 11 ∷
     -- a value hides a function
     leaves (identity ++ defines 2 (0x85 ∷ []) ++ in-form (word-28 2 ++ (0x89 ∷ []))) (in-form (0x85 ∷ 0x89 ∷ [])) 11 ∷
+    -- a value that is a reference is neither looked up nor called, though it is a function by then
+    leaves (defines 1 (word-28 2) ++ identity ++ word-28-01) (word-28 2) 9 ∷
+    leaves (defines 1 (word-28 2) ++ identity ++ in-form (word-28-01 ++ (0x83 ∷ []))) (in-form (word-28 2 ++ (0x83 ∷ []))) 11 ∷
+    -- code is judged when it runs
+    leaves (defines 2 (code function-name)) [] 6 ∷
     -- define in a data form: as its head, in a define's value, in code
     leaves (in-form (define-85 ++ word-28-01)) (in-form (0x85 ∷ [])) 9 ∷
     leaves (defines 1 (in-form (defines 2 (0x86 ∷ []) ++ word-28 2)) ++ word-28-01 ++ word-28 2) (in-form (0x86 ∷ []) ++ word-28 2) 12 ∷
@@ -369,14 +378,16 @@ rules =
     leaves (in-form (code (in-form (code (arg-form 0) ++ (0x85 ∷ []))) ++ (0x86 ∷ []))) (0x85 ∷ []) 10 ∷
     leaves (in-form (code (in-form (code (arg-form 0) ++ arg-form 0)) ++ (0x86 ∷ []))) (0x86 ∷ []) 10 ∷
     refuses (identity ++ in-form (code (in-form (word-28 2)) ++ (0x86 ∷ []))) 15 22 ∷
-    -- rest among arguments, and in a data form; without as many arguments as there are, and without one more
+    -- rest among arguments, in a data form, and as the first of its elements; without as many arguments as there are, and without one more
     leaves (in-form (code (in-form (code (arg-form 1) ++ rest-form 0)) ++ (0x85 ∷ 0x86 ∷ []))) (0x86 ∷ []) 11 ∷
     leaves (in-form (code (in-form ((0x81 ∷ []) ++ rest-form 1)) ++ (0x85 ∷ 0x86 ∷ 0x87 ∷ []))) (in-form (0x81 ∷ 0x86 ∷ 0x87 ∷ [])) 12 ∷
+    leaves (in-form (code (in-form (rest-form 0 ++ (0x83 ∷ []))) ++ (0x85 ∷ 0x86 ∷ []))) (in-form (0x85 ∷ 0x86 ∷ 0x83 ∷ [])) 11 ∷
     leaves (in-form (code (rest-form 1) ++ (0x83 ∷ []))) (in-form []) 8 ∷
     refuses (in-form (code (rest-form 2) ++ (0x83 ∷ []))) 15 18 ∷
-    -- one expression as code is charged, and the call again
+    -- one expression as code is charged, and the call again; a rest of no items fits where nothing is left
     (evaluates (version-form ++ in-form (code (0x85 ∷ []))) 12 7 6 gives result-is (version-form ++ (0x85 ∷ [])) 6) ∷
     (evaluates (version-form ++ in-form (code (0x85 ∷ []))) 11 7 6 gives refusal 17 6 7) ∷
+    (evaluates (version-form ++ in-form (code (rest-form 0 ++ function-name))) 10 9 99 gives refusal 12 15 9) ∷
     -- core names that are no function names stand for themselves, and head data forms; so do all names of other namespaces
     leaves (define-85 ++ headed plain-names word-28-01) (headed plain-names (0x85 ∷ [])) 43 ∷
     leaves (headed (0x00 ∷ []) (0x20 ∷ 0x07 ∷ 0x20 ∷ 0x08 ∷ 0x20 ∷ 0x0E ∷ [])) (headed (0x00 ∷ []) (0x20 ∷ 0x07 ∷ 0x20 ∷ 0x08 ∷ 0x20 ∷ 0x0E ∷ [])) 10 ∷
@@ -391,8 +402,9 @@ rules =
     refuses (identity ++ word-28 2) 12 29 ∷
     refuses (code []) 12 14 ∷
     refuses (defines 1 function-name) 12 19 ∷
-    -- the id's bytes count, not how its length was written; ids of 64 and 65 bytes
+    -- the id's bytes count, not how its length was written; one in code that does not run is not used; ids of 64 and 65 bytes
     leaves (core-form 0x06 (0x29 ∷ 0x00 ∷ 0x03 ∷ 0x81 ∷ 0x42 ∷ [])) (space 0x29 0x42) 6 ∷
+    leaves (defines 2 (code (space 0x2B 0x42)) ++ space 0x29 0x42) (space 0x29 0x42) 7 ∷
     (evaluates (version-form ++ named 64) 65536 79 5 gives result-is (version-form ++ named 64) 5) ∷
     (evaluates (version-form ++ named 65) 65536 80 5 gives refusal 11 6 80) ∷
     -- 14: an id used before, a marker borne before: by a reference, in a form, in code that does not run; the core's; a marker not associated
@@ -463,6 +475,8 @@ limits =
     (evaluates deep 65536 9 999 gives refusal 6 86 9) ∷
     leaves (nested 64 []) (nested 64 []) 69 ∷
     leaves (in-form (in-form [] ++ nested 63 [])) (in-form (in-form [] ++ nested 63 [])) 70 ∷
+    -- 17: of a larger workspace 65,536 bytes count: 49,275 are charged before the last join, of 16,384 bytes
+    (evaluates doubled 131072 9 999 gives refusal 17 209 9) ∷
     -- 19: 32 codes in progress, and one more
     leaves (chain (0x85 ∷ []) 31 ++ in-form (word-28 31)) (0x85 ∷ []) 70 ∷
     refuses (chain (0x85 ∷ []) 32 ++ in-form (word-28 32)) 19 33 ∷
@@ -477,7 +491,7 @@ limits =
     []
 
 limits-hold : answers limits ≡ map expected limits
-unfolding answers expected limits refuses leaves refusal result-is version-form ns-form define-85 word-28-01 in-form core-form word-28 defines space code arg-form identity again spaces chain nested deep
+unfolding answers expected limits refuses leaves refusal result-is version-form ns-form define-85 word-28-01 in-form core-form word-28 defines space code arg-form identity again spaces chain nested deep joins doubled
 limits-hold = refl
 
 -- "the first that arises, in reading order and then in evaluation order, wins"
