@@ -288,6 +288,10 @@ readings =
     written ((0x03 ∷ 0xC2 ∷ 0x00 ∷ 64 ∷ []) ++ replicate 64 0xAA) ((0x03 ∷ 0xC1 ∷ 64 ∷ []) ++ replicate 64 0xAA) ∷
     written ((0x03 ∷ 0xC2 ∷ 0x00 ∷ 255 ∷ []) ++ replicate 255 0xAA) ((0x03 ∷ 0xC1 ∷ 255 ∷ []) ++ replicate 255 0xAA) ∷
     written ((0x03 ∷ 0xC3 ∷ 0x00 ∷ 0x01 ∷ 0x00 ∷ []) ++ replicate 256 0xAA) ((0x03 ∷ 0xC2 ∷ 0x01 ∷ 0x00 ∷ []) ++ replicate 256 0xAA) ∷
+    -- a reference is written as it was, of the markers 127, 381 and 382 too
+    written (long-marker 0 (0x00 ∷ 0x1A ∷ [])) (long-marker 0 (0x00 ∷ 0x1A ∷ [])) ∷
+    written (long-marker 0 (0xFE ∷ 0x1A ∷ [])) (long-marker 0 (0xFE ∷ 0x1A ∷ [])) ∷
+    written (long-marker 1 (0x00 ∷ 0x1A ∷ [])) (long-marker 1 (0x00 ∷ 0x1A ∷ [])) ∷
     -- the first markers and the last
     (means (0x10 ∷ 0x00 ∷ []) gives meaning (only (atom (ref 16 0)))) ∷
     (means (0x7E ∷ 0x00 ∷ []) gives meaning (only (atom (ref 126 0)))) ∷
@@ -346,9 +350,10 @@ rules =
     leaves (define-85 ++ in-form (code word-28-01)) (0x85 ∷ []) 9 ∷
     leaves (space 0x29 0x42 ++ define-85 ++ (0x29 ∷ 0x01 ∷ [])) (space 0x29 0x42 ++ (0x29 ∷ 0x01 ∷ [])) 9 ∷
     leaves (in-form (define-85 ++ word-28-01 ++ define-89 ++ word-28-01)) (in-form (0x85 ∷ 0x89 ∷ [])) 12 ∷
-    -- its value can't see it, but sees one before
+    -- its value can't see it, but sees one before; nor can a function's code
     leaves (defines 1 (in-form word-28-01) ++ word-28-01) (in-form word-28-01) 9 ∷
     leaves (define-85 ++ defines 1 (in-form word-28-01) ++ word-28-01) (in-form (0x85 ∷ [])) 11 ∷
+    leaves (defines 2 (code (in-form (word-28 2))) ++ in-form (word-28 2)) (in-form (word-28 2)) 9 ∷
     -- a value hides a function
     leaves (identity ++ defines 2 (0x85 ∷ []) ++ in-form (word-28 2 ++ (0x89 ∷ []))) (in-form (0x85 ∷ 0x89 ∷ [])) 11 ∷
     -- a value that is a reference is neither looked up nor called, though it is a function by then
