@@ -361,8 +361,10 @@ rules =
     leaves (defines 1 (word-28 2) ++ identity ++ in-form (word-28-01 ++ (0x83 ∷ []))) (in-form (word-28 2 ++ (0x83 ∷ []))) 11 ∷
     -- code is judged when it runs
     leaves (defines 2 (code function-name)) [] 6 ∷
-    -- define in a data form: as its head, in a define's value, in code
+    -- define in a data form: as its head, after a concat, a form and a call, in a define's value, in code
     leaves (in-form (define-85 ++ word-28-01)) (in-form (0x85 ∷ [])) 9 ∷
+    leaves (in-form (joins (0xC0 ∷ []) (0xC0 ∷ []) ++ in-form [] ++ in-form (code []) ++ define-85 ++ word-28-01))
+    (in-form ((0xC0 ∷ []) ++ in-form [] ++ in-form [] ++ (0x85 ∷ []))) 14 ∷
     leaves (defines 1 (in-form (defines 2 (0x86 ∷ []) ++ word-28 2)) ++ word-28-01 ++ word-28 2) (in-form (0x86 ∷ []) ++ word-28 2) 12 ∷
     leaves (in-form (code (in-form (defines 1 (arg-form 0) ++ word-28-01)) ++ (0x86 ∷ []))) (in-form (0x86 ∷ [])) 11 ∷
     -- 13: define as an operand, an argument of a function and of a subst form, a define's value, and in code; ns in a form, as an operand, in code
