@@ -49,6 +49,10 @@ pub put-place : {bs : List ℕ} {k : ℕ} {t o : List ℕ} {a : Answer} → Put 
 put-place (too-short l) = refl
 put-place (fits l) = refl
 
+put-table : {bs : List ℕ} {k : ℕ} {t o : List ℕ} {a : Answer} → Put bs k t o a → a .table ≡ t
+put-table (too-short l) = refl
+put-table (fits l) = refl
+
 over-length : (new old : List ℕ) → length new ≤ length old → length (over new old) ≡ length old
 over-length new old h = simp (length-append, length-drop) (omega arith)
 
@@ -105,6 +109,10 @@ module _ (s t o : List ℕ) (rs : List Row) (es : Exprs) (reads : reading s t �
   pub write-room : Write s t o .number ≡ 0 → length (canonical es) ≤ length o
   unfolding Write
   write-room h = put-room (put-out-is (canonical es) 0 (filled rs t) o) (rw reads at h)
+
+  pub write-rows : Write s t o .table ≡ filled rs t
+  unfolding Write
+  write-rows = rw reads (put-table (put-out-is (canonical es) 0 (filled rs t) o))
 
 pub write-cases : (P : Answer → Type 0) (s t o : List ℕ) → ((w p : ℕ) → reading s t ≡ refused w p → P (refusal w p t o))
     → ((rs : List Row) (es : Exprs) → reading s t ≡ readable rs es → P (put-out (canonical es) 0 (filled rs t) o)) → P (Write s t o)
@@ -209,6 +217,27 @@ evaluation-within s l = rw (evaluation-answered s l (way s (l .table))) (go (way
     go (unversioned rs es e h) = omega arith
     go (wrong-version rs es e h k) = omega arith
     go (runs rs es e h k) = by-end rs (steps-in (run es .events)) (cut (l .steps) (min (l .work) 65536) (run es .events) (run es .end))
+
+pub evaluation-rows : (s : List ℕ) (l : Lent) (rs : List Row) (es : Exprs) → reading s (l .table) ≡ readable rs es
+    → evaluation s l .table ≡ filled rs (l .table)
+unfolding Evaluate run-answer
+evaluation-rows s l rs es e =
+    rw e (go (not (is-versioned es)) (not (same (take 6 s) version-bytes)) (cut (l .steps) (min (l .work) 65536) (run es .events) (run es .end)))
+  where
+    t : List ℕ
+    t = filled rs (l .table)
+
+    o : List ℕ
+    o = l .output
+
+    k : ℕ
+    k = steps-in (run es .events)
+
+    go : (a b : Bool) (x : End (List Exprs)) → (if a then refusal 9 0 t o else if b then refusal 10 0 t o else end-answer rs k t o x) .table ≡ t
+    go true b x = refl
+    go false true x = refl
+    go false false (done ls) = put-table (put-out-is (canonical (result ls)) k t o)
+    go false false (stopped v r) = refl
 
 -- what was read fits
 pub reading-fits : (s t : List ℕ) (rs : List Row) (es : Exprs) → Bytes s → reading s t ≡ readable rs es → FitsAll es

@@ -17,7 +17,7 @@ use Rattle.laws.proofs.Reading.{read-readable, read-refused-roomy, read
 use Rattle.laws.proofs.Parsing.{read-spells}
 use Rattle.laws.proofs.Items.{spelled-rows, item-spelled, item-past}
 use Rattle.laws.proofs.Values.{run-proper}
-use Rattle.laws.proofs.Calls.{put-out-bytes, read-kept, read-within, write-out, write-room, write-within, write-kept, evaluation-kept, evaluation-within}
+use Rattle.laws.proofs.Calls.{put-out-bytes, read-kept, read-within, write-out, write-room, write-within, write-kept, write-rows, evaluation-kept, evaluation-rows, evaluation-within}
 use Rattle.laws.proofs.Results.{meant, canonical-reads, same-canonical, written-same, writing, written-means, written-canonical, written-reads, written-stream, left-canonical, left-length, left-stream, left-reads, same-prefix}
 use Rattle.laws.proofs.Places.{read-order, read-inside, read-at-most, write-at-most, evaluation-at-most}
 use Rattle.laws.proofs.Retry.{read-alike, write-alike, evaluate-alike, contents-alike}
@@ -32,9 +32,18 @@ pub unreadable : (s : List ℕ) (l : Lent) (w p : ℕ) → reading s (l .table) 
 unfolding Read Write Evaluate
 unreadable s l w p h = (rw h, rw h, rw h)
 
+-- "The table is unchanged on 1 to 8 given in reading and holds the rows otherwise, also on evaluation's 6."
+
 pub read-table : (s t : List ℕ) (rs : List Row) (es : Exprs) → reading s t ≡ readable rs es → Read s t ≡ acceptance (length rs) 0 (filled rs t) []
 unfolding Read
 read-table s t rs es h = rw h
+
+pub write-table : (s t o : List ℕ) (rs : List Row) (es : Exprs) → reading s t ≡ readable rs es → Write s t o .table ≡ filled rs t
+write-table = write-rows
+
+pub evaluation-table : (s : List ℕ) (l : Lent) (rs : List Row) (es : Exprs) → reading s (l .table) ≡ readable rs es
+    → evaluation s l .table ≡ filled rs (l .table)
+evaluation-table = evaluation-rows
 
 pub read-keeps : (s t : List ℕ) → Kept t [] (Read s t)
 read-keeps = read-kept

@@ -1,11 +1,12 @@
--- Document 01, "Streams to try": the starred ones, each call with its answer, in one table under one claim. And three more tables: for "Errors that
--- come easily", whose answers a definition with such an error does not give, with Item and the table that Evaluate leaves; for the rules, at their
--- bounds and as written wrongly; and for the refusals that no starred stream is given, with their limits. Assumes nothing.
+-- Document 01, "Streams to try": the starred ones, each call with its answer, in one table under one claim. And further tables, with the
+-- answers that its sentences demand: for "Errors that come easily", whose answers a definition with such an error does not give; for
+-- reading; for what is visible where; for names and namespaces; for the rules as written wrongly; for the refusals with their limits,
+-- and for which of two comes first; and for what the buffers hold afterwards. Assumes nothing.
 use Prim.Native.Nat.{ℕ, zero, suc, _+_}
 use mathlib.Core.Path.{_≡_, refl}
 use mathlib.Core.List.{List, [], _∷_, _++_, map}
 use lib.ListN.{length, replicate}
-use Rattle.spec.specs.Expr.{same, some, ref, atom, form, Exprs, none, only, append, size, first, without, rows, depth, array-head, marker-bytes, atom-bytes, bytes}
+use Rattle.spec.specs.Expr.{same, some, array, int, ref, atom, form, Exprs, none, only, append, size, first, without, rows, depth, array-head, marker-bytes, atom-bytes, bytes}
 use Rattle.spec.specs.Reading.{take-bytes, natural, plain-length, length-expr, marker, name, read-atom, token, tokens, check, lists, ends, rows-of, next-row, numbers, Reading, refused, readable, read}
 use Rattle.spec.specs.Nodes.{among, word, number, markers}
 use Rattle.spec.specs.Runs.{cut, steps-in}
@@ -23,8 +24,10 @@ data Request : Type 0 where
   writes : List ℕ → ℕ → ℕ → Request
   -- stream, workspace, output, steps; the table has 1,050 rows
   evaluates : List ℕ → ℕ → ℕ → ℕ → Request
-  -- stream, table, steps: the table that Evaluate leaves
-  fills : List ℕ → ℕ → ℕ → Request
+  -- stream, table, output: the table that Write leaves
+  rewrites : List ℕ → ℕ → ℕ → Request
+  -- stream, table, workspace, output, steps: the table that Evaluate leaves
+  fills : List ℕ → ℕ → ℕ → ℕ → ℕ → Request
   -- stream, result, which, k
   items : List ℕ → List ℕ → Buffer → ℕ → Request
 
@@ -56,7 +59,8 @@ answer (reads s t) = with-table (Read s (before t))
 answer (means s) = meant (read s (length s))
 answer (writes s t o) = with-output (Write s (before t) (before o))
 answer (evaluates s w o n) = with-output (Evaluate s (before 4200) w (before o) n)
-answer (fills s t n) = with-table (Evaluate s (before t) 65536 [] n)
+answer (rewrites s t o) = with-table (Write s (before t) (before o))
+answer (fills s t w o n) = with-table (Evaluate s (before t) w (before o) n)
 answer (items s r b k) = item-is (Item s r b k)
 
 asked : Case → Told
@@ -163,37 +167,55 @@ errors =
     -- writing a 5-byte array back with its 03
     (writes (0x03 ∷ 0x85 ∷ 0x01 ∷ 0x02 ∷ 0x03 ∷ 0x04 ∷ 0x05 ∷ []) 4 9
     gives told 0 0 6 0 (0xC5 ∷ 0x01 ∷ 0x02 ∷ 0x03 ∷ 0x04 ∷ 0x05 ∷ 0xEE ∷ 0xEE ∷ 0xEE ∷ [])) ∷
-    -- Item: the first expression and the last; none behind it; the other buffer; a buffer that can't be read
-    (items N [] of-stream 0 gives item-is (part of-stream 0 6)) ∷
-    (items N [] of-stream 3 gives item-is (part of-stream 21 23)) ∷
-    (items N [] of-stream 4 gives item-is no-part) ∷
-    (items [] N of-result 1 gives item-is (part of-result 6 14)) ∷
-    (items (N ++ (0x02 ∷ [])) N of-stream 0 gives item-is no-part) ∷
-    -- the table holds the rows when steps run out, and is unchanged when reading refuses
-    (fills version-form 17 0 gives told 16 0 0 0 (1 ∷ 0 ∷ 6 ∷ 4 ∷ 4 ∷ 1 ∷ 3 ∷ 2 ∷ 3 ∷ 3 ∷ 4 ∷ 3 ∷ 3 ∷ 4 ∷ 5 ∷ 4 ∷ 238 ∷ [])) ∷
-    (fills (0x02 ∷ []) 4 9 gives refusal 3 0 4) ∷
     []
 
 errors-ruled-out : answers errors ≡ map expected errors
 unfolding answers expected errors refusal result-is version-form ns-form define-85 define-89 word-28-01 N
 errors-ruled-out = refl
 
--- n forms one inside another, and their bytes around some others
-form-in : ℕ → Exprs
-form-in zero = none
-form-in (suc n) = only (form (form-in n))
+-- Parts of streams to be evaluated
 
-nested : ℕ → List ℕ → List ℕ
-nested n s = replicate n 0x01 ++ s ++ replicate n 0x02
+-- a form, and one that a core name heads
+in-form : List ℕ → List ℕ
+in-form s = 0x01 ∷ (s ++ (0x02 ∷ []))
 
--- functions 28 00 to 28 n: the first gives 85, each other calls the one before
-chain : ℕ → List ℕ
-chain zero = 0x01 ∷ 0x20 ∷ 0x09 ∷ 0x28 ∷ 0x00 ∷ 0x01 ∷ 0x20 ∷ 0x0B ∷ 0x85 ∷ 0x02 ∷ 0x02 ∷ []
-chain (suc n) = chain n ++ (0x01 ∷ 0x20 ∷ 0x09 ∷ 0x28 ∷ suc n ∷ 0x01 ∷ 0x20 ∷ 0x0B ∷ 0x01 ∷ 0x28 ∷ n ∷ 0x02 ∷ 0x02 ∷ 0x02 ∷ [])
+core-form : ℕ → List ℕ → List ℕ
+core-form n s = in-form (0x20 ∷ n ∷ s)
 
--- an ns form with an id of n bytes
+-- the reference 28 n, and its definition
+word-28 : ℕ → List ℕ
+word-28 n = 0x28 ∷ n ∷ []
+
+defines : ℕ → List ℕ → List ℕ
+defines n s = core-form 0x09 (word-28 n ++ s)
+
+-- an ns form with an id of one byte, and one with an id of n bytes
+space : ℕ → ℕ → List ℕ
+space m id = core-form 0x06 (m ∷ 0x00 ∷ 0xC1 ∷ id ∷ [])
+
 named : ℕ → List ℕ
-named n = (0x01 ∷ 0x20 ∷ 0x06 ∷ 0x29 ∷ 0x00 ∷ 0x03 ∷ 0xC1 ∷ n ∷ []) ++ replicate n 0x41 ++ (0x02 ∷ [])
+named n = core-form 0x06 ((0x29 ∷ 0x00 ∷ 0x03 ∷ 0xC1 ∷ n ∷ []) ++ replicate n 0x41)
+
+joins : List ℕ → List ℕ → List ℕ
+joins s u = core-form 0x0A (s ++ u)
+
+-- a subst form, and the forms that speak of arguments
+code : List ℕ → List ℕ
+code s = core-form 0x0B s
+
+arg-form : ℕ → List ℕ
+arg-form n = core-form 0x0C ((0x80 + n) ∷ [])
+
+rest-form : ℕ → List ℕ
+rest-form n = core-form 0x0D ((0x80 + n) ∷ [])
+
+-- what is 12 wherever it is evaluated
+function-name : List ℕ
+function-name = 0x20 ∷ 0x09 ∷ []
+
+-- a function 28 02 that gives its first argument
+identity : List ℕ
+identity = defines 2 (code (arg-form 0))
 
 -- some bytes n times
 again : ℕ → List ℕ → List ℕ
@@ -203,106 +225,368 @@ again (suc n) s = s ++ again n s
 -- n ns forms
 spaces : ℕ → List ℕ
 spaces zero = []
-spaces (suc n) = spaces n ++ (0x01 ∷ 0x20 ∷ 0x06 ∷ (0x28 + n) ∷ 0x00 ∷ 0xC1 ∷ n ∷ 0x02 ∷ [])
+spaces (suc n) = spaces n ++ space (0x28 + n) n
 
--- a function 28 02 that gives its first argument
-identity : List ℕ
-identity = 0x01 ∷ 0x20 ∷ 0x09 ∷ 0x28 ∷ 0x02 ∷ 0x01 ∷ 0x20 ∷ 0x0B ∷ 0x01 ∷ 0x20 ∷ 0x0C ∷ 0x80 ∷ 0x02 ∷ 0x02 ∷ 0x02 ∷ []
+-- functions 28 00 to 28 n: the first has this code, each other calls the one before
+chain : List ℕ → ℕ → List ℕ
+chain s zero = defines 0 (code s)
+chain s (suc n) = chain s n ++ defines (suc n) (code (in-form (word-28 n)))
 
-rules : List Case
-rules =
-    -- the kinds of the four atoms and of a form
+-- n forms one inside another, and their bytes around some others
+form-in : ℕ → Exprs
+form-in zero = none
+form-in (suc n) = only (form (form-in n))
+
+nested : ℕ → List ℕ → List ℕ
+nested n s = replicate n 0x01 ++ s ++ replicate n 0x02
+
+-- a value with 65 forms one inside another: 4,244 bytes are charged before it
+deep : List ℕ
+deep = version-form ++ ns-form ++ defines 1 (nested 33 []) ++ nested 32 word-28-01
+
+-- a byte, and 14 times what was defined before joined with itself
+doubled : List ℕ
+doubled = version-form ++ ns-form ++ defines 0 (0xC1 ∷ 0x42 ∷ []) ++ again 14 (defines 0 (joins (word-28 0) (word-28 0)))
+
+-- V and the ns form, 14 bytes and 5 steps, and after them what is refused, or what leaves some bytes
+refuses : List ℕ → ℕ → ℕ → Case
+refuses s w p = evaluates (version-form ++ ns-form ++ s) 65536 9 999 gives refusal w p 9
+
+leaves : List ℕ → List ℕ → ℕ → Case
+leaves s bs n = evaluates (version-form ++ ns-form ++ s) 65536 (14 + length bs) 999 gives result-is (version-form ++ ns-form ++ bs) n
+
+-- "Bytes to expressions", and reading's refusals in their order
+
+-- what a stream is written as
+written : List ℕ → List ℕ → Case
+written s bs = writes s 4 (length bs) gives told 0 0 (length bs) 0 bs
+
+-- 7F and n bytes FF
+long-marker : ℕ → List ℕ → List ℕ
+long-marker n s = 0x7F ∷ (replicate n 0xFF ++ s)
+
+readings : List Case
+readings =
+    -- the kinds of the four atoms and of a form; forms inside forms; a length expression has no row
     (reads (0x00 ∷ 0xC1 ∷ 0xAA ∷ 0x81 ∷ 0x28 ∷ 0x00 ∷ 0x01 ∷ 0x02 ∷ []) 20
     gives told 0 0 5 0 (0 ∷ 0 ∷ 1 ∷ 1 ∷ 2 ∷ 1 ∷ 3 ∷ 2 ∷ 3 ∷ 3 ∷ 4 ∷ 3 ∷ 4 ∷ 4 ∷ 6 ∷ 4 ∷ 1 ∷ 6 ∷ 8 ∷ 5 ∷ [])) ∷
-    -- 11: too few and too many elements
-    (evaluates (version-form ++ ns-form ++ (0x01 ∷ 0x20 ∷ 0x0C ∷ 0x02 ∷ [])) 65536 9 99 gives refusal 11 14 9) ∷
-    (evaluates (version-form ++ ns-form ++ (0x01 ∷ 0x20 ∷ 0x0C ∷ 0x80 ∷ 0x80 ∷ 0x02 ∷ [])) 65536 9 99 gives refusal 11 14 9) ∷
-    (evaluates (version-form ++ ns-form ++ (0x01 ∷ 0x20 ∷ 0x0A ∷ 0x02 ∷ [])) 65536 9 99 gives refusal 11 14 9) ∷
-    (evaluates (version-form ++ ns-form ++ (0x01 ∷ 0x20 ∷ 0x0A ∷ 0xC0 ∷ 0xC0 ∷ 0xC0 ∷ 0x02 ∷ [])) 65536 9 99 gives refusal 11 14 9) ∷
-    -- 11: no reference to define, no array for an id, no small integer for n
-    (evaluates (version-form ++ ns-form ++ (0x01 ∷ 0x20 ∷ 0x09 ∷ 0x80 ∷ 0x80 ∷ 0x02 ∷ [])) 65536 9 99 gives refusal 11 14 9) ∷
-    (evaluates (version-form ++ ns-form ++ (0x01 ∷ 0x20 ∷ 0x09 ∷ 0x01 ∷ 0x02 ∷ 0x80 ∷ 0x02 ∷ [])) 65536 9 99 gives refusal 11 14 9) ∷
-    (evaluates (version-form ++ ns-form ++ (0x01 ∷ 0x20 ∷ 0x06 ∷ 0x29 ∷ 0x00 ∷ 0x80 ∷ 0x02 ∷ [])) 65536 9 99 gives refusal 11 14 9) ∷
-    (evaluates (version-form ++ ns-form ++ (0x01 ∷ 0x20 ∷ 0x06 ∷ 0x29 ∷ 0x00 ∷ 0x01 ∷ 0x02 ∷ 0x02 ∷ [])) 65536 9 99 gives refusal 11 14 9) ∷
-    (evaluates (version-form ++ ns-form ++ (0x01 ∷ 0x20 ∷ 0x0C ∷ 0x00 ∷ 0x02 ∷ [])) 65536 9 99 gives refusal 11 14 9) ∷
-    (evaluates (version-form ++ ns-form ++ (0x01 ∷ 0x20 ∷ 0x0C ∷ 0xC0 ∷ 0x02 ∷ [])) 65536 9 99 gives refusal 11 14 9) ∷
-    (evaluates (version-form ++ ns-form ++ (0x01 ∷ 0x20 ∷ 0x0C ∷ 0x28 ∷ 0x01 ∷ 0x02 ∷ [])) 65536 9 99 gives refusal 11 14 9) ∷
-    (evaluates (version-form ++ ns-form ++ (0x01 ∷ 0x20 ∷ 0x0C ∷ 0x01 ∷ 0x02 ∷ 0x02 ∷ [])) 65536 9 99 gives refusal 11 14 9) ∷
-    -- 11: an operand that is a rest form, one that is no array
-    (evaluates (version-form ++ ns-form ++ (0x01 ∷ 0x20 ∷ 0x0A ∷ 0x01 ∷ 0x20 ∷ 0x0D ∷ 0x80 ∷ 0x02 ∷ 0xC0 ∷ 0x02 ∷ [])) 65536 9 99
-    gives refusal 11 14 9) ∷
-    (evaluates (version-form ++ ns-form ++ (0x01 ∷ 0x20 ∷ 0x0A ∷ 0xC0 ∷ 0x01 ∷ 0x20 ∷ 0x0D ∷ 0x80 ∷ 0x02 ∷ 0x02 ∷ [])) 65536 9 99
-    gives refusal 11 14 9) ∷
-    (evaluates (version-form ++ ns-form ++ (0x01 ∷ 0x20 ∷ 0x0A ∷ 0xC0 ∷ 0x01 ∷ 0x02 ∷ 0x02 ∷ [])) 65536 9 99 gives refusal 11 14 9) ∷
-    -- ids of 0, 64 and 65 bytes
-    (evaluates (version-form ++ ns-form ++ (0x01 ∷ 0x20 ∷ 0x06 ∷ 0x29 ∷ 0x00 ∷ 0xC0 ∷ 0x02 ∷ [])) 65536 9 99 gives refusal 11 14 9) ∷
-    (evaluates (version-form ++ named 64) 65536 79 5 gives result-is (version-form ++ named 64) 5) ∷
-    (evaluates (version-form ++ named 65) 65536 80 5 gives refusal 11 6 80) ∷
-    -- 13: ns as an operand, define as an argument of a function and of a subst form
-    (evaluates (version-form ++ ns-form ++ (0x01 ∷ 0x20 ∷ 0x0A ∷ 0x01 ∷ 0x20 ∷ 0x06 ∷ 0x29 ∷ 0x00 ∷ 0xC1 ∷ 0x42 ∷ 0x02 ∷ 0xC0 ∷ 0x02 ∷ [])) 65536 9 99
-    gives refusal 13 17 9) ∷
-    (evaluates (version-form ++ ns-form ++ identity ++ (0x01 ∷ 0x28 ∷ 0x02 ∷ []) ++ define-85 ++ (0x02 ∷ [])) 65536 9 99
-    gives refusal 13 32 9) ∷
-    (evaluates (version-form ++ ns-form ++ (0x01 ∷ 0x01 ∷ 0x20 ∷ 0x0B ∷ 0x02 ∷ []) ++ define-85 ++ (0x02 ∷ [])) 65536 9 99
-    gives refusal 13 19 9) ∷
-    -- 12: a function where a value is wanted. A call gives its argument
-    (evaluates (version-form ++ ns-form ++ identity ++ (0x28 ∷ 0x02 ∷ [])) 65536 9 99 gives refusal 12 29 9) ∷
-    (evaluates (version-form ++ ns-form ++ identity ++ (0x01 ∷ 0x28 ∷ 0x02 ∷ 0x83 ∷ 0x02 ∷ [])) 65536 15 99
-    gives result-is (version-form ++ ns-form ++ (0x83 ∷ [])) 9) ∷
-    -- rest without as many arguments as there are, and without one more
-    (evaluates (version-form ++ (0x01 ∷ 0x01 ∷ 0x20 ∷ 0x0B ∷ 0x01 ∷ 0x20 ∷ 0x0D ∷ 0x81 ∷ 0x02 ∷ 0x02 ∷ 0x83 ∷ 0x02 ∷ [])) 65536 8 99
-    gives result-is (version-form ++ (0x01 ∷ 0x02 ∷ [])) 7) ∷
-    (evaluates (version-form ++ (0x01 ∷ 0x01 ∷ 0x20 ∷ 0x0B ∷ 0x01 ∷ 0x20 ∷ 0x0D ∷ 0x82 ∷ 0x02 ∷ 0x02 ∷ 0x83 ∷ 0x02 ∷ [])) 65536 8 99
-    gives refusal 15 10 8) ∷
-    []
-
-rules-hold : answers rules ≡ map expected rules
-unfolding answers expected rules refusal result-is version-form ns-form define-85 named identity
-rules-hold = refl
-
-refusals : List Case
-refusals =
-    -- 1: a byte too many. 6: 64 forms and one more; nine bytes 03; a value 65 deep. 7: a marker of 65,662. 8: a table of one row
+    (reads (0x01 ∷ 0x01 ∷ 0x00 ∷ 0x02 ∷ 0x00 ∷ 0x02 ∷ 0x00 ∷ []) 20
+    gives told 0 0 5 0 (1 ∷ 0 ∷ 6 ∷ 4 ∷ 1 ∷ 1 ∷ 4 ∷ 3 ∷ 0 ∷ 2 ∷ 3 ∷ 3 ∷ 0 ∷ 4 ∷ 5 ∷ 4 ∷ 0 ∷ 6 ∷ 7 ∷ 5 ∷ [])) ∷
+    (reads (0x03 ∷ 0x03 ∷ 0x81 ∷ 0x01 ∷ 0xAA ∷ []) 5 gives told 0 0 1 0 (2 ∷ 0 ∷ 5 ∷ 1 ∷ 0xEE ∷ [])) ∷
+    -- low six bits; a small integer is not the array of its byte
+    (means (0xBF ∷ []) gives meaning (only (atom (int 63)))) ∷
+    (means (0x81 ∷ []) gives meaning (only (atom (int 1)))) ∷
+    (means (0xC1 ∷ 0x01 ∷ []) gives meaning (only (atom (array (1 ∷ []))))) ∷
+    -- big-endian; no bytes: 0; leading zeros; a small array as the length of an inner array; eight bytes 03
+    (means ((0x03 ∷ 0xC2 ∷ 0x01 ∷ 0x00 ∷ []) ++ replicate 256 0xAA) gives meaning (only (atom (array (replicate 256 0xAA))))) ∷
+    written (0x03 ∷ 0xC0 ∷ []) (0xC0 ∷ []) ∷
+    written (0x03 ∷ 0xC3 ∷ 0x00 ∷ 0x00 ∷ 0x01 ∷ 0xAA ∷ []) (0xC1 ∷ 0xAA ∷ []) ∷
+    written (0x03 ∷ 0x03 ∷ 0xC1 ∷ 0x01 ∷ 0x01 ∷ 0xAA ∷ []) (0xC1 ∷ 0xAA ∷ []) ∷
+    written (replicate 8 0x03 ++ (0x80 ∷ [])) (0xC0 ∷ []) ∷
+    -- canonical: 63, 64, 255 and 256 bytes
+    written ((0x03 ∷ 0xC1 ∷ 63 ∷ []) ++ replicate 63 0xAA) (0xFF ∷ replicate 63 0xAA) ∷
+    written ((0x03 ∷ 0xC2 ∷ 0x00 ∷ 64 ∷ []) ++ replicate 64 0xAA) ((0x03 ∷ 0xC1 ∷ 64 ∷ []) ++ replicate 64 0xAA) ∷
+    written ((0x03 ∷ 0xC2 ∷ 0x00 ∷ 255 ∷ []) ++ replicate 255 0xAA) ((0x03 ∷ 0xC1 ∷ 255 ∷ []) ++ replicate 255 0xAA) ∷
+    written ((0x03 ∷ 0xC3 ∷ 0x00 ∷ 0x01 ∷ 0x00 ∷ []) ++ replicate 256 0xAA) ((0x03 ∷ 0xC2 ∷ 0x01 ∷ 0x00 ∷ []) ++ replicate 256 0xAA) ∷
+    -- a reference is written as it was, of the markers 127, 381 and 382 too
+    written (long-marker 0 (0x00 ∷ 0x1A ∷ [])) (long-marker 0 (0x00 ∷ 0x1A ∷ [])) ∷
+    written (long-marker 0 (0xFE ∷ 0x1A ∷ [])) (long-marker 0 (0xFE ∷ 0x1A ∷ [])) ∷
+    written (long-marker 1 (0x00 ∷ 0x1A ∷ [])) (long-marker 1 (0x00 ∷ 0x1A ∷ [])) ∷
+    -- the first markers and the last
+    (means (0x10 ∷ 0x00 ∷ []) gives meaning (only (atom (ref 16 0)))) ∷
+    (means (0x7E ∷ 0x00 ∷ []) gives meaning (only (atom (ref 126 0)))) ∷
+    (means (long-marker 256 (0x80 ∷ 0x00 ∷ [])) gives meaning (only (atom (ref 65535 0)))) ∷
+    -- 1: a byte too many. 3: after a form. 4: the last reserved byte. 5: a length that begins with 02, 04 or 7F, or inside another
     (reads (replicate 65537 0x00) 4 gives refusal 1 0 4) ∷
+    (reads (0x01 ∷ 0x02 ∷ 0x02 ∷ []) 4 gives refusal 3 2 4) ∷
+    (reads (0x0F ∷ []) 4 gives refusal 4 0 4) ∷
+    (reads (0x03 ∷ 0x02 ∷ []) 4 gives refusal 5 1 4) ∷
+    (reads (0x03 ∷ 0x04 ∷ []) 4 gives refusal 5 1 4) ∷
+    (reads (0x03 ∷ 0x03 ∷ 0x7F ∷ []) 4 gives refusal 5 2 4) ∷
+    -- 2: in a length, in an array, in a marker, before a name; a length that is longer than any stream
+    (reads (0x03 ∷ 0xC2 ∷ 0x01 ∷ []) 4 gives refusal 2 3 4) ∷
+    (reads (0xC2 ∷ 0xAA ∷ []) 4 gives refusal 2 2 4) ∷
+    (reads (long-marker 1 []) 4 gives refusal 2 2 4) ∷
+    (reads (0x28 ∷ []) 4 gives refusal 2 1 4) ∷
+    (reads ((0x03 ∷ 0xC9 ∷ []) ++ replicate 9 0xFF) 4 gives refusal 2 11 4) ∷
+    -- 6: 64 forms and one more; nine bytes 03. 7: a marker of 65,536
     (means (nested 64 []) gives meaning (form-in 64)) ∷
     (reads (replicate 65 0x01) 400 gives refusal 6 64 400) ∷
     (reads (replicate 9 0x03) 4 gives refusal 6 8 4) ∷
-    (evaluates (version-form ++ ns-form ++ (0x01 ∷ 0x20 ∷ 0x09 ∷ 0x28 ∷ 0x01 ∷ []) ++ nested 33 [] ++ (0x02 ∷ []) ++ nested 32 word-28-01) 65536 9 999
-    gives refusal 6 86 9) ∷
-    (reads (0x00 ∷ 0x7F ∷ replicate 257 0xFF ++ (0x00 ∷ 0x00 ∷ [])) 8 gives refusal 7 1 8) ∷
+    (reads (0x00 ∷ long-marker 256 (0x81 ∷ 0x00 ∷ [])) 8 gives refusal 7 1 8) ∷
+    -- 8: table length divided by 4, rounded down
     (reads (0x00 ∷ 0x00 ∷ []) 7 gives refusal 8 1 7) ∷
-    -- 10: version 1.1. 11: ns without its id, define of a rest form. 12: a function name, a subst form. 13: ns in a form, define as an operand
-    (evaluates (0x01 ∷ 0x20 ∷ 0x00 ∷ 0x81 ∷ 0x81 ∷ 0x02 ∷ []) 65536 9 99 gives refusal 10 0 9) ∷
-    (evaluates (version-form ++ ns-form ++ (0x01 ∷ 0x20 ∷ 0x06 ∷ 0x2A ∷ 0x00 ∷ 0x02 ∷ [])) 65536 9 99 gives refusal 11 14 9) ∷
-    (evaluates (version-form ++ ns-form ++ (0x01 ∷ 0x20 ∷ 0x09 ∷ 0x28 ∷ 0x01 ∷ 0x01 ∷ 0x20 ∷ 0x0D ∷ 0x80 ∷ 0x02 ∷ 0x02 ∷ [])) 65536 9 99
-    gives refusal 11 14 9) ∷
-    (evaluates (version-form ++ ns-form ++ (0x20 ∷ 0x09 ∷ [])) 65536 9 99 gives refusal 12 14 9) ∷
-    (evaluates (version-form ++ ns-form ++ (0x01 ∷ 0x20 ∷ 0x0B ∷ 0x02 ∷ [])) 65536 9 99 gives refusal 12 14 9) ∷
-    (evaluates (version-form ++ ns-form ++ (0x01 ∷ 0x01 ∷ 0x20 ∷ 0x06 ∷ 0x29 ∷ 0x00 ∷ 0xC1 ∷ 0x42 ∷ 0x02 ∷ 0x02 ∷ [])) 65536 9 99
-    gives refusal 13 15 9) ∷
-    (evaluates (version-form ++ ns-form ++ (0x01 ∷ 0x20 ∷ 0x0A ∷ 0x01 ∷ 0x20 ∷ 0x09 ∷ 0x28 ∷ 0x01 ∷ 0xC0 ∷ 0x02 ∷ 0xC0 ∷ 0x02 ∷ [])) 65536 9 99
-    gives refusal 13 17 9) ∷
-    -- 14: the core namespace, a marker not associated, an id used before, a marker borne earlier. 15: arg outside code, an argument that isn't there
-    (evaluates (version-form ++ ns-form ++ (0x01 ∷ 0x20 ∷ 0x09 ∷ 0x20 ∷ 0x00 ∷ 0x80 ∷ 0x02 ∷ [])) 65536 9 99 gives refusal 14 14 9) ∷
-    (evaluates (version-form ++ ns-form ++ (0x01 ∷ 0x20 ∷ 0x09 ∷ 0x2A ∷ 0x01 ∷ 0x80 ∷ 0x02 ∷ [])) 65536 9 99 gives refusal 14 14 9) ∷
-    (evaluates (version-form ++ ns-form ++ (0x01 ∷ 0x20 ∷ 0x06 ∷ 0x29 ∷ 0x00 ∷ 0xC1 ∷ 0x41 ∷ 0x02 ∷ [])) 65536 9 99 gives refusal 14 14 9) ∷
-    (evaluates (version-form ++ ns-form ++ (0x2A ∷ 0x01 ∷ 0x01 ∷ 0x20 ∷ 0x06 ∷ 0x2A ∷ 0x00 ∷ 0xC1 ∷ 0x42 ∷ 0x02 ∷ [])) 65536 9 99
-    gives refusal 14 16 9) ∷
-    (evaluates (version-form ++ ns-form ++ (0x01 ∷ 0x20 ∷ 0x0C ∷ 0x80 ∷ 0x02 ∷ [])) 65536 9 99 gives refusal 15 14 9) ∷
-    (evaluates (version-form ++ ns-form ++ (0x01 ∷ 0x01 ∷ 0x20 ∷ 0x0B ∷ 0x01 ∷ 0x20 ∷ 0x0C ∷ 0x80 ∷ 0x02 ∷ 0x02 ∷ 0x02 ∷ [])) 65536 9 99
-    gives refusal 15 18 9) ∷
+    -- an atom: 2 before 7, 7 before 8; 4, 3, 5 and 2 before 8. A form's opening: 6 before 8
+    (reads (long-marker 257 (0x00 ∷ [])) 4 gives refusal 2 259 4) ∷
+    (reads (long-marker 257 (0x00 ∷ 0x00 ∷ [])) 0 gives refusal 7 0 0) ∷
+    (reads (0x04 ∷ []) 0 gives refusal 4 0 0) ∷
+    (reads (0x02 ∷ []) 0 gives refusal 3 0 0) ∷
+    (reads (0x03 ∷ 0x00 ∷ []) 0 gives refusal 5 1 0) ∷
+    (reads (0xC1 ∷ []) 0 gives refusal 2 1 0) ∷
+    (reads (replicate 65 0x01) 256 gives refusal 6 64 256) ∷
+    (reads (replicate 65 0x01) 252 gives refusal 8 63 252) ∷
+    []
+
+readings-hold : answers readings ≡ map expected readings
+unfolding answers expected readings written refusal long-marker form-in nested
+readings-hold = refl
+
+-- The rules: what is visible, calls and arguments, names and namespaces
+
+-- version, true, false, string encodings, package, import, a name that is not given; in document 000's numbers concat and rest, which are
+-- others here; arithmetic, bytecode
+plain-names : List ℕ
+plain-names = 0x00 ∷ 0x01 ∷ 0x02 ∷ 0x03 ∷ 0x05 ∷ 0x07 ∷ 0x08 ∷ 0x0E ∷ 0x10 ∷ 0x13 ∷ 0x27 ∷ 0x31 ∷ []
+
+-- for each name a form that it heads
+headed : List ℕ → List ℕ → List ℕ
+headed [] s = []
+headed (n ∷ ns) s = core-form n s ++ headed ns s
+
+rules : List Case
+rules =
+    -- a definition is visible at all depths, to code of a subst form too; of that marker and name; to what follows
+    leaves (define-85 ++ in-form (in-form word-28-01)) (in-form (in-form (0x85 ∷ []))) 10 ∷
+    leaves (define-85 ++ in-form (code word-28-01)) (0x85 ∷ []) 9 ∷
+    leaves (space 0x29 0x42 ++ define-85 ++ (0x29 ∷ 0x01 ∷ [])) (space 0x29 0x42 ++ (0x29 ∷ 0x01 ∷ [])) 9 ∷
+    leaves (in-form (define-85 ++ word-28-01 ++ define-89 ++ word-28-01)) (in-form (0x85 ∷ 0x89 ∷ [])) 12 ∷
+    -- its value can't see it, but sees one before; nor can a function's code
+    leaves (defines 1 (in-form word-28-01) ++ word-28-01) (in-form word-28-01) 9 ∷
+    leaves (define-85 ++ defines 1 (in-form word-28-01) ++ word-28-01) (in-form (0x85 ∷ [])) 11 ∷
+    leaves (defines 2 (code (in-form (word-28 2))) ++ in-form (word-28 2)) (in-form (word-28 2)) 9 ∷
+    -- a value hides a function
+    leaves (identity ++ defines 2 (0x85 ∷ []) ++ in-form (word-28 2 ++ (0x89 ∷ []))) (in-form (0x85 ∷ 0x89 ∷ [])) 11 ∷
+    -- a value that is a reference is neither looked up nor called, though it is a function by then
+    leaves (defines 1 (word-28 2) ++ identity ++ word-28-01) (word-28 2) 9 ∷
+    leaves (defines 1 (word-28 2) ++ identity ++ in-form (word-28-01 ++ (0x83 ∷ []))) (in-form (word-28 2 ++ (0x83 ∷ []))) 11 ∷
+    -- code is judged when it runs
+    leaves (defines 2 (code function-name)) [] 6 ∷
+    -- define in a data form: as its head, after a concat, a form and a call, in a define's value, in code
+    leaves (in-form (define-85 ++ word-28-01)) (in-form (0x85 ∷ [])) 9 ∷
+    leaves (in-form (joins (0xC0 ∷ []) (0xC0 ∷ []) ++ in-form [] ++ in-form (code []) ++ define-85 ++ word-28-01))
+    (in-form ((0xC0 ∷ []) ++ in-form [] ++ in-form [] ++ (0x85 ∷ []))) 14 ∷
+    leaves (defines 1 (in-form (defines 2 (0x86 ∷ []) ++ word-28 2)) ++ word-28-01 ++ word-28 2) (in-form (0x86 ∷ []) ++ word-28 2) 12 ∷
+    leaves (in-form (code (in-form (defines 1 (arg-form 0) ++ word-28-01)) ++ (0x86 ∷ []))) (in-form (0x86 ∷ [])) 11 ∷
+    -- 13: define as an operand, an argument of a function and of a subst form, a define's value, and in code; ns in a form, as an operand, in code
+    refuses (joins define-85 (0xC0 ∷ [])) 13 17 ∷
+    refuses (identity ++ in-form (word-28 2 ++ define-85)) 13 32 ∷
+    refuses (in-form (code [] ++ define-85)) 13 19 ∷
+    refuses (defines 1 define-85) 13 19 ∷
+    refuses (in-form (code define-85)) 13 18 ∷
+    refuses (in-form (space 0x29 0x42)) 13 15 ∷
+    refuses (joins (space 0x29 0x42) (0xC0 ∷ [])) 13 17 ∷
+    refuses (in-form (code (space 0x29 0x42))) 13 18 ∷
+    -- the call's value: of code with no expression, with one, with two; of a function
+    leaves (in-form (code [])) (in-form []) 6 ∷
+    leaves (in-form (code (0x85 ∷ []))) (0x85 ∷ []) 7 ∷
+    leaves (in-form (code (0x85 ∷ 0x86 ∷ []))) (in-form (0x85 ∷ 0x86 ∷ [])) 8 ∷
+    leaves (identity ++ in-form (word-28 2 ++ (0x83 ∷ []))) (0x83 ∷ []) 9 ∷
+    -- arguments belong to the nearest enclosing code, and those of a call there to the code around it; a function has only its own
+    leaves (in-form (code (in-form (code (arg-form 0) ++ (0x85 ∷ []))) ++ (0x86 ∷ []))) (0x85 ∷ []) 10 ∷
+    leaves (in-form (code (in-form (code (arg-form 0) ++ arg-form 0)) ++ (0x86 ∷ []))) (0x86 ∷ []) 10 ∷
+    refuses (identity ++ in-form (code (in-form (word-28 2)) ++ (0x86 ∷ []))) 15 22 ∷
+    -- rest among arguments, in a data form, and as the first of its elements; without as many arguments as there are, and without one more
+    leaves (in-form (code (in-form (code (arg-form 1) ++ rest-form 0)) ++ (0x85 ∷ 0x86 ∷ []))) (0x86 ∷ []) 11 ∷
+    leaves (in-form (code (in-form ((0x81 ∷ []) ++ rest-form 1)) ++ (0x85 ∷ 0x86 ∷ 0x87 ∷ []))) (in-form (0x81 ∷ 0x86 ∷ 0x87 ∷ [])) 12 ∷
+    leaves (in-form (code (in-form (rest-form 0 ++ (0x83 ∷ []))) ++ (0x85 ∷ 0x86 ∷ []))) (in-form (0x85 ∷ 0x86 ∷ 0x83 ∷ [])) 11 ∷
+    leaves (in-form (code (rest-form 1) ++ (0x83 ∷ []))) (in-form []) 8 ∷
+    refuses (in-form (code (rest-form 2) ++ (0x83 ∷ []))) 15 18 ∷
+    -- one expression as code is charged, and the call again; a rest of no items fits where nothing is left
+    (evaluates (version-form ++ in-form (code (0x85 ∷ []))) 12 7 6 gives result-is (version-form ++ (0x85 ∷ [])) 6) ∷
+    (evaluates (version-form ++ in-form (code (0x85 ∷ []))) 11 7 6 gives refusal 17 6 7) ∷
+    (evaluates (version-form ++ in-form (code (rest-form 0 ++ function-name))) 10 9 99 gives refusal 12 15 9) ∷
+    -- core names that are no function names stand for themselves, and head data forms; so do all names of other namespaces
+    leaves (define-85 ++ headed plain-names word-28-01) (headed plain-names (0x85 ∷ [])) 43 ∷
+    leaves (headed (0x00 ∷ []) (0x20 ∷ 0x07 ∷ 0x20 ∷ 0x08 ∷ 0x20 ∷ 0x0E ∷ [])) (headed (0x00 ∷ []) (0x20 ∷ 0x07 ∷ 0x20 ∷ 0x08 ∷ 0x20 ∷ 0x0E ∷ [])) 10 ∷
+    leaves (in-form (word-28 11 ++ word-28 6)) (in-form (word-28 11 ++ word-28 6)) 8 ∷
+    -- 12: a function name, a function, a subst form
+    refuses (0x20 ∷ 0x06 ∷ []) 12 14 ∷
+    refuses (0x20 ∷ 0x09 ∷ []) 12 14 ∷
+    refuses (0x20 ∷ 0x0A ∷ []) 12 14 ∷
+    refuses (0x20 ∷ 0x0B ∷ []) 12 14 ∷
+    refuses (0x20 ∷ 0x0C ∷ []) 12 14 ∷
+    refuses (0x20 ∷ 0x0D ∷ []) 12 14 ∷
+    refuses (identity ++ word-28 2) 12 29 ∷
+    refuses (code []) 12 14 ∷
+    refuses (defines 1 function-name) 12 19 ∷
+    -- the id's bytes count, not how its length was written; one in code that does not run is not used; ids of 64 and 65 bytes
+    leaves (core-form 0x06 (0x29 ∷ 0x00 ∷ 0x03 ∷ 0x81 ∷ 0x42 ∷ [])) (space 0x29 0x42) 6 ∷
+    leaves (defines 2 (code (space 0x2B 0x42)) ++ space 0x29 0x42) (space 0x29 0x42) 7 ∷
+    (evaluates (version-form ++ named 64) 65536 79 5 gives result-is (version-form ++ named 64) 5) ∷
+    (evaluates (version-form ++ named 65) 65536 80 5 gives refusal 11 6 80) ∷
+    -- 14: an id used before, a marker borne before: by a reference, in a form, in code that does not run; the core's; a marker not associated
+    refuses (space 0x29 0x41) 14 14 ∷
+    refuses (core-form 0x06 (0x29 ∷ 0x00 ∷ 0x03 ∷ 0x81 ∷ 0x41 ∷ [])) 14 14 ∷
+    refuses ((0x2A ∷ 0x01 ∷ []) ++ space 0x2A 0x42) 14 16 ∷
+    refuses (in-form (0x2A ∷ 0x01 ∷ []) ++ space 0x2A 0x42) 14 18 ∷
+    refuses (defines 2 (code (0x2A ∷ 0x01 ∷ [])) ++ space 0x2A 0x42) 14 26 ∷
+    refuses (core-form 0x06 (function-name ++ (0xC1 ∷ 0x42 ∷ []))) 14 14 ∷
+    refuses (core-form 0x09 (function-name ++ (0x80 ∷ []))) 14 14 ∷
+    refuses (core-form 0x09 (0x2A ∷ 0x01 ∷ 0x80 ∷ [])) 14 14 ∷
+    -- 15: arg and rest outside code, an argument that isn't there
+    refuses (arg-form 0) 15 14 ∷
+    refuses (rest-form 0) 15 14 ∷
+    refuses (in-form (code (arg-form 0))) 15 18 ∷
+    []
+
+rules-hold : answers rules ≡ map expected rules
+unfolding answers expected rules refuses leaves refusal result-is version-form ns-form define-85 define-89 word-28-01 in-form core-form word-28 defines space named joins code arg-form rest-form function-name identity plain-names headed
+rules-hold = refl
+
+-- 11: "wrong number or kind of elements in ns, define, concat, arg, rest, counted as written"
+
+elements : List Case
+elements =
+    -- ns: a marker, no id; an id of no bytes, no array for an id; one element too many; no reference
+    refuses (core-form 0x06 (0x2A ∷ 0x00 ∷ [])) 11 14 ∷
+    refuses (core-form 0x06 (0x29 ∷ 0x00 ∷ 0xC0 ∷ [])) 11 14 ∷
+    refuses (core-form 0x06 (0x29 ∷ 0x00 ∷ 0x80 ∷ [])) 11 14 ∷
+    refuses (core-form 0x06 ((0x29 ∷ 0x00 ∷ []) ++ in-form [])) 11 14 ∷
+    refuses (core-form 0x06 (0x29 ∷ 0x00 ∷ 0xC1 ∷ 0x42 ∷ 0x00 ∷ [])) 11 14 ∷
+    refuses (core-form 0x06 (0x80 ∷ 0xC1 ∷ 0x42 ∷ [])) 11 14 ∷
+    -- define: no value, two values; no reference; a rest form
+    refuses (defines 1 []) 11 14 ∷
+    refuses (defines 1 (0x80 ∷ 0x80 ∷ [])) 11 14 ∷
+    refuses (core-form 0x09 (0x80 ∷ 0x80 ∷ [])) 11 14 ∷
+    refuses (core-form 0x09 (in-form [] ++ (0x80 ∷ []))) 11 14 ∷
+    refuses (defines 1 (rest-form 0)) 11 14 ∷
+    -- concat: no operand, one, three; a rest form; no array
+    refuses (joins [] []) 11 14 ∷
+    refuses (joins (0xC0 ∷ []) []) 11 14 ∷
+    refuses (joins (0xC0 ∷ []) (0xC0 ∷ 0xC0 ∷ [])) 11 14 ∷
+    refuses (joins (rest-form 0) (0xC0 ∷ [])) 11 14 ∷
+    refuses (joins (0xC0 ∷ []) (rest-form 0)) 11 14 ∷
+    refuses (joins (0xC0 ∷ []) (in-form [])) 11 14 ∷
+    refuses (joins (0x00 ∷ []) (0xC0 ∷ [])) 11 14 ∷
+    -- arg and rest: none, two; no small integer
+    refuses (core-form 0x0C []) 11 14 ∷
+    refuses (core-form 0x0C (0x80 ∷ 0x80 ∷ [])) 11 14 ∷
+    refuses (core-form 0x0C (0x00 ∷ [])) 11 14 ∷
+    refuses (core-form 0x0C (0xC0 ∷ [])) 11 14 ∷
+    refuses (core-form 0x0C word-28-01) 11 14 ∷
+    refuses (core-form 0x0C (in-form [])) 11 14 ∷
+    refuses (core-form 0x0D []) 11 14 ∷
+    refuses (core-form 0x0D (0x80 ∷ 0x80 ∷ [])) 11 14 ∷
+    refuses (core-form 0x0D (0xC1 ∷ 0x00 ∷ [])) 11 14 ∷
+    []
+
+elements-hold : answers elements ≡ map expected elements
+unfolding answers expected elements refuses refusal version-form ns-form word-28-01 in-form core-form word-28 defines joins rest-form
+elements-hold = refl
+
+-- The limits of evaluation
+
+limits : List Case
+limits =
+    -- 6: a value with 65 forms one inside another, and one with 64
+    (evaluates deep 65536 9 999 gives refusal 6 86 9) ∷
+    leaves (nested 64 []) (nested 64 []) 69 ∷
+    leaves (in-form (in-form [] ++ nested 63 [])) (in-form (in-form [] ++ nested 63 [])) 70 ∷
+    -- 17: of a larger workspace 65,536 bytes count: 49,275 are charged before the last join, of 16,384 bytes
+    (evaluates doubled 131072 9 999 gives refusal 17 209 9) ∷
     -- 19: 32 codes in progress, and one more
-    (evaluates (version-form ++ ns-form ++ chain 32 ++ (0x01 ∷ 0x28 ∷ 0x1F ∷ 0x02 ∷ [])) 65536 15 999
-    gives result-is (version-form ++ ns-form ++ (0x85 ∷ [])) 71) ∷
-    (evaluates (version-form ++ ns-form ++ chain 32 ++ (0x01 ∷ 0x28 ∷ 0x20 ∷ 0x02 ∷ [])) 65536 15 999 gives refusal 19 33 15) ∷
+    leaves (chain (0x85 ∷ []) 31 ++ in-form (word-28 31)) (0x85 ∷ []) 70 ∷
+    refuses (chain (0x85 ∷ []) 32 ++ in-form (word-28 32)) 19 33 ∷
     -- 19: 64 namespaces, and one more
     (evaluates (version-form ++ spaces 64) 65536 518 999 gives result-is (version-form ++ spaces 64) 68) ∷
     (evaluates (version-form ++ spaces 65) 65536 526 999 gives refusal 19 518 526) ∷
-    -- 19: 256 definitions, and one more
-    (evaluates (version-form ++ ns-form ++ again 256 define-85) 65536 14 999 gives result-is (version-form ++ ns-form) 517) ∷
-    (evaluates (version-form ++ ns-form ++ again 257 define-85) 65536 14 999 gives refusal 19 1806 14) ∷
+    -- 19: 256 definitions, and one more; functions count, and those of a form that is over don't
+    leaves (again 256 define-85) [] 517 ∷
+    refuses (again 257 define-85) 19 1806 ∷
+    refuses (again 256 define-85 ++ identity) 19 1806 ∷
+    leaves (again 255 define-85 ++ again 2 (in-form define-85)) (again 2 (in-form [])) 521 ∷
     []
 
-refusals-hold : answers refusals ≡ map expected refusals
-unfolding answers expected refusals refusal result-is version-form ns-form define-85 word-28-01 form-in nested chain again spaces
-refusals-hold = refl
+limits-hold : answers limits ≡ map expected limits
+unfolding answers expected limits refuses leaves refusal result-is version-form ns-form define-85 word-28-01 in-form core-form word-28 defines space code arg-form identity again spaces chain nested deep joins doubled
+limits-hold = refl
+
+-- "the first that arises, in reading order and then in evaluation order, wins"
+
+orders : List Case
+orders =
+    -- reading ends before 9; 9 and 10 come before the first step
+    (evaluates (0x00 ∷ 0x02 ∷ []) 65536 9 0 gives refusal 3 1 9) ∷
+    (evaluates (0x00 ∷ []) 65536 9 0 gives refusal 9 0 9) ∷
+    (evaluates (0x20 ∷ 0x00 ∷ []) 65536 9 0 gives refusal 9 0 9) ∷
+    (evaluates (in-form []) 65536 9 0 gives refusal 9 0 9) ∷
+    (evaluates (in-form version-form) 65536 9 0 gives refusal 9 0 9) ∷
+    (evaluates (in-form (0x28 ∷ 0x00 ∷ 0x81 ∷ 0x80 ∷ [])) 65536 9 0 gives refusal 9 0 9) ∷
+    (evaluates (core-form 0x01 (0x81 ∷ 0x80 ∷ [])) 65536 9 0 gives refusal 9 0 9) ∷
+    (evaluates (core-form 0x00 []) 65536 9 0 gives refusal 10 0 9) ∷
+    (evaluates (core-form 0x00 (0x81 ∷ 0x81 ∷ [])) 65536 9 0 gives refusal 10 0 9) ∷
+    (evaluates (core-form 0x00 (0x81 ∷ 0x80 ∷ 0x80 ∷ [])) 65536 9 0 gives refusal 10 0 9) ∷
+    (evaluates version-form 65536 9 0 gives refusal 16 0 9) ∷
+    -- 16 before 13, 13 before 11
+    (evaluates (version-form ++ in-form (space 0x29 0x42)) 65536 9 5 gives refusal 16 7 9) ∷
+    (evaluates (version-form ++ in-form (space 0x29 0x42)) 65536 9 6 gives refusal 13 7 9) ∷
+    refuses (in-form (core-form 0x06 [])) 13 15 ∷
+    refuses (joins (core-form 0x09 []) (0xC0 ∷ [])) 13 17 ∷
+    -- 11 before 14, and before 15
+    refuses (core-form 0x09 ((0x20 ∷ 0x00 ∷ []) ++ rest-form 0)) 11 14 ∷
+    refuses (core-form 0x06 (0x20 ∷ 0x00 ∷ 0xC0 ∷ [])) 11 14 ∷
+    refuses (core-form 0x0D []) 11 14 ∷
+    -- 14 before 19, and both before define's value
+    (evaluates (version-form ++ spaces 64 ++ space 0x20 0x80) 65536 9 999 gives refusal 14 518 9) ∷
+    refuses (again 256 define-85 ++ core-form 0x09 (0x2A ∷ 0x01 ∷ 0x80 ∷ [])) 14 1806 ∷
+    refuses (core-form 0x09 ((0x2A ∷ 0x01 ∷ []) ++ function-name)) 14 14 ∷
+    refuses (again 256 define-85 ++ defines 1 function-name) 19 1806 ∷
+    -- concat: 11 for what is written, then the operands, then 11 for their values
+    refuses (joins function-name []) 11 14 ∷
+    refuses (joins (rest-form 0) function-name) 11 14 ∷
+    refuses (joins (0x81 ∷ []) function-name) 12 18 ∷
+    -- depth first, left to right; the arguments before the code, and before the call's 19
+    refuses (in-form (in-form ((0x00 ∷ []) ++ function-name) ++ code [])) 12 17 ∷
+    refuses (in-form (code (code []) ++ function-name ++ code [])) 12 23 ∷
+    refuses (chain (in-form (code [])) 31 ++ in-form (word-28 31)) 19 22 ∷
+    refuses (chain (in-form (code [] ++ function-name)) 31 ++ in-form (word-28 31)) 12 27 ∷
+    -- 6 before 17, the 17 of the contents before both
+    (evaluates deep 4244 9 999 gives refusal 6 86 9) ∷
+    (evaluates deep 4243 9 999 gives refusal 17 87 9) ∷
+    -- 18 last of all
+    (evaluates N 20 0 7 gives refusal 16 21 0) ∷
+    (evaluates N 19 0 8 gives refusal 17 21 0) ∷
+    (evaluates (N ++ function-name) 65536 0 999 gives refusal 12 23 0) ∷
+    []
+
+orders-hold : answers orders ≡ map expected orders
+unfolding answers expected orders refuses refusal version-form ns-form define-85 word-28-01 N in-form core-form word-28 defines space joins code rest-form function-name again spaces chain nested deep
+orders-hold = refl
+
+-- The buffers afterwards, and Item
+
+-- the table of V's rows, with one number more
+version-table : List ℕ
+version-table = 1 ∷ 0 ∷ 6 ∷ 4 ∷ 4 ∷ 1 ∷ 3 ∷ 2 ∷ 3 ∷ 3 ∷ 4 ∷ 3 ∷ 3 ∷ 4 ∷ 5 ∷ 4 ∷ 0xEE ∷ []
+
+buffers : List Case
+buffers =
+    -- Evaluate's table holds the rows on acceptance, on 16, 17, 18, 9, 10, 12 and on evaluation's 6
+    (fills version-form 17 10 6 4 gives told 0 0 6 4 version-table) ∷
+    (fills version-form 17 10 6 3 gives told 16 4 0 0 version-table) ∷
+    (fills version-form 17 9 6 4 gives told 17 0 0 0 version-table) ∷
+    (fills version-form 17 10 5 4 gives told 18 0 0 0 version-table) ∷
+    (fills (0x00 ∷ []) 5 10 6 4 gives told 9 0 0 0 (0 ∷ 0 ∷ 1 ∷ 1 ∷ 0xEE ∷ [])) ∷
+    (fills (core-form 0x00 []) 9 10 6 4 gives told 10 0 0 0 (1 ∷ 0 ∷ 4 ∷ 2 ∷ 4 ∷ 1 ∷ 3 ∷ 2 ∷ 0xEE ∷ [])) ∷
+    (fills (version-form ++ function-name) 20 65536 8 9
+    gives told 12 6 0 0 (1 ∷ 0 ∷ 6 ∷ 4 ∷ 4 ∷ 1 ∷ 3 ∷ 2 ∷ 3 ∷ 3 ∷ 4 ∷ 3 ∷ 3 ∷ 4 ∷ 5 ∷ 4 ∷ 4 ∷ 6 ∷ 8 ∷ 5 ∷ [])) ∷
+    (fills deep 400 65536 9 999 gives told 6 86 0 0 (Read deep (before 400) .table)) ∷
+    -- Write's on acceptance and on 18
+    (rewrites (0x00 ∷ []) 5 1 gives told 0 0 1 0 (0 ∷ 0 ∷ 1 ∷ 1 ∷ 0xEE ∷ [])) ∷
+    (rewrites (0x00 ∷ []) 5 0 gives told 18 0 0 0 (0 ∷ 0 ∷ 1 ∷ 1 ∷ 0xEE ∷ [])) ∷
+    -- both unchanged when reading refuses
+    (rewrites (0x00 ∷ 0x02 ∷ []) 8 2 gives refusal 3 1 8) ∷
+    (fills (0x00 ∷ 0x02 ∷ []) 8 10 2 9 gives refusal 3 1 8) ∷
+    -- the output past the length
+    (evaluates version-form 10 8 4 gives told 0 0 6 4 (version-form ++ before 2)) ∷
+    -- Item: the first expression and the last; none behind it; the other buffer, whatever the one holds; a buffer that can't be read
+    (items N [] of-stream 0 gives item-is (part of-stream 0 6)) ∷
+    (items N [] of-stream 3 gives item-is (part of-stream 21 23)) ∷
+    (items N [] of-stream 4 gives item-is no-part) ∷
+    (items (0x02 ∷ []) N of-result 1 gives item-is (part of-result 6 14)) ∷
+    (items (N ++ (0x02 ∷ [])) N of-stream 0 gives item-is no-part) ∷
+    []
+
+buffers-hold : answers buffers ≡ map expected buffers
+unfolding answers expected buffers refusal version-form ns-form define-85 word-28-01 N in-form core-form word-28 defines nested deep version-table function-name
+buffers-hold = refl
