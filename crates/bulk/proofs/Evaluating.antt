@@ -1,11 +1,11 @@
 -- What Evaluate answers: a refusal in reading, or what the evaluation of the rows told, with the result put out if there is room.
 -- Document 01: "Evaluate", and "18 last of all". Assumes nothing.
 use Prim.Native.Nat.{ℕ, _/_, _≤_, _<_}
-use mathlib.Core.Path.{_≡_, sym, ap}
-use mathlib.Core.List.{List, _++_}
+use mathlib.Core.Path.{_≡_, sym}
+use mathlib.Core.List.{List}
 use native.Mathlib.Omega.{arith}
-use lib.ListN.{length, take, drop}
-use lib.Seq.{length-take-le, take-length}
+use lib.ListN.{length, take}
+use lib.Seq.{length-take-le}
 use borrow.Author.Tests.{lt-ltb, le-ltb}
 use Rattle.spec.specs.Reading.{tokens, rows-of, row-width, Row}
 use Rattle.spec.specs.Calls.{over, filled, put-out, Evaluate}
@@ -16,10 +16,6 @@ use Rattle.evaluator.specs.declared.Result.the-variants.{Is, Refused}
 use Rattle.bulk.specs.Answers.{AnsweredEvaluation}
 use Rattle.bulk.specs.declared.Evaluation.the-variants.{Accepted as Result, Refused as Refusal}
 use Rattle.bulk.proofs.Told.{ToldRight, Told}
-
--- all of some bytes copied to the start of others
-pub copied-over : (x out : List ℕ) → take (length x) x ++ drop (length x) out ≡ over x out
-copied-over x out = ap (λ (y : List ℕ). y ++ drop (length x) out) (take-length x)
 
 module _ (s t : List ℕ) where
   pub evaluate-refusal : (work : ℕ) (out : List ℕ) (steps w p : ℕ) → Told s (length t / row-width) (Wrong w p)

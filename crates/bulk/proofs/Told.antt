@@ -4,7 +4,8 @@ use mathlib.Core.Path.{_≡_, refl, sym, ap, _∙_}
 use mathlib.Core.List.{List, [], _++_}
 use native.Mathlib.Omega.{arith}
 use native.Mathlib.Decide.{decLe}
-use lib.ListN.{length, length-append}
+use lib.ListN.{length, take, drop, length-append}
+use lib.Seq.{take-length}
 use borrow.Author.Tests.{lt-ltb, le-ltb}
 use Rattle.spec.specs.Expr.{Exprs, size, canonical}
 use Rattle.spec.specs.Reading.{tokens, rows-of, row-width, Reading, refused, readable, read}
@@ -15,7 +16,7 @@ use Rattle.laws.proofs.Basics.{impossible}
 use Rattle.laws.proofs.Reading.{read-readable, read-refused, read-enough}
 use Rattle.laws.proofs.Tokens.{tokens-few}
 use Rattle.laws.proofs.Rows.{rows-few, rows-room}
-use Rattle.laws.proofs.Theorems.{item-given, item-absent, item-unread}
+use Rattle.laws.proofs.Theorems.{canonical-only, item-given, item-absent, item-unread}
 use Rattle.reader.specs.Passes.{checked}
 use Rattle.reader.specs.declared.Checked.{Checked}
 use Rattle.reader.specs.declared.Checked.the-variants.{Right, Wrong}
@@ -85,6 +86,17 @@ module _ (s t : List ℕ) where
       is = rw (r .is, table, k, le-ltb (length out) (length (canonical (meaning-of s))) (omega (arith, r .sized)), r .sized);
       numbered = tt;
     }
+
+-- all of some bytes copied to the start of others
+pub copied-over : (x out : List ℕ) → take (length x) x ++ drop (length x) out ≡ over x out
+copied-over x out = ap (λ (y : List ℕ). y ++ drop (length x) out) (take-length x)
+
+-- a stream that is as long as its canonical stream is copied
+pub copied-whole : (s : List ℕ) (room rows size : ℕ) (r : ToldRight s room rows size) → Bytes s → size ≡ length s → (out : List ℕ)
+    → take (length s) s ++ drop (length s) out ≡ over (canonical (meaning-of s)) out
+copied-whole s room rows size r stream whole out =
+    let same = canonical-only s room (rows-of (tokens 0 0 s)) (meaning-of s) stream (r .is) (omega (arith, r .sized)) in
+    copied-over s out ∙ ap (λ (x : List ℕ). over x out) same
 
 pub table-room : (s t : List ℕ) (rows size : ℕ) → ToldRight s (length t / row-width) rows size → row-width * length (rows-of (tokens 0 0 s)) ≤ length t
 table-room s t rows size r = omega (arith, r .counted, r .fits)

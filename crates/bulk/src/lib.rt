@@ -73,6 +73,11 @@ pub fn write(stream: &[u8], table: &mut [u32], output: &mut [u8]) -> Answer
                     place: 0,
                 };
             }
+            // A stream that is as long as its canonical stream is that stream.
+            if length == stream.len() {
+                bytes::copy(stream, output);
+                return Answer::Accepted { given: length };
+            }
             writer::emit(stream, output);
             Answer::Accepted { given: length }
         }

@@ -7,6 +7,7 @@ pub mod Tokens
 pub mod Rows
 pub mod Reading
 pub mod Parsing
+pub mod Shortest
 pub mod Written
 pub mod Steps
 pub mod Items

@@ -15,6 +15,7 @@ use Rattle.laws.specs.Sanity.{Inside, FirstFrom, Proper}
 use Rattle.laws.proofs.Rows.{next-row-first, numbers-fourth}
 use Rattle.laws.proofs.Reading.{read-readable, read-refused-roomy, read-enough, read-room, read-spelled}
 use Rattle.laws.proofs.Parsing.{read-spells}
+use Rattle.laws.proofs.Shortest.{all-shortest}
 use Rattle.laws.proofs.Items.{spelled-rows, item-spelled, item-past}
 use Rattle.laws.proofs.Values.{run-proper}
 use Rattle.laws.proofs.Calls.{put-out-bytes, read-kept, read-within, write-out, write-room, write-within, write-kept, write-rows, evaluation-kept, evaluation-rows, evaluation-within}
@@ -84,6 +85,10 @@ module _ (s : List ℕ) (room : ℕ) (rs : List Row) (es : Exprs) (stream : Byte
   -- canonical bytes are never more than the stream's
   pub canonical-shorter : length (canonical es) ≤ length s
   canonical-shorter = meant s room rs es stream reads .shorter
+
+  -- a stream that is as long as its canonical stream is that stream
+  pub canonical-only : length s ≤ length (canonical es) → s ≡ canonical es
+  canonical-only = all-shortest es s stream (read-spells s room rs es stream reads) .only
 
   -- a canonical stream is written to itself
   pub write-self : (t o : List ℕ) → length rs ≤ length t / row-width → length (canonical es) ≤ length o

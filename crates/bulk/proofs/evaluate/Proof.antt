@@ -11,8 +11,8 @@ use Rattle.laws.proofs.Steps.{all-bytes}
 use Rattle.reader.specs.declared.Checked.{Checked}
 use Rattle.evaluator.specs.Evaluated.{Evaluated}
 use Rattle.evaluator.specs.declared.Result.{Result}
-use Rattle.bulk.proofs.Told.{Told, told-table, table-room}
-use Rattle.bulk.proofs.Evaluating.{copied-over, evaluate-refusal, has-read, rows-refusal, rows-short, rows-result}
+use Rattle.bulk.proofs.Told.{Told, told-table, table-room, copied-over}
+use Rattle.bulk.proofs.Evaluating.{evaluate-refusal, has-read, rows-refusal, rows-short, rows-result}
 use Rattle.bulk.proofs.evaluate.Statement.{statement}
 use Rattle.bulk.proofs.evaluate.Tie as tie
 

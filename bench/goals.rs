@@ -1,0 +1,78 @@
+//! The goals, and which workloads meet them.
+
+use crate::timed::Timed;
+
+struct Goal {
+    text: &'static str,
+    call: &'static str,
+    /// By how much a workload meets it: 1 is just enough. None if it is not about the workload.
+    met_by: fn(&Timed) -> Option<f64>,
+}
+
+/// msgpack-c is the first peer, if it is installed.
+fn beside_msgpack(timed: &Timed) -> Option<f64> {
+    let time = timed.peers.first().copied().flatten()?;
+    Some(time / timed.library)
+}
+
+fn beside_copy(timed: &Timed) -> Option<f64> {
+    timed.large_array.then(|| 1.5 * timed.copy / timed.library)
+}
+
+const GOALS: [Goal; 7] = [
+    Goal {
+        text: "a row faster than msgpack-c decodes an item",
+        call: "Read",
+        met_by: beside_msgpack,
+    },
+    Goal {
+        text: "a row faster than msgpack-c encodes an item",
+        call: "Write",
+        met_by: beside_msgpack,
+    },
+    Goal {
+        text: "twice as fast as the second program",
+        call: "Read",
+        met_by: |timed| Some(timed.ratio() / 2.0),
+    },
+    Goal {
+        text: "twice as fast as the second program",
+        call: "Write",
+        met_by: |timed| Some(timed.ratio() / 2.0),
+    },
+    Goal {
+        text: "three times as fast as the second program",
+        call: "Evaluate",
+        met_by: |timed| Some(timed.ratio() / 3.0),
+    },
+    Goal {
+        text: "a large array within 1.5 times a copy",
+        call: "Read",
+        met_by: beside_copy,
+    },
+    Goal {
+        text: "a large array within 1.5 times a copy",
+        call: "Write",
+        met_by: beside_copy,
+    },
+];
+
+pub fn print(timed: &[Timed]) {
+    println!("\ngoals (1.00 is just met)");
+    for goal in &GOALS {
+        let of_call = timed.iter().filter(|timed| timed.call == goal.call);
+        let met_by: Vec<(&str, f64)> = of_call
+            .filter_map(|timed| Some((timed.workload, (goal.met_by)(timed)?)))
+            .collect();
+        let missed: Vec<String> = met_by
+            .iter()
+            .filter(|(_, by)| *by < 1.0)
+            .map(|(workload, by)| format!("{workload} {by:.2}"))
+            .collect();
+        let met = met_by.len() - missed.len();
+        println!("{}: {}: {met} of {} workloads", goal.call, goal.text, met_by.len());
+        if !missed.is_empty() {
+            println!("    not {}", missed.join(", "));
+        }
+    }
+}

@@ -1,0 +1,59 @@
+//! The benchmark: what the library's calls take, beside the second program, a plain copy and,
+//! where they are installed, msgpack-c and libcbor.
+
+mod documents;
+#[path = "../second/evaluate.rs"]
+#[allow(dead_code)]
+mod evaluate;
+mod goals;
+mod library;
+mod peers;
+#[path = "../compare/pieces.rs"]
+#[allow(dead_code)]
+mod pieces;
+mod same;
+mod second;
+mod table;
+mod timed;
+mod timing;
+#[path = "../second/tree.rs"]
+mod tree;
+mod workloads;
+#[path = "../second/write.rs"]
+mod write;
+
+use std::env;
+use std::process::ExitCode;
+use workloads::Workload;
+
+/// More rows than a stream can have are not needed, nor more bytes.
+pub const ROWS: usize = 65_536;
+pub const BYTES: usize = 65_536;
+
+const INTRODUCTION: &str = "\
+Nanoseconds, the least of 11 rounds. A unit is a row for Read and Write, a step for Evaluate, an item
+for msgpack-c and libcbor, of which Read stands beside decoding and Write beside encoding. The library's
+buffers are lent once and not cleared between calls; the second program allocates as it goes.
+";
+
+fn main() -> ExitCode {
+    let workloads = workloads::all();
+    let failed = workloads.iter().filter(|each| !same::answers(each)).count();
+    if !env::args().any(|word| word == "--check") {
+        time_all(&workloads);
+    }
+    println!("{} passed, {failed} failed", workloads.len() - failed);
+    ExitCode::from((failed > 0) as u8)
+}
+
+fn time_all(workloads: &[Workload]) {
+    println!("{INTRODUCTION}");
+    table::print_head();
+    let mut all = Vec::new();
+    for workload in workloads {
+        let timed = timed::measure(workload);
+        timed.iter().for_each(table::print);
+        all.extend(timed);
+    }
+    goals::print(&all);
+}

@@ -1,0 +1,53 @@
+// The calls as functions that C and Rust can call, for the benchmark (`bench/`): each gives document 01's rows or length, which is 0 on a refusal.
+use bulk::Answer;
+use bulk::Evaluation;
+ghost use mathlib.Core.Path.{_≡_};
+ghost use lib.ListN.{length};
+ghost use Rattle.spec.specs.Calls.{Read, Write, Evaluate};
+ghost use Rattle.bulk_bench.specs.Given.{given};
+
+// What Read or Write gives.
+fn given(answer: Answer) -> usize
+    ensures { λ r. ⌜ r ≡ given answer ⌝ }
+{
+    match answer {
+        Answer::Accepted { given } => given,
+        Answer::Refused {
+            number: _,
+            place: _,
+        } => 0,
+    }
+}
+
+#[no_mangle]
+pub extern "C" fn bulk_bench_read(stream: &[u8], table: &mut [u32]) -> usize
+    ensures { λ r. ⌜ r ≡ Read (now (stream .entry)) (now (table .entry)) .given ⌝ }
+{
+    given(bulk::read(stream, table))
+}
+
+#[no_mangle]
+pub extern "C" fn bulk_bench_write(stream: &[u8], table: &mut [u32], output: &mut [u8]) -> usize
+    ensures { λ r. ⌜ r ≡ Write (now (stream .entry)) (now (table .entry)) (now (output .entry)) .given ⌝ }
+{
+    given(bulk::write(stream, table, output))
+}
+
+#[no_mangle]
+pub extern "C" fn bulk_bench_evaluate(
+    stream: &[u8],
+    table: &mut [u32],
+    workspace: &mut [u8],
+    output: &mut [u8],
+    steps: u64,
+) -> usize
+    ensures { λ r. ⌜ r ≡ Evaluate (now (stream .entry)) (now (table .entry)) (length (now (workspace .entry))) (now (output .entry)) steps .given ⌝ }
+{
+    match bulk::evaluate(stream, table, workspace, output, steps) {
+        Evaluation::Accepted { length, steps: _ } => length,
+        Evaluation::Refused {
+            number: _,
+            place: _,
+        } => 0,
+    }
+}
