@@ -70,7 +70,12 @@ pub fn print(timed: &[Timed]) {
             .map(|(workload, by)| format!("{workload} {by:.2}"))
             .collect();
         let met = met_by.len() - missed.len();
-        println!("{}: {}: {met} of {} workloads", goal.call, goal.text, met_by.len());
+        println!(
+            "{}: {}: {met} of {} workloads",
+            goal.call,
+            goal.text,
+            met_by.len()
+        );
         if !missed.is_empty() {
             println!("    not {}", missed.join(", "));
         }

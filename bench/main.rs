@@ -17,6 +17,7 @@ mod table;
 mod timed;
 mod timing;
 #[path = "../second/tree.rs"]
+#[allow(dead_code)]
 mod tree;
 mod workloads;
 #[path = "../second/write.rs"]

@@ -23,7 +23,11 @@ fn read(stream: &[u8]) -> bool {
     let rows = table.chunks(4).take(count);
     second::read(stream).is_ok_and(|expected| {
         let numbers = |row: &[usize; 4]| row.map(|number| number as u32);
-        expected.len() == count && expected.iter().map(numbers).eq(rows.map(|row| [row[0], row[1], row[2], row[3]]))
+        expected.len() == count
+            && expected
+                .iter()
+                .map(numbers)
+                .eq(rows.map(|row| [row[0], row[1], row[2], row[3]]))
     })
 }
 

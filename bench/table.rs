@@ -8,7 +8,10 @@ pub fn print_head() {
         .iter()
         .map(|peer| format!("{:>10}", peer.name))
         .collect();
-    println!("{:44} |{:^16} |{:^16} |       |   copy |{peers}", "", "library", "second");
+    println!(
+        "{:44} |{:^16} |{:^16} |       |   copy |{peers}",
+        "", "library", "second"
+    );
     println!(
         "{:<22}{:<10}{:>6}{:>6} |   /byte   /unit |   /byte   /unit | ratio |  /byte |{:>9}",
         "workload", "call", "bytes", "units", "/unit"

@@ -43,10 +43,16 @@ pub fn measure(workload: &Workload) -> Vec<Timed> {
     let list = tree::read(stream, ROWS as u64).unwrap_or_default();
     let documents = peers::ALL.iter().map(|peer| document(&peer.format, &list));
     let documents: Vec<Vec<u8>> = documents.collect();
-    let kept = peers::ALL.iter().zip(&documents).map(|(peer, document)| peer.keep(document));
+    let kept = peers::ALL
+        .iter()
+        .zip(&documents)
+        .map(|(peer, document)| peer.keep(document));
     let kept: Vec<Option<Kept>> = kept.collect();
     let rows = tree::rows(&list).len();
-    let mut jobs = vec![reading(stream, rows, &documents), writing(stream, rows, &kept)];
+    let mut jobs = vec![
+        reading(stream, rows, &documents),
+        writing(stream, rows, &kept),
+    ];
     if let Ok((_, steps)) = second::evaluate(stream) {
         jobs.push(evaluating(stream, steps as usize));
     }
@@ -55,14 +61,22 @@ pub fn measure(workload: &Workload) -> Vec<Timed> {
         output[..stream.len()].copy_from_slice(black_box(stream));
         black_box(&output);
     });
-    let times = least(jobs.iter_mut().flat_map(Job::calls).chain([&mut copy]).collect());
+    let times = least(
+        jobs.iter_mut()
+            .flat_map(Job::calls)
+            .chain([&mut copy])
+            .collect(),
+    );
     timed(workload, &jobs, &times)
 }
 
 impl<'a> Job<'a> {
     fn calls<'b>(&'b mut self) -> Vec<&'b mut Call<'a>> {
         let peers = self.peers.iter_mut().flatten();
-        [&mut self.library, &mut self.second].into_iter().chain(peers).collect()
+        [&mut self.library, &mut self.second]
+            .into_iter()
+            .chain(peers)
+            .collect()
     }
 }
 
@@ -116,7 +130,8 @@ fn evaluating(stream: &[u8], units: usize) -> Job<'_> {
         units,
         library: Box::new(move || {
             let stream = black_box(stream);
-            let length = library::evaluate(stream, &mut table, &mut workspace, &mut output, u64::MAX);
+            let length =
+                library::evaluate(stream, &mut table, &mut workspace, &mut output, u64::MAX);
             black_box(length);
         }),
         second: Box::new(move || {
@@ -139,7 +154,11 @@ fn timed(workload: &Workload, jobs: &[Job], times: &[f64]) -> Vec<Timed> {
         library: next(),
         second: next(),
         copy,
-        peers: job.peers.iter().map(|peer| peer.as_ref().map(|_| next())).collect(),
+        peers: job
+            .peers
+            .iter()
+            .map(|peer| peer.as_ref().map(|_| next()))
+            .collect(),
     };
     jobs.iter().map(of_job).collect()
 }

@@ -1,6 +1,6 @@
 //! The streams that are timed.
 
-use crate::pieces::{arg, array, beginning, call, concat, define, form, function, name, nested, rest};
+use crate::pieces::{arg, array, beginning, call, concat, define, form, function, name, rest};
 
 pub struct Workload {
     pub name: &'static str,
@@ -50,7 +50,12 @@ const LONG_REFERENCE: [u8; 4] = [0x7F, 0xFF, 0x8C, 0x1A];
 /// What follows the version and the vocabulary.
 fn bodies() -> Vec<(&'static str, Vec<u8>)> {
     let large: Vec<u8> = (0..32_700).map(|k| (k % 251) as u8).collect();
-    let facts = form(&[&name(16), &array(b"Halvard Strand"), &[0x84], &array(b"05:30Z")]);
+    let facts = form(&[
+        &name(16),
+        &array(b"Halvard Strand"),
+        &[0x84],
+        &array(b"05:30Z"),
+    ]);
     let words = (0..=255).flat_map(|k| define(k, &array(b"berth")));
     let shape = function(1, &form(&[&name(16), &arg(0), &array(b"berth"), &rest(1)]));
     let calls = call(1, &[&array(b"Strand")[..], &[0x81, 0x82]].concat());
@@ -65,7 +70,10 @@ fn bodies() -> Vec<(&'static str, Vec<u8>)> {
         ("flat forms", form(&[&[0x81], &[0x82]]).repeat(6_000)),
         ("references", [0x29, 0x01].repeat(30_000)),
         ("long references", LONG_REFERENCE.repeat(16_000)),
-        ("defined words", [define(1, &[0x85]), name(1).repeat(25_000)].concat()),
+        (
+            "defined words",
+            [define(1, &[0x85]), name(1).repeat(25_000)].concat(),
+        ),
         ("definitions", words.collect()),
         ("calls", [shape, calls.repeat(650)].concat()),
         ("long concat", joined(60)),

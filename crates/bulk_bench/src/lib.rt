@@ -4,7 +4,7 @@ use bulk::Evaluation;
 ghost use mathlib.Core.Path.{_≡_};
 ghost use lib.ListN.{length};
 ghost use Rattle.spec.specs.Calls.{Read, Write, Evaluate};
-ghost use Rattle.bulk_bench.specs.Given.{given};
+ghost use Rattle.bulk_bench.specs.Given.{given, result};
 
 // What Read or Write gives.
 fn given(answer: Answer) -> usize
@@ -13,6 +13,19 @@ fn given(answer: Answer) -> usize
     match answer {
         Answer::Accepted { given } => given,
         Answer::Refused {
+            number: _,
+            place: _,
+        } => 0,
+    }
+}
+
+// What Evaluate gives.
+fn result(answer: Evaluation) -> usize
+    ensures { λ r. ⌜ r ≡ result answer ⌝ }
+{
+    match answer {
+        Evaluation::Accepted { length, steps: _ } => length,
+        Evaluation::Refused {
             number: _,
             place: _,
         } => 0,
@@ -43,11 +56,5 @@ pub extern "C" fn bulk_bench_evaluate(
 ) -> usize
     ensures { λ r. ⌜ r ≡ Evaluate (now (stream .entry)) (now (table .entry)) (length (now (workspace .entry))) (now (output .entry)) steps .given ⌝ }
 {
-    match bulk::evaluate(stream, table, workspace, output, steps) {
-        Evaluation::Accepted { length, steps: _ } => length,
-        Evaluation::Refused {
-            number: _,
-            place: _,
-        } => 0,
-    }
+    result(bulk::evaluate(stream, table, workspace, output, steps))
 }
