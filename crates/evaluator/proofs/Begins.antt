@@ -15,13 +15,12 @@ use Rattle.laws.proofs.Holding.{hold-give, hold-stop, hold-step, hold-step-none
 use Rattle.laws.proofs.Singles.{plan-counted}
 use Rattle.laws.proofs.Values.{FitsNode, SoundHere, SoundPlan, leaves, plan-atom-sound, plan-form-sound}
 use Rattle.evaluator.specs.Stands.{LeafAt, NodeAt}
-use Rattle.evaluator.specs.Entries.{function-bit, Entry, entries}
+use Rattle.evaluator.specs.Entries.{function-bit, Entry}
 use Rattle.evaluator.specs.Named.{named, Named}
 use Rattle.evaluator.specs.Completed.{Fitting, Stand, with-top, Unkept, too-deep, too-long, Completed, stepped}
 use Rattle.evaluator.specs.Planned.{function-at, Planned, refuses, owns, repeats, associates, defines, goes-inside}
 use Rattle.evaluator.specs.Listed.{LeftDefinition, LeftBy, GoesInside, Begun, Beginning, left-by}
 use Rattle.evaluator.specs.Performed.{one-named, Performing, going}
-use Rattle.evaluator.specs.declared.scope.Scope.{Scope}
 use Rattle.evaluator.specs.declared.values.State.{State}
 use Rattle.evaluator.specs.declared.values.Out.{Out}
 use Rattle.evaluator.specs.declared.values.Out.the-variants.{Done, Refused}
@@ -229,10 +228,10 @@ module _ {s t w names : List ℕ} {sc : List Entry} {st : State} {row : ℕ} {e 
     inside-begun (Enters code visible) p = (inside-goes p, refl, refl)
 
 -- the step is taken, and the task is planned
-pub begin-performs : {s t w names args : List ℕ} {bound row : ℕ} {sc : Scope} {st : State} {stands : Stands} {code : Code} {task : Task}
+pub begin-performs : {s t w names args : List ℕ} {bound row : ℕ} {sc : List Entry} {st : State} {stands : Stands} {code : Code} {task : Task}
     {e : Node} {h : Here}
     → Beginning s t bound w names args sc st stands code row e h → 0 < st .steps
-    → Planned s t w (st .floor) (entries sc) row (elements e) task (plan e h) → Performing s t w names (entries sc) st task row e h
+    → Planned s t w (st .floor) sc row (elements e) task (plan e h) → Performing s t w names sc st task row e h
 begin-performs {bound = bound} {st = st} {e = e} {h = h} b steps p = record {
   node = b .node;
   steps = steps;

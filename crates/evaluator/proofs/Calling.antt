@@ -4,7 +4,7 @@ use Prim.Native.Nat.{ℕ, suc, _+_, _-_, _≤_, _<_}
 use mathlib.Core.Path.{_≡_, refl, sym, ap, _∙_, subst}
 use mathlib.Core.List.{List}
 use native.Mathlib.Omega.{arith}
-use lib.ListN.{length, take, drop}
+use lib.ListN.{length, take, drop, length-drop}
 use lib.Seq.{slice, length-slice}
 use Rattle.spec.specs.Expr.{if_then_else_, form, Exprs, only, size, deepest, canonical}
 use Rattle.spec.specs.Nodes.{Nodes}
@@ -17,22 +17,20 @@ use Rattle.laws.proofs.Holding.{hold-kept, hold-code, hold-code-none}
 use Rattle.laws.proofs.Singles.{in-list-stays}
 use Rattle.laws.proofs.Values.{in-list-left}
 use Rattle.evaluator.specs.Stands.{next}
-use Rattle.evaluator.specs.Entries.{Entry, entries}
+use Rattle.evaluator.specs.Entries.{Entry}
 use Rattle.evaluator.specs.Named.{Named}
 use Rattle.evaluator.specs.Completed.{with-top, ArgumentsAt}
 use Rattle.evaluator.specs.Planned.{at-inner, in-code}
 use Rattle.evaluator.specs.Listed.{Ready, Over, Met, LeftBy, Calling, Ran, CanReturn, Returned, left-by}
-use Rattle.evaluator.specs.declared.scope.Scope.{Scope}
 use Rattle.evaluator.specs.declared.values.State.{State}
 use Rattle.evaluator.specs.declared.values.Out.{Out}
 use Rattle.evaluator.specs.declared.values.Out.the-variants.{Done, Refused}
 use Rattle.evaluator.specs.declared.plan.Stands.the-variants.{Inner}
-use Rattle.evaluator.proofs.Entries.{entries-length}
 use Rattle.evaluator.proofs.Places.{slice-take, untouched-less}
 use Rattle.evaluator.proofs.Begins.{completed-left}
 use Rattle.evaluator.proofs.Insides.{left-from}
 
-module _ {s t : List ℕ} {bound codes : ℕ} {w names : List ℕ} {sc : Scope} {visible : ℕ} {st : State} {depth code start : ℕ} {body : Nodes} {behind : Definitions} {h : Here} {vs : Exprs}
+module _ {s t : List ℕ} {bound codes : ℕ} {w names : List ℕ} {sc : List Entry} {visible : ℕ} {st : State} {depth code start : ℕ} {body : Nodes} {behind : Definitions} {h : Here} {vs : Exprs}
     (c : Calling s t bound codes w names sc visible st depth code start body behind h vs) (row : ℕ) where
   -- where the code is run
   abbrev pub in-body : Here
@@ -72,17 +70,17 @@ module _ {s t : List ℕ} {bound codes : ℕ} {w names : List ℕ} {sc : Scope} 
     fewer : codes ≡ suc (codes - 1)
     fewer = omega (arith, c .entered)
 
-    pub call-ready : (args : List ℕ) (sc′ : Scope) (count past : ℕ) → past ≡ next t code → (entries sc′ ≡ drop (sc .len - visible) (entries sc)) × (sc′ .len ≡ visible)
+    pub call-ready : (args : List ℕ) (sc′ : List Entry) (count past : ℕ) → past ≡ next t code → sc′ ≡ drop (length sc - visible) sc
         → (count ≡ size vs) × ArgumentsAt w args 0 start (st .top) vs
         → Ready s t bound (codes - 1) w names args sc′ st Inner (record { depth = depth + 1; count = count; to = st .top }) (code + 2) past body inner in-body
     call-ready args sc′ count past e back at =
         let f = c .fitting in
-        let many = entries-length (sc′ .keys) (sc′ .places) (sc′ .len) in
+        let many = ap (λ (l : List Entry). length l) back ∙ length-drop (length sc - visible) sc in
         record {
           nodes = rw e (c .at .code);
           setting = record {
-            scope = rw (back .0) (c .shows);
-            few = omega (arith, many, back .1, c .visible-in, c .few);
+            scope = rw back (c .shows);
+            few = omega (arith, many, c .few);
             namespaces = c .namespaces;
             counted = c .counted;
             most = c .most;

@@ -1,7 +1,7 @@
--- Laws of a scope's entries: packed parts, one more definition, fewer of them, and what a key finds.
+-- Laws of a scope's entries: packed parts, one more definition, fewer of them, the same of them, and what a key finds.
 -- Document 01: "the latest visible definition of that marker and name". Assumes nothing.
 use Prim.Native.Nat.{ℕ, zero, suc, _+_, _-_, _≤_, _<_}
-use mathlib.Core.Path.{_≡_, refl, ap}
+use mathlib.Core.Path.{_≡_, refl, sym, ap, _∙_}
 use mathlib.Core.List.{List, _∷_}
 use native.Mathlib.Omega.{arith}
 use native.Mathlib.Numerals.{add-one}
@@ -59,6 +59,19 @@ module _ (keys places : List ℕ) where
     unfolding entries-at
     entries-added h h′ =
         rw (add-one i, getD-set-same keys i key 0 h, getD-set-same places i place 0 h′, entries-stored i (omega arith))
+
+-- The same in other arrays
+
+module _ (keys places keys′ places′ : List ℕ) where
+  -- if the first `len` are the same, so are the first n of them
+  pub entries-under : (n len : ℕ) → n ≤ len → entries-at keys places len ≡ entries-at keys′ places′ len → entries-at keys places n ≡ entries-at keys′ places′ n
+  entries-under n len h e = entries-fewer keys places n len h ∙ ap (drop (len - n)) e ∙ sym (entries-fewer keys′ places′ n len h)
+
+  -- one more leaves the others
+  pub entries-behind : (len : ℕ) (e : Entry) → entries-at keys places (len + 1) ≡ e ∷ entries-at keys′ places′ len → entries-at keys places len ≡ entries-at keys′ places′ len
+  entries-behind len e h =
+      let one : len + 1 - len ≡ 1 = omega arith in
+      entries-fewer keys places len (len + 1) (omega arith) ∙ ap (drop (len + 1 - len)) h ∙ rw one
 
 -- What a key finds
 

@@ -24,13 +24,12 @@ use Rattle.laws.proofs.Values.{number-all-fits, run-proper}
 use Rattle.laws.proofs.Holding.{hold-bind, hold-cut, hold-kept, hold-ceased-row, hold-run}
 use Rattle.laws.proofs.Calls.{unversioned, wrong-version, runs, evaluation-answered, cut-refused, not-accepted}
 use Rattle.evaluator.specs.Stands.{cell, NodeAt, NodesAt, key-of, head-key}
-use Rattle.evaluator.specs.Entries.{entries}
+use Rattle.evaluator.specs.Entries.{Entry}
 use Rattle.evaluator.specs.Named.{Named}
 use Rattle.evaluator.specs.Planned.{Shows, no-code, at-top}
 use Rattle.evaluator.specs.Listed.{Ready, Over, Met}
 use Rattle.evaluator.specs.Evaluated.{HasRead, ResultStands, Ended, Evaluated}
 use Rattle.evaluator.specs.declared.Result.the-variants.{Is, Refused}
-use Rattle.evaluator.specs.declared.scope.Scope.{Scope}
 use Rattle.evaluator.specs.declared.values.State.{State}
 use Rattle.evaluator.specs.declared.values.Out.{Out}
 use Rattle.evaluator.specs.declared.values.Out.the-variants.{Done, Refused as Stopped}
@@ -99,7 +98,7 @@ module _ (s t u : List ℕ) (n : ℕ) (rs : List Row) (es : Exprs) (b : Bytes s)
   stream-nodes = rw (counted, fills) (filled-nodes s t room rs es b reads)
 
   -- there is no definition, no namespace and no value yet
-  pub stream-ready : (w names args : List ℕ) (sc : Scope) (steps count to : ℕ) → entries sc ≡ [] → length w ≤ 65536
+  pub stream-ready : (w names args : List ℕ) (sc : List Entry) (steps count to : ℕ) → sc ≡ [] → length w ≤ 65536
       → Ready s u n 32 w names args sc (first-state steps w) Top (record { depth = 0; count = count; to = to }) 0 n (number-all 0 es) (top []) start
   unfolding Shows Named NodeAt markers-all
   stream-ready w names args sc steps count to e short = record {

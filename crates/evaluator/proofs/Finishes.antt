@@ -128,6 +128,7 @@ module _ (w w′ : List ℕ) (st : State) (start row : ℕ) where
             refl
             (omega arith)
             (omega (arith, moved .floor, some))
+            (omega (arith, ready .fitting .below, ready .fitting .short))
             (record {
               order = omega (arith, moved .floor);
               inside = omega (arith, moved .others .size, ready .fitting .below);

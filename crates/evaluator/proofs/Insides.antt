@@ -14,12 +14,11 @@ use Rattle.laws.proofs.Holding.{hold-kept, hold-step, hold-inside}
 use Rattle.laws.proofs.Singles.{SingleScope, call-single, in-list-single, in-list-pair, in-list-stays}
 use Rattle.laws.proofs.Values.{FitsNode, FitsNodes, call-sound, in-list-left}
 use Rattle.evaluator.specs.Stands.{next, row-of}
-use Rattle.evaluator.specs.Entries.{Entry, entries}
+use Rattle.evaluator.specs.Entries.{Entry}
 use Rattle.evaluator.specs.Named.{Named}
 use Rattle.evaluator.specs.Completed.{Untouched, with-top}
 use Rattle.evaluator.specs.Planned.{CodeAt, Shows, Placed, at-element, at-inner, Finishes, form-finishes, define-finishes, concat-finishes, call-finishes, one-more, two-more}
 use Rattle.evaluator.specs.Listed.{Ready, Over, Met, LeftBy, GoesInside, stands-in, NoCall, FinishedBy, by-form, by-define, by-concat, Finishable, Finishing, CanFinish, Finished, Calling, CanCall, Called}
-use Rattle.evaluator.specs.declared.scope.Scope.{Scope}
 use Rattle.evaluator.specs.declared.values.State.{State}
 use Rattle.evaluator.specs.declared.values.Out.{Out}
 use Rattle.evaluator.specs.declared.values.Out.the-variants.{Done, Refused}
@@ -30,7 +29,6 @@ use Rattle.evaluator.specs.declared.plan.After.the-variants.{Call as Ent
 use Rattle.evaluator.specs.declared.element.Left.{Left as Answer}
 use Rattle.evaluator.specs.declared.element.Left.the-variants.{Values, Defined, Stopped}
 use Rattle.evaluator.proofs.Nodes.{node-row}
-use Rattle.evaluator.proofs.Entries.{entries-length}
 use Rattle.evaluator.proofs.Shown.{shows-kept}
 use Rattle.evaluator.proofs.Places.{untouched-then}
 use Rattle.evaluator.proofs.Turns.{Going, going-more, standing-here, held-next, going-begins}
@@ -143,7 +141,7 @@ left-from s t w w₁ w₂ names sc st st₁ start h held held₁ (Defined st′ 
 }
 left-from s t w w₁ w₂ names sc st st₁ start h held held₁ (Stopped n r) u top floor count same l = same ∙ l
 
-module _ {s t : List ℕ} {bound codes : ℕ} {args : List ℕ} {stands : Stands} {code : Code} {end : ℕ} {w₀ w names : List ℕ} {sc : Scope} {st₀ st : State}
+module _ {s t : List ℕ} {bound codes : ℕ} {args : List ℕ} {stands : Stands} {code : Code} {end : ℕ} {w₀ w names : List ℕ} {sc : List Entry} {st₀ st : State}
     {row : ℕ} {held : Held Left} (g : Going s t bound codes args stands code end w₀ w names sc st₀ st row held) (on : row < end) where
   abbrev head : Node
   head = going-more s t bound codes args stands code end g on .head
@@ -154,7 +152,7 @@ module _ {s t : List ℕ} {bound codes : ℕ} {args : List ℕ} {stands : Stands
   abbrev next-held : Held Left
   next-held = held-next s t bound codes args stands code end g on
 
-  module _ {st′ : State} {first : ℕ} {after : After} (i : GoesInside s t w (entries sc) st st′ row first head here after) where
+  module _ {st′ : State} {first : ℕ} {after : After} (i : GoesInside s t w sc st st′ row first head here after) where
     inside-ready : Ready s t bound codes w names args sc st′ (stands-in after) code first (next t row) (skip (i .skipped) (elements head)) (i .place) here
     inside-ready =
         let r = g .ready in
@@ -230,36 +228,36 @@ module _ {s t : List ℕ} {bound codes : ℕ} {args : List ℕ} {stands : Stands
             };
             stand = rw top-inside at (o .stand);
             sound = in-list-left bound codes (skip (i .skipped) (elements head)) (i .place) here (o .left) (inside-ready .fit) (r .sound) ends-inside .0;
-            finishable = finishable s t w (st .floor) codes (entries sc) (elements head) after (i .skipped) (i .place) (i .finish) here (o .left) (i .finishes) (r .single) ends-inside;
+            finishable = finishable s t w (st .floor) codes sc (elements head) after (i .skipped) (i .place) (i .finish) here (o .left) (i .finishes) (r .single) ends-inside;
           }
 
       -- what it leaves, if that is what finishing the values leaves
       inside-left : (w₂ names₂ : List ℕ) (left : Answer)
-          → LeftBy s t w₁ w₂ names₂ (entries sc) (with-top st₁ (st₁ .room) (st .top)) here
+          → LeftBy s t w₁ w₂ names₂ sc (with-top st₁ (st₁ .room) (st .top)) here
           (hold (st₁ .steps) (st₁ .room) (finish (run-code codes) row here (i .finish) (o .left .values))) left
-          → LeftBy s t w w₂ names₂ (entries sc) st here next-held left
+          → LeftBy s t w w₂ names₂ sc st here next-held left
       inside-left w₂ names₂ left l =
-          left-from s t w w₁ w₂ names₂ (entries sc) st st₁ (st .top) here next-held _ left (rw (top-inside, floor-inside) at (o .others)) refl (o .floor ∙ floor-inside)
+          left-from s t w w₁ w₂ names₂ sc st st₁ (st .top) here next-held _ left (rw (top-inside, floor-inside) at (o .others)) refl (o .floor ∙ floor-inside)
           (inside-counted ∙ sym (g .ready .setting .counted))
           (held-is ∙ rw (o .is)) l
 
     -- finished without running code
     module _ (plain : NoCall after) (w₁ names₁ : List ℕ) where
       pub inside-can-finish : (out : Out) → Met s t w w₁ names₁ st′ inner-held out → CanFinish w₁ (st .top) after out
-      inside-can-finish (Done st₁) o = (entries sc, i .finish, o .left .values, inside-finished plain (i .finishes), inside-finishing o)
+      inside-can-finish (Done st₁) o = (sc, i .finish, o .left .values, inside-finished plain (i .finishes), inside-finishing o)
       inside-can-finish (Refused n r) h = tt
 
       pub inside-finishes : (out : Out) (w₂ : List ℕ) (left : Answer) → Met s t w w₁ names₁ st′ inner-held out → Finished w₁ w₂ (st .top) row after left out
-          → LeftBy s t w w₂ names₁ (entries sc) st here next-held left
+          → LeftBy s t w w₂ names₁ sc st here next-held left
       inside-finishes (Done st₁) w₂ left o f =
           inside-left o w₂ names₁ left
-          (f s t names₁ (entries sc) (run-code codes) here (i .finish) (o .left .values) (inside-finished plain (i .finishes)) (inside-finishing o)
+          (f s t names₁ sc (run-code codes) here (i .finish) (o .left .values) (inside-finished plain (i .finishes)) (inside-finishing o)
           (inside-named o) (inside-counted o) (o .most))
-      inside-finishes (Refused n r) w₂ left h f = subst (λ (x : Answer). LeftBy s t w w₂ names₁ (entries sc) st here next-held x) (sym f) (inside-refused n r h)
+      inside-finishes (Refused n r) w₂ left h f = subst (λ (x : Answer). LeftBy s t w w₂ names₁ sc st here next-held x) (sym f) (inside-refused n r h)
 
   -- entering code
-  module _ {st′ : State} {first body-row visible : ℕ} (i : GoesInside s t w (entries sc) st st′ row first head here (Enters body-row visible)) where
-    entered : EnteredAt s t w (st .floor) (entries sc) body-row visible (i .finish)
+  module _ {st′ : State} {first body-row visible : ℕ} (i : GoesInside s t w sc st st′ row first head here (Enters body-row visible)) where
+    entered : EnteredAt s t w (st .floor) sc body-row visible (i .finish)
     entered = entered-at (i .finishes)
 
     module _ {w₁ names₁ : List ℕ} {st₁ : State} (o : Over s t w w₁ names₁ st′ (inner-held i) st₁) where
@@ -267,18 +265,16 @@ module _ {s t : List ℕ} {bound codes : ℕ} {args : List ℕ} {stands : Stands
       calling =
           let e = entered in
           let f = inside-finishing i o in
-          let many = entries-length (sc .keys) (sc .places) (sc .len) in
           let floor : st₁ .floor ≡ st .floor = o .floor ∙ floor-inside i o in
           let b = going-begins s t bound codes args stands code end g on in
           let plans : plan head here ≡ inside (i .skipped) (i .place) (as-call (e .body) (e .behind)) =
           i .plan-is ∙ ap (λ (x : Finish). inside (i .skipped) (i .place) x) (e .is) in
           let sound = call-sound bound head here (i .skipped) (i .place) (e .body) (e .behind) plans (b .fit) (b .sound) in
-          let shown : Shows s t w (st .floor) (drop (sc .len - visible) (entries sc)) (e .behind) = rw many at (e .shows) in
           record {
             at = e .at;
-            visible-in = rw many at (e .few);
-            few = rw many at (g .ready .setting .few);
-            shows = rw floor (shows-kept s t w (st .floor) (rw (floor-inside i o) at (o .others)) _ (e .behind) shown);
+            visible-in = e .few;
+            few = g .ready .setting .few;
+            shows = rw floor (shows-kept s t w (st .floor) (rw (floor-inside i o) at (o .others)) _ (e .behind) (e .shows));
             fitting = f .fitting;
             stand = f .stand;
             sound = f .sound;
@@ -306,9 +302,9 @@ module _ {s t : List ℕ} {bound codes : ℕ} {args : List ℕ} {stands : Stands
 
       pub inside-calls : (out : Out) (w₂ names₂ : List ℕ) (left : Answer) → Met s t w w₁ names₁ st′ (inner-held i) out
           → Called s t w₁ w₂ names₁ names₂ sc visible (code .depth) body-row (st .top) row left out
-          → LeftBy s t w w₂ names₂ (entries sc) st here next-held left
+          → LeftBy s t w w₂ names₂ sc st here next-held left
       inside-calls (Done st₁) w₂ names₂ left o f =
           inside-left i o w₂ names₂ left
-          (subst (λ (x : Finish). LeftBy s t w₁ w₂ names₂ (entries sc) (with-top st₁ (st₁ .room) (st .top)) here (hold (st₁ .steps) (st₁ .room) (finish (run-code codes) row here x (o .left .values))) left)
-          (sym (entered .is)) (f bound codes (entered .body) (entered .behind) here (o .left .values) (entries sc) (calling o)))
-      inside-calls (Refused n r) w₂ names₂ left h f = subst (λ (x : Answer). LeftBy s t w w₂ names₂ (entries sc) st here next-held x) (sym f) (inside-refused i n r h)
+          (subst (λ (x : Finish). LeftBy s t w₁ w₂ names₂ sc (with-top st₁ (st₁ .room) (st .top)) here (hold (st₁ .steps) (st₁ .room) (finish (run-code codes) row here x (o .left .values))) left)
+          (sym (entered .is)) (f bound codes (entered .body) (entered .behind) here (o .left .values) sc (calling o)))
+      inside-calls (Refused n r) w₂ names₂ left h f = subst (λ (x : Answer). LeftBy s t w w₂ names₂ sc st here next-held x) (sym f) (inside-refused i n r h)

@@ -1,24 +1,20 @@
 -- Laws of the visible definitions, as a scope's entries show them: what a key finds against what a name finds, and that a part of the
 -- workspace elsewhere may change. And the same of the arguments.
 -- Document 01: "a list of definitions that are visible at each place". Assumes nothing.
-use Prim.Native.Nat.{ℕ, zero, suc, _+_, _-_, _≤_, _<_}
+use Prim.Native.Nat.{ℕ, suc, _+_, _-_, _≤_, _<_}
 use mathlib.Core.Path.{_≡_, refl, sym, ap, _∙_, subst}
-use mathlib.Core.List.{List, [], _∷_, map}
+use mathlib.Core.List.{List, [], _∷_}
 use mathlib.Core.Bool.{Bool, true, false}
 use native.Mathlib.Omega.{arith}
-use lib.ListN.{length, getD, drop}
+use lib.ListN.{length, drop}
 use lib.Dec.{eqb}
 use borrow.Author.Tests.{eq-eqb, eqb-true, eqb-false}
-use mir.Val.{Val}
-use denote.Shadow.{shadow}
-use denote.Array.{each}
-use denote.Struct.Field.{u32-field}
 use Rattle.spec.specs.Expr.{ref, Exprs, none, more}
 use Rattle.spec.specs.Nodes.{Nodes}
 use Rattle.spec.specs.Plan.{Defined, value, function, Definition, Scope, Found as Sought, latest, nothing, look-up, Arguments}
 use Rattle.laws.proofs.Fits.{Fits}
 use Rattle.evaluator.specs.Stands.{key-of}
-use Rattle.evaluator.specs.Entries.{Entry, entries-at, find}
+use Rattle.evaluator.specs.Entries.{Entry, find}
 use Rattle.evaluator.specs.Completed.{Stand, ArgumentsAt, Untouched}
 use Rattle.evaluator.specs.Planned.{CodeAt, EntryAt, value-at, function-at, Shows, Lent, no-code, in-code}
 use Rattle.evaluator.specs.declared.plan.Code.{Code}
@@ -27,26 +23,6 @@ use Rattle.evaluator.specs.declared.scope.Found.the-variants.{Value, Fun
 use Rattle.evaluator.proofs.Entries.{from-packed, to-packed, find-value, find-function, find-other}
 use Rattle.evaluator.proofs.Places.{slice-below, stand-above}
 use Rattle.evaluator.proofs.Keys.{key-same, key-small}
-
--- Places
-
--- every place is a number of 32 bits, as a scope has them
-abbrev pub Words : List Entry → Type 0
-Words [] = Unit {0}
-Words (e ∷ es) = (e .place < 0x100000000) × Words es
-
--- what owning an array of such numbers tells
-pub array-words : (ps : List ℕ) (us : List Val) → shadow (each ℕ (u32-field .row .own) (map (λ (v : ℕ). v) ps) us) → (i : ℕ)
-    → getD ps i 0 < 0x100000000
-array-words [] us h i = omega arith
-array-words (p ∷ ps) [] h i = absurd h
-array-words (p ∷ ps) (u ∷ us) h zero = h .0 .1
-array-words (p ∷ ps) (u ∷ us) h (suc i) = array-words ps us (h .1) i
-
-pub entries-words : (keys places : List ℕ) → ((i : ℕ) → getD places i 0 < 0x100000000) → (n : ℕ) → Words (entries-at keys places n)
-unfolding entries-at
-entries-words keys places h zero = tt
-entries-words keys places h (suc n) = (h n, entries-words keys places h n)
 
 -- What a name finds
 
@@ -90,7 +66,7 @@ module _ (s t w : List ℕ) (floor : ℕ) where
   -- a definition elsewhere in the workspace, or a lower floor
   entry-kept : {w′ : List ℕ} {below : ℕ} → Untouched w w′ below floor → (e : Entry) (m n : ℕ) (c : Defined)
       → EntryAt s t w floor e m n c → EntryAt s t w′ floor e m n c
-  entry-kept u e m n (value vs) (value-at from to f k p low order stand) = value-at from to f k p low order (stand-above u low stand)
+  entry-kept u e m n (value vs) (value-at from to f k p low order short stand) = value-at from to f k p low order short (stand-above u low stand)
   entry-kept u e m n (function body) (function-at f k code) = function-at f k code
 
   pub shows-kept : {w′ : List ℕ} {below : ℕ} → Untouched w w′ below floor → (es : List Entry) (ds : Scope)
@@ -102,7 +78,7 @@ module _ (s t w : List ℕ) (floor : ℕ) where
   shows-kept u (e ∷ es) (d ∷ ds) h = (entry-kept u e (d .marker) (d .name) (d .content) (h .0), shows-kept u es ds (h .1))
 
   entry-lower : (floor′ : ℕ) → floor′ ≤ floor → (e : Entry) (m n : ℕ) (c : Defined) → EntryAt s t w floor e m n c → EntryAt s t w floor′ e m n c
-  entry-lower floor′ less e m n (value vs) (value-at from to f k p low order stand) = value-at from to f k p (omega arith) order stand
+  entry-lower floor′ less e m n (value vs) (value-at from to f k p low order short stand) = value-at from to f k p (omega arith) order short stand
   entry-lower floor′ less e m n (function body) (function-at f k code) = function-at f k code
 
   pub shows-lower : (floor′ : ℕ) → floor′ ≤ floor → (es : List Entry) (ds : Scope) → Shows s t w floor es ds → Shows s t w floor′ es ds
@@ -118,7 +94,7 @@ module _ (s t w : List ℕ) (floor : ℕ) where
   behind-more visible e es behind h sh = let one : length (e ∷ es) - visible ≡ suc (length es - visible) = omega arith in rw one sh
 
   entry-fits : (e : Entry) (m n : ℕ) (c : Defined) → EntryAt s t w floor e m n c → Fits (ref m n)
-  entry-fits e m n (value vs) (value-at from to f k p low order stand) = f
+  entry-fits e m n (value vs) (value-at from to f k p low order short stand) = f
   entry-fits e m n (function body) (function-at f k code) = f
 
   -- the latest definition is of the key, or it isn't
@@ -127,19 +103,18 @@ module _ (s t w : List ℕ) (floor : ℕ) where
     abbrev key : ℕ
     key = key-of m n
 
-    latest-here : (k l : ℕ) (c : Defined) (ds : Scope) → EntryAt s t w floor e k l c → Shows s t w floor es ds → e .place < 0x100000000
+    latest-here : (k l : ℕ) (c : Defined) (ds : Scope) → EntryAt s t w floor e k l c → Shows s t w floor es ds
         → key-of k l ≡ key → Answers s t w floor (e ∷ es) (find key (e ∷ es)) (latest c ds)
-    latest-here k l (value vs) ds (value-at from to f is p low order stand) sh small same =
-        let short : to ≤ 65536 = omega (arith, small, p) in
+    latest-here k l (value vs) ds (value-at from to f is p low order short stand) sh same =
         let found : find key (e ∷ es) ≡ Value from to = sym (find-value key e es (is ∙ same)) ∙ rw (p, from-packed from to order short, to-packed from to order short) in
         rw found (value-answer from to vs ds stand order low)
-    latest-here k l (function body) ds (function-at f is code) sh small same =
+    latest-here k l (function body) ds (function-at f is code) sh same =
         let one : suc (length es) - length es ≡ 1 = omega arith in
         let found : find key (e ∷ es) ≡ Function (e .place) (length es) = sym (find-function key e es (omega (arith, is, same))) in
         rw found (function-answer (e .place) (length es) body ds code (omega arith) (rw one sh))
 
     latest-other : (k l : ℕ) (c : Defined) → EntryAt s t w floor e k l c → (key-of k l ≡ key → ⊥) → find key es ≡ find key (e ∷ es)
-    latest-other k l (value vs) (value-at from to f is p low order stand) other =
+    latest-other k l (value vs) (value-at from to f is p low order short stand) other =
         find-other key e es (λ q. other (omega arith)) (λ q. omega (arith, is, q, key-small k l (f .1) (f .2)))
     latest-other k l (function body) (function-at f is code) other =
         find-other key e es (λ q. omega (arith, is, q, key-small m n (fits .1) (fits .2))) (λ q. other (omega arith))
@@ -150,31 +125,31 @@ module _ (s t w : List ℕ) (floor : ℕ) where
   answers-more e es (function-answer code visible body behind at h sh) =
       function-answer code visible body behind at (omega (arith, h)) (behind-more visible e es behind h sh)
 
-  answers-next : (m n : ℕ) → Fits (ref m n) → (e : Entry) (es : List Entry) (d : Definition) (ds : Scope) → e .place < 0x100000000
+  answers-next : (m n : ℕ) → Fits (ref m n) → (e : Entry) (es : List Entry) (d : Definition) (ds : Scope)
       → EntryAt s t w floor e (d .marker) (d .name) (d .content) → Shows s t w floor es ds
       → Answers s t w floor es (find (key-of m n) es) (look-up m n ds)
       → Answers s t w floor (e ∷ es) (find (key-of m n) (e ∷ es)) (look-up m n (d ∷ ds))
-  answers-next m n fits e es d ds small here sh rest = go (eqb (key-of (d .marker) (d .name)) (key-of m n)) refl
+  answers-next m n fits e es d ds here sh rest = go (eqb (key-of (d .marker) (d .name)) (key-of m n)) refl
     where
       go : (b : Bool) → eqb (key-of (d .marker) (d .name)) (key-of m n) ≡ b → Answers s t w floor (e ∷ es) (find (key-of m n) (e ∷ es)) (look-up m n (d ∷ ds))
       go true q =
           let same : key-of (d .marker) (d .name) ≡ key-of m n = eqb-true _ _ q in
           let named = key-same (d .marker) (d .name) m n (entry-fits e (d .marker) (d .name) (d .content) here .2) (fits .2) same in
           subst (λ (g : Sought). Answers s t w floor (e ∷ es) (find (key-of m n) (e ∷ es)) g) (look-up-here m n d ds (named .0) (named .1))
-          (latest-here m n fits e es (d .marker) (d .name) (d .content) ds here sh small same)
+          (latest-here m n fits e es (d .marker) (d .name) (d .content) ds here sh same)
       go false q =
           let other : key-of (d .marker) (d .name) ≡ key-of m n → ⊥ = eqb-false _ _ q in
           let past : look-up m n ds ≡ look-up m n (d ∷ ds) = look-up-past m n d ds (λ a b. other (omega (arith, a, b))) in
           let left : find (key-of m n) es ≡ find (key-of m n) (e ∷ es) = latest-other m n fits e es (d .marker) (d .name) (d .content) here other in
           rw (sym past, sym left) (answers-more e es rest)
 
-  pub answers : (m n : ℕ) → Fits (ref m n) → (es : List Entry) (ds : Scope) → Words es → Shows s t w floor es ds
+  pub answers : (m n : ℕ) → Fits (ref m n) → (es : List Entry) (ds : Scope) → Shows s t w floor es ds
       → Answers s t w floor es (find (key-of m n) es) (look-up m n ds)
   unfolding Shows find look-up
-  answers m n fits [] [] small sh = no-answer
-  answers m n fits [] (d ∷ ds) small sh = absurd sh
-  answers m n fits (e ∷ es) [] small sh = absurd sh
-  answers m n fits (e ∷ es) (d ∷ ds) small sh = answers-next m n fits e es d ds (small .0) (sh .0) (sh .1) (answers m n fits es ds (small .1) (sh .1))
+  answers m n fits [] [] sh = no-answer
+  answers m n fits [] (d ∷ ds) sh = absurd sh
+  answers m n fits (e ∷ es) [] sh = absurd sh
+  answers m n fits (e ∷ es) (d ∷ ds) sh = answers-next m n fits e es d ds (sh .0) (sh .1) (answers m n fits es ds (sh .1))
 
 -- Arguments
 

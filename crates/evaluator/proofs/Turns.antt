@@ -19,11 +19,10 @@ use Rattle.laws.proofs.Holding.{and-hold-same, and-hold-twice, hold-kept, hold-
 use Rattle.laws.proofs.Singles.{append-none, SingleScope, eval-stays, eval-scope}
 use Rattle.laws.proofs.Values.{FitsNode, FitsNodes, SoundHere, eval-sound, run-code-sound}
 use Rattle.evaluator.specs.Stands.{next, NodeAt, NodesAt}
-use Rattle.evaluator.specs.Entries.{entries}
+use Rattle.evaluator.specs.Entries.{Entry}
 use Rattle.evaluator.specs.Completed.{Stand, Untouched}
 use Rattle.evaluator.specs.Planned.{Shows, Lent, Placed, at-top, at-element, at-inner}
 use Rattle.evaluator.specs.Listed.{Ready, SomeReady, Over, LeftValues, LeftDefinition, Beginning}
-use Rattle.evaluator.specs.declared.scope.Scope.{Scope}
 use Rattle.evaluator.specs.declared.values.State.{State}
 use Rattle.evaluator.specs.declared.plan.Stands.{Stands}
 use Rattle.evaluator.specs.declared.plan.Code.{Code}
@@ -74,7 +73,7 @@ module _ (s t : List ℕ) (row : ℕ) (e : Node) (node : NodeAt s t row e) where
 -- The list
 
 -- what the nodes that are listed answer as a whole
-abbrev pub held-list : {s t w names args : List ℕ} {sc : Scope} {st : State} {stands : Stands} {code : Code} {row end : ℕ}
+abbrev pub held-list : {s t w names args : List ℕ} {sc : List Entry} {st : State} {stands : Stands} {code : Code} {row end : ℕ}
     → SomeReady s t w names args sc st stands code row end → Held Left
 held-list {st = st} y = hold (st .steps) (st .room) (in-list (run-code (y .codes)) (y .nodes) (y .place) (y .here))
 
@@ -92,7 +91,7 @@ left-of-none (ceased v r) = refl
 
 module _ (s t : List ℕ) (bound codes : ℕ) (args : List ℕ) (stands : Stands) (code : Code) (end : ℕ) where
   -- `held` is what the list answers as a whole; before the expression at a row, the values `passed` stand, and the rest is to be evaluated
-  pub record Going (w₀ w names : List ℕ) (sc : Scope) (st₀ st : State) (row : ℕ) (held : Held Left) : Type 0 where
+  pub record Going (w₀ w names : List ℕ) (sc : List Entry) (st₀ st : State) (row : ℕ) (held : Held Left) : Type 0 where
     pub rest : Nodes
     pub place : Place
     pub here : Here
@@ -104,7 +103,7 @@ module _ (s t : List ℕ) (bound codes : ℕ) (args : List ℕ) (stands : Stands
     pub lower : st .floor ≤ st₀ .floor
     pub fewer : st .steps ≤ st₀ .steps
 
-  pub going-start : {w names : List ℕ} {sc : Scope} {st : State} {row : ℕ} (es : Nodes) (p : Place) (h : Here)
+  pub going-start : {w names : List ℕ} {sc : List Entry} {st : State} {row : ℕ} (es : Nodes) (p : Place) (h : Here)
       → Ready s t bound codes w names args sc st stands code row end es p h
       → Going w w names sc st st row (hold (st .steps) (st .room) (in-list (run-code codes) es p h))
   unfolding canonical
@@ -123,7 +122,7 @@ module _ (s t : List ℕ) (bound codes : ℕ) (args : List ℕ) (stands : Stands
         fewer = omega arith;
       }
 
-  module _ {w₀ w names : List ℕ} {sc : Scope} {st₀ st : State} {row : ℕ} {held : Held Left} (g : Going w₀ w names sc st₀ st row held) where
+  module _ {w₀ w names : List ℕ} {sc : List Entry} {st₀ st : State} {row : ℕ} {held : Held Left} (g : Going w₀ w names sc st₀ st row held) where
     -- no expression is left
     going-end : end ≤ row → held ≡ kept (record { values = g .passed; here = g .here }) (st .steps) (st .room)
     going-end h =
@@ -214,9 +213,9 @@ module _ (s t : List ℕ) (bound codes : ℕ) (args : List ℕ) (stands : Stands
         arguments-next = eval-stays (run-code codes) (going-more .head) standing-here one ends-one .arguments
 
       -- values
-      pub going-values : {w′ names′ : List ℕ} {st′ : State} {past : ℕ} → past ≡ next t row → LeftValues s t w w′ names′ st standing-here held-next st′
-          → Going w₀ w′ names′ sc st₀ st′ past held
-      going-values {w′} {names′} {st′} e l =
+      pub going-values : {w′ names′ : List ℕ} {sc′ : List Entry} {st′ : State} {past : ℕ} → past ≡ next t row → LeftValues s t w w′ names′ st standing-here held-next st′
+          → sc′ ≡ sc → Going w₀ w′ names′ sc′ st₀ st′ past held
+      going-values {w′} {names′} {sc′} {st′} e l same =
           let o = l .over in
           let one = o .left in
           let r = g .ready in
@@ -225,8 +224,8 @@ module _ (s t : List ℕ) (bound codes : ℕ) (args : List ℕ) (stands : Stands
           let order = g .stand .order in
           let order′ = o .stand .order in
           let size = o .others .size in
-          let shown : Shows s t w′ (st′ .floor) (entries sc) (one .here .scope) =
-          rw (floor, l .scope) (shows-kept s t w (st .floor) (o .others) (entries sc) (g .here .scope) (set .scope)) in
+          let shown : Shows s t w′ (st′ .floor) sc (one .here .scope) =
+          rw (floor, l .scope) (shows-kept s t w (st .floor) (o .others) sc (g .here .scope) (set .scope)) in
           rw e (record {
             rest = going-more .rest;
             place = beyond (going-more .head) (g .place);
@@ -236,8 +235,8 @@ module _ (s t : List ℕ) (bound codes : ℕ) (args : List ℕ) (stands : Stands
             ready = record {
               nodes = going-more .nodes;
               setting = record {
-                scope = shown;
-                few = set .few;
+                scope = rw same shown;
+                few = rw same (set .few);
                 namespaces = o .namespaces;
                 counted = o .counted;
                 most = o .most;
@@ -258,11 +257,11 @@ module _ (s t : List ℕ) (bound codes : ℕ) (args : List ℕ) (stands : Stands
           })
 
       -- a definition, of which the scope has an entry more
-      pub going-definition : {w′ names′ : List ℕ} {sc′ : Scope} {st′ : State} {key place past : ℕ} → past ≡ next t row
-          → LeftDefinition s t w w′ names′ (entries sc) st standing-here held-next st′ key place
-          → entries sc′ ≡ record { key = key; place = place } ∷ entries sc
+      pub going-definition : {w′ names′ : List ℕ} {sc₁ sc′ : List Entry} {st′ : State} {key place past : ℕ} → past ≡ next t row
+          → LeftDefinition s t w w′ names′ sc st standing-here held-next st′ key place
+          → sc′ ≡ record { key = key; place = place } ∷ sc₁ → sc₁ ≡ sc
           → Going w₀ w′ names′ sc′ st₀ st′ past held
-      going-definition {w′} {names′} {sc′} {st′} {key} {place} e l add =
+      going-definition {w′} {names′} {sc₁} {sc′} {st′} {key} {place} e l add same =
           let d = l .definition in
           let one : Left = record { values = none; here = add-definition d standing-here } in
           let r = g .ready in
@@ -270,10 +269,10 @@ module _ (s t : List ℕ) (bound codes : ℕ) (args : List ℕ) (stands : Stands
           let order = g .stand .order in
           let size = l .others .size in
           let top = l .top in
-          let shown : Shows s t w′ (st′ .floor) (record { key = key; place = place } ∷ entries sc) (d ∷ g .here .scope) =
-          shows-more s t w′ (st′ .floor) (record { key = key; place = place }) (entries sc) d (g .here .scope) (l .entry)
-          (shows-lower s t w′ (st .floor) (st′ .floor) (l .floor) (entries sc) (g .here .scope)
-          (shows-kept s t w (st .floor) (l .others) (entries sc) (g .here .scope) (set .scope))) in
+          let shown : Shows s t w′ (st′ .floor) (record { key = key; place = place } ∷ sc) (d ∷ g .here .scope) =
+          shows-more s t w′ (st′ .floor) (record { key = key; place = place }) sc d (g .here .scope) (l .entry)
+          (shows-lower s t w′ (st .floor) (st′ .floor) (l .floor) sc (g .here .scope)
+          (shows-kept s t w (st .floor) (l .others) sc (g .here .scope) (set .scope))) in
           rw e (record {
             rest = going-more .rest;
             place = beyond (going-more .head) (g .place);
@@ -283,8 +282,8 @@ module _ (s t : List ℕ) (bound codes : ℕ) (args : List ℕ) (stands : Stands
             ready = record {
               nodes = going-more .nodes;
               setting = record {
-                scope = rw add shown;
-                few = rw add (l .few);
+                scope = rw (add, same) shown;
+                few = rw (add, same) (l .few);
                 namespaces = l .namespaces;
                 counted = l .counted ∙ set .counted;
                 most = rw (l .counted) (set .most);

@@ -1,4 +1,4 @@
--- What a scope holds: of each visible definition a key and a number, and what a key finds.
+-- What a scope shows of two arrays: of each visible definition a key and a number; and what a key finds.
 -- Document 01: "a list of definitions that are visible at each place". Assumes nothing.
 use Prim.Native.Nat.{ℕ, zero, suc, _+_, _-_, _*_, _/_, _%_}
 use mathlib.Core.List.{List, [], _∷_}
@@ -33,8 +33,8 @@ unfoldable pub entries-at : List ℕ → List ℕ → ℕ → List Entry
 entries-at keys places zero = []
 entries-at keys places (suc n) = record { key = getD keys n 0; place = getD places n 0 } ∷ entries-at keys places n
 
-abbrev pub entries : Scope → List Entry
-entries sc = entries-at (sc .keys) (sc .places) (sc .len)
+abbrev pub entries : List ℕ → List ℕ → Scope → List Entry
+entries keys places sc = entries-at keys places (sc .len)
 
 -- the latest definition of a key; of a function also how many are behind it
 unfoldable pub find : ℕ → List Entry → Found

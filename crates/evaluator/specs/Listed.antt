@@ -13,11 +13,10 @@ use Rattle.laws.proofs.Fits.{Fits}
 use Rattle.laws.proofs.Singles.{Single, SingleScope}
 use Rattle.laws.proofs.Values.{Sound, FitsNode, FitsNodes, SoundScope, SoundHere}
 use Rattle.evaluator.specs.Stands.{next, NodeAt, NodesAt, key-of}
-use Rattle.evaluator.specs.Entries.{Entry, entries}
+use Rattle.evaluator.specs.Entries.{Entry}
 use Rattle.evaluator.specs.Named.{Named}
 use Rattle.evaluator.specs.Completed.{Fitting, Stand, Untouched, with-top, stepped, Completed}
 use Rattle.evaluator.specs.Planned.{CodeAt, EntryAt, Shows, Finishes, Setting}
-use Rattle.evaluator.specs.declared.scope.Scope.{Scope}
 use Rattle.evaluator.specs.declared.values.State.{State}
 use Rattle.evaluator.specs.declared.values.Out.{Out}
 use Rattle.evaluator.specs.declared.values.Out.the-variants.{Done, Refused}
@@ -35,9 +34,9 @@ use Rattle.evaluator.specs.declared.element.Step.the-variants.{Leaves, I
 
 -- the nodes es stand from a row up to `end`, and are evaluated in place p under h, in a stream of so many rows, where so many codes more may be
 -- entered
-pub record Ready (s t : List ℕ) (bound codes : ℕ) (w names args : List ℕ) (sc : Scope) (st : State) (stands : Stands) (code : Code) (row end : ℕ) (es : Nodes) (p : Place) (h : Here) : Type 0 where
+pub record Ready (s t : List ℕ) (bound codes : ℕ) (w names args : List ℕ) (sc : List Entry) (st : State) (stands : Stands) (code : Code) (row end : ℕ) (es : Nodes) (p : Place) (h : Here) : Type 0 where
   pub nodes : NodesAt s t row end es
-  pub setting : Setting s t w names args (st .floor) (st .top) (entries sc) (st .names) stands code row (standing p h)
+  pub setting : Setting s t w names args (st .floor) (st .top) sc (st .names) stands code row (standing p h)
   pub fitting : Fitting w st
   pub fit : FitsNodes bound es
   pub sound : SoundHere bound h
@@ -45,7 +44,7 @@ pub record Ready (s t : List ℕ) (bound codes : ℕ) (w names args : List ℕ) 
   pub entered : code .depth + codes ≡ 32
 
 -- some nodes do
-pub record SomeReady (s t w names args : List ℕ) (sc : Scope) (st : State) (stands : Stands) (code : Code) (row end : ℕ) : Type 0 where
+pub record SomeReady (s t w names args : List ℕ) (sc : List Entry) (st : State) (stands : Stands) (code : Code) (row end : ℕ) : Type 0 where
   pub bound : ℕ
   pub codes : ℕ
   pub nodes : Nodes
@@ -130,14 +129,14 @@ Begun s t w w′ names names′ sc st row e h held (Enter st′ first code visib
     GoesInside s t w sc st st′ row first e h (Enters code visible) × (w′ ≡ w) × (names′ ≡ names)
 
 -- One expression at a row, with what is known of it
-pub record Beginning (s t : List ℕ) (bound : ℕ) (w names args : List ℕ) (sc : Scope) (st : State) (stands : Stands) (code : Code) (row : ℕ) (e : Node) (h : Here) : Type 0 where
+pub record Beginning (s t : List ℕ) (bound : ℕ) (w names args : List ℕ) (sc : List Entry) (st : State) (stands : Stands) (code : Code) (row : ℕ) (e : Node) (h : Here) : Type 0 where
   pub node : NodeAt s t row e
-  pub setting : Setting s t w names args (st .floor) (st .top) (entries sc) (st .names) stands code row h
+  pub setting : Setting s t w names args (st .floor) (st .top) sc (st .names) stands code row h
   pub fitting : Fitting w st
   pub fit : FitsNode bound e
   pub sound : SoundHere bound h
 
-pub record SomeBeginning (s t w names args : List ℕ) (sc : Scope) (st : State) (stands : Stands) (code : Code) (row : ℕ) : Type 0 where
+pub record SomeBeginning (s t w names args : List ℕ) (sc : List Entry) (st : State) (stands : Stands) (code : Code) (row : ℕ) : Type 0 where
   pub bound : ℕ
   pub node : Node
   pub here : Here
@@ -199,11 +198,11 @@ Returned s t w w′ code start from row answer (Done st) =
     → Completed w w′ st start row (if one-value body then vs else only (form vs)) answer
 
 -- the arguments vs stand from `start` up to the top, and the code may run
-pub record Calling (s t : List ℕ) (bound codes : ℕ) (w names : List ℕ) (sc : Scope) (visible : ℕ) (st : State) (depth code start : ℕ) (body : Nodes) (behind : Definitions) (h : Here) (vs : Exprs) : Type 0 where
+pub record Calling (s t : List ℕ) (bound codes : ℕ) (w names : List ℕ) (sc : List Entry) (visible : ℕ) (st : State) (depth code start : ℕ) (body : Nodes) (behind : Definitions) (h : Here) (vs : Exprs) : Type 0 where
   pub at : CodeAt s t code body
-  pub visible-in : visible ≤ sc .len
-  pub few : sc .len ≤ 256
-  pub shows : Shows s t w (st .floor) (drop (sc .len - visible) (entries sc)) behind
+  pub visible-in : visible ≤ length sc
+  pub few : length sc ≤ 256
+  pub shows : Shows s t w (st .floor) (drop (length sc - visible) sc) behind
   pub fitting : Fitting w st
   pub stand : Stand w start (st .top) vs
   pub sound : Sound vs
@@ -215,7 +214,7 @@ pub record Calling (s t : List ℕ) (bound codes : ℕ) (w names : List ℕ) (sc
   pub most : st .names ≤ 64
   pub entered : depth + codes ≡ 32
 
-pub record SomeCalling (s t w names : List ℕ) (sc : Scope) (visible : ℕ) (st : State) (depth code start : ℕ) : Type 0 where
+pub record SomeCalling (s t w names : List ℕ) (sc : List Entry) (visible : ℕ) (st : State) (depth code start : ℕ) : Type 0 where
   pub bound : ℕ
   pub codes : ℕ
   pub body : Nodes
@@ -224,11 +223,11 @@ pub record SomeCalling (s t w names : List ℕ) (sc : Scope) (visible : ℕ) (st
   pub values : Exprs
   pub calls : Calling s t bound codes w names sc visible st depth code start body behind here values
 
-abbrev pub CanCall : List ℕ → List ℕ → List ℕ → List ℕ → Scope → ℕ → ℕ → ℕ → ℕ → Out → Type 0
+abbrev pub CanCall : List ℕ → List ℕ → List ℕ → List ℕ → List Entry → ℕ → ℕ → ℕ → ℕ → Out → Type 0
 CanCall s t w names sc visible depth code start (Done st) = SomeCalling s t w names sc visible st depth code start
 CanCall s t w names sc visible depth code start (Refused n r) = Unit {0}
 
-abbrev pub Called : List ℕ → List ℕ → List ℕ → List ℕ → List ℕ → List ℕ → Scope → ℕ → ℕ → ℕ → ℕ → ℕ → Answer → Out → Type 0
+abbrev pub Called : List ℕ → List ℕ → List ℕ → List ℕ → List ℕ → List ℕ → List Entry → ℕ → ℕ → ℕ → ℕ → ℕ → Answer → Out → Type 0
 Called s t w w′ names names′ sc visible depth code start row left (Refused n r) = left ≡ Stopped n r
 Called s t w w′ names names′ sc visible depth code start row left (Done st) =
     (bound codes : ℕ) (body : Nodes) (behind : Definitions) (h : Here) (vs : Exprs) (es : List Entry)

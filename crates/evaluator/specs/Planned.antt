@@ -32,7 +32,7 @@ pub record CodeAt (s t : List ℕ) (row : ℕ) (es : Nodes) : Type 0 where
 
 -- what the scope holds of a definition: the part of the workspace, from `floor` on, where its value stands; or the row of its code
 pub data EntryAt (s t w : List ℕ) (floor : ℕ) (e : Entry) (m n : ℕ) : Defined → Type 0 where
-  value-at : {vs : Exprs} (from to : ℕ) → Fits (ref m n) → e .key ≡ key-of m n → e .place ≡ pack from to → floor ≤ from → from < to → Stand w from to vs
+  value-at : {vs : Exprs} (from to : ℕ) → Fits (ref m n) → e .key ≡ key-of m n → e .place ≡ pack from to → floor ≤ from → from < to → to ≤ 65536 → Stand w from to vs
       → EntryAt s t w floor e m n (value vs)
   function-at : {es : Nodes} → Fits (ref m n) → e .key ≡ key-of m n + function-bit → CodeAt s t (e .place) es → EntryAt s t w floor e m n (function es)
 

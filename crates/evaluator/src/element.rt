@@ -62,14 +62,6 @@ pub fn leaves(out: Out) -> Left
     }
 }
 
-// Keeps the number that stands for a namespace.
-fn put_name(names: &mut [u32], n: usize, name: u32)
-    requires { ⌜ n < length (now names) ⌝ }
-    ensures { λ _. ⌜ now (names .exit) ≡ set (now (names .entry)) n name ⌝ }
-{
-    names[n] = name;
-}
-
 // An ns form: one more namespace, then its value.
 fn associate(
     s: &[u8],
@@ -88,7 +80,7 @@ fn associate(
         → Completed (now (w .entry)) (now (w .exit)) (one-named state) (state .top) row (ns-form m n id) r) ⌝ }
 {
     let n = state.names;
-    put_name(names, n, name);
+    scope::put(names, n, name);
     let more = State {
         steps: state.steps,
         room: state.room,
@@ -163,15 +155,17 @@ pub fn begin(
     w: &mut [u8],
     names: &mut [u32; 64],
     args: &[u32; 64],
+    keys: &[u32; 256],
+    places: &[u32; 256],
     scope: Scope,
     state: State,
     stands: Stands,
     code: Code,
     row: usize,
 ) -> Step
-    requires { ⌜ SomeBeginning (now s) (now table) (now w) (now names) (now args) scope state stands code row ⌝ }
-    ensures { λ r. ⌜ ((bound : ℕ) (run : Call) (e : Node) (h : Here) → Beginning (now (s .entry)) (now (table .entry)) bound (now (w .entry)) (now (names .entry)) (now (args .entry)) scope state stands code row e h
-        → Begun (now (s .entry)) (now (table .entry)) (now (w .entry)) (now (w .exit)) (now (names .entry)) (now (names .exit)) (entries scope) state row e h (hold (state .steps) (state .room) (eval run e h)) r) ⌝ }
+    requires { ⌜ SomeBeginning (now s) (now table) (now w) (now names) (now args) (entries (now keys) (now places) scope) state stands code row ⌝ }
+    ensures { λ r. ⌜ ((bound : ℕ) (run : Call) (e : Node) (h : Here) → Beginning (now (s .entry)) (now (table .entry)) bound (now (w .entry)) (now (names .entry)) (now (args .entry)) (entries (now (keys .entry)) (now (places .entry)) scope) state stands code row e h
+        → Begun (now (s .entry)) (now (table .entry)) (now (w .entry)) (now (w .exit)) (now (names .entry)) (now (names .exit)) (entries (now (keys .entry)) (now (places .entry)) scope) state row e h (hold (state .steps) (state .room) (eval run e h)) r) ⌝ }
 {
     let steps = state.steps;
     if steps == 0 {
@@ -184,7 +178,19 @@ pub fn begin(
         floor: state.floor,
         names: state.names,
     };
-    let task = plan::plan(s, table, names, args, scope, state.names, stands, code, row);
+    let task = plan::plan(
+        s,
+        table,
+        names,
+        args,
+        keys,
+        places,
+        scope,
+        state.names,
+        stands,
+        code,
+        row,
+    );
     perform(s, table, w, names, stepped, task, row)
 }
 

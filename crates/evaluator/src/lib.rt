@@ -86,6 +86,9 @@ fn evaluate_all(s: &[u8], table: &[u32], rows: usize, w: &mut [u8], steps: u64) 
 {
     let mut names = [0u32; 64];
     let args = [0u32; 64];
+    let none = [0u32; 256];
+    let mut keys = none;
+    let mut places = none;
     let room = w.len();
     let state = State {
         steps,
@@ -105,6 +108,8 @@ fn evaluate_all(s: &[u8], table: &[u32], rows: usize, w: &mut [u8], steps: u64) 
         w,
         &mut names,
         &args,
+        &mut keys,
+        &mut places,
         Scope::new(),
         state,
         Stands::Top,

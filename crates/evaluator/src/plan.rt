@@ -66,17 +66,24 @@ fn refuse(number: u32) -> Task
     Task::Refuse { number }
 }
 
-fn reference(s: &[u8], table: &[u32], scope: Scope, row: usize) -> Task
+fn reference(
+    s: &[u8],
+    table: &[u32],
+    keys: &[u32; 256],
+    places: &[u32; 256],
+    scope: Scope,
+    row: usize,
+) -> Task
     requires { ⌜ ((m : ℕ) × (n : ℕ) × LeafAt (now s) (now table) row (ref m n)) ⌝ }
     requires { ⌜ scope .len ≤ 256 ⌝ }
-    ensures { λ r. ⌜ ((w : List ℕ) (floor m n : ℕ) (ds : Definitions) → LeafAt (now (s .entry)) (now (table .entry)) row (ref m n) → Shows (now (s .entry)) (now (table .entry)) w floor (entries scope) ds
-        → Planned (now (s .entry)) (now (table .entry)) w floor (entries scope) row empty r (plan-atom (ref m n) ds)) ⌝ }
+    ensures { λ r. ⌜ ((w : List ℕ) (floor m n : ℕ) (ds : Definitions) → LeafAt (now (s .entry)) (now (table .entry)) row (ref m n) → Shows (now (s .entry)) (now (table .entry)) w floor (entries (now (keys .entry)) (now (places .entry)) scope) ds
+        → Planned (now (s .entry)) (now (table .entry)) w floor (entries (now (keys .entry)) (now (places .entry)) scope) row empty r (plan-atom (ref m n) ds)) ⌝ }
 {
     let key = rows::key(s, table, row);
     if Core::is_function(key) {
         return refuse(12);
     }
-    match scope.look_up(key) {
+    match scope.look_up(keys, places, key) {
         Found::Value { from, to } => Task::Again { from, to },
         Found::Function {
             code: _,
@@ -326,13 +333,13 @@ fn data(row: usize) -> Task
 }
 
 // A form whose head is a plain reference.
-fn named(scope: Scope, head: u32, row: usize) -> Task
+fn named(keys: &[u32; 256], places: &[u32; 256], scope: Scope, head: u32, row: usize) -> Task
     requires { ⌜ (scope .len ≤ 256) × (head < function-bit) × (row < 65536) ⌝ }
     ensures { λ r. ⌜ ((s t w : List ℕ) (floor m n q q′ : ℕ) (fs : Nodes) (ds : Definitions) → NodeAt s t row (branch q (cons (leaf q′ (ref m n)) fs))
-        → Fits (ref m n) → head ≡ key-of m n → Shows s t w floor (entries scope) ds
-        → Planned s t w floor (entries scope) row (cons (leaf q′ (ref m n)) fs) r (plan-head (look-up m n ds))) ⌝ }
+        → Fits (ref m n) → head ≡ key-of m n → Shows s t w floor (entries (now (keys .entry)) (now (places .entry)) scope) ds
+        → Planned s t w floor (entries (now (keys .entry)) (now (places .entry)) scope) row (cons (leaf q′ (ref m n)) fs) r (plan-head (look-up m n ds))) ⌝ }
 {
-    match scope.look_up(head) {
+    match scope.look_up(keys, places, head) {
         Found::Function { code, visible } => Task::Inside {
             first: row + 2,
             after: After::Call { code, visible },
@@ -369,6 +376,8 @@ fn form(
     table: &[u32],
     names: &[u32; 64],
     args: &[u32; 64],
+    keys: &[u32; 256],
+    places: &[u32; 256],
     scope: Scope,
     count: usize,
     stands: Stands,
@@ -376,10 +385,10 @@ fn form(
     row: usize,
 ) -> Task
     requires { ⌜ FormAt (now s) (now table) row ⌝ }
-    requires { ⌜ Known (now s) (now table) (now names) (now args) (entries scope) count stands code row ⌝ }
+    requires { ⌜ Known (now s) (now table) (now names) (now args) (entries (now keys) (now places) scope) count stands code row ⌝ }
     ensures { λ r. ⌜ ((w : List ℕ) (floor top q : ℕ) (es : Nodes) (h : Here) → NodeAt (now (s .entry)) (now (table .entry)) row (branch q es)
-        → Setting (now (s .entry)) (now (table .entry)) w (now (names .entry)) (now (args .entry)) floor top (entries scope) count stands code row h
-        → Planned (now (s .entry)) (now (table .entry)) w floor (entries scope) row es r (plan-form (head-word es) es h)) ⌝ }
+        → Setting (now (s .entry)) (now (table .entry)) w (now (names .entry)) (now (args .entry)) floor top (entries (now (keys .entry)) (now (places .entry)) scope) count stands code row h
+        → Planned (now (s .entry)) (now (table .entry)) w floor (entries (now (keys .entry)) (now (places .entry)) scope) row es r (plan-form (head-word es) es h)) ⌝ }
 {
     let head = rows::head(s, table, row);
     match head {
@@ -390,7 +399,7 @@ fn form(
         Core::ARG => arg(s, table, args, code, row),
         Core::REST => rest(s, table, args, code, row),
         rows::NO_KEY => unnamed(s, table, scope.len, row),
-        _ => named(scope, head, row),
+        _ => named(keys, places, scope, head, row),
     }
 }
 
@@ -400,21 +409,35 @@ pub fn plan(
     table: &[u32],
     names: &[u32; 64],
     args: &[u32; 64],
+    keys: &[u32; 256],
+    places: &[u32; 256],
     scope: Scope,
     count: usize,
     stands: Stands,
     code: Code,
     row: usize,
 ) -> Task
-    requires { ⌜ Known (now s) (now table) (now names) (now args) (entries scope) count stands code row ⌝ }
+    requires { ⌜ Known (now s) (now table) (now names) (now args) (entries (now keys) (now places) scope) count stands code row ⌝ }
     ensures { λ r. ⌜ ((w : List ℕ) (floor top : ℕ) (e : Node) (h : Here) → NodeAt (now (s .entry)) (now (table .entry)) row e
-        → Setting (now (s .entry)) (now (table .entry)) w (now (names .entry)) (now (args .entry)) floor top (entries scope) count stands code row h
-        → Planned (now (s .entry)) (now (table .entry)) w floor (entries scope) row (elements e) r (plan e h)) ⌝ }
+        → Setting (now (s .entry)) (now (table .entry)) w (now (names .entry)) (now (args .entry)) floor top (entries (now (keys .entry)) (now (places .entry)) scope) count stands code row h
+        → Planned (now (s .entry)) (now (table .entry)) w floor (entries (now (keys .entry)) (now (places .entry)) scope) row (elements e) r (plan e h)) ⌝ }
 {
     let kind = rows::kind(table, row);
     match kind {
-        1 => form(s, table, names, args, scope, count, stands, code, row),
-        4 => reference(s, table, scope, row),
+        1 => form(
+            s,
+            table,
+            names,
+            args,
+            keys,
+            places,
+            scope,
+            count,
+            stands,
+            code,
+            row,
+        ),
+        4 => reference(s, table, keys, places, scope, row),
         _ => Task::Own,
     }
 }

@@ -18,6 +18,7 @@ ghost use Rattle.spec.specs.Nodes.{Nodes};
 ghost use Rattle.spec.specs.Plan.{Place, Here};
 ghost use Rattle.spec.specs.Evaluation.{run-code};
 ghost use Rattle.laws.specs.Holding.{hold, in-list};
+ghost use Rattle.evaluator.specs.Entries.{entries};
 ghost use Rattle.evaluator.specs.Listed.{Ready, SomeReady, Met, stands-in, CanCall, Called};
 ghost use Rattle.evaluator.specs.declared.values.Out.the-variants.{Done};
 
@@ -49,13 +50,15 @@ fn over(state: State, floor: usize) -> Out
     })
 }
 
-// Evaluates the expressions whose rows are from `first` up to `end`.
+// Evaluates the expressions whose rows are from `first` up to `end`. What it defines is written past the scope's definitions, which stay.
 pub fn list(
     s: &[u8],
     table: &[u32],
     w: &mut [u8],
     names: &mut [u32; 64],
     args: &[u32; 64],
+    keys: &mut [u32; 256],
+    places: &mut [u32; 256],
     mut scope: Scope,
     mut state: State,
     stands: Stands,
@@ -63,10 +66,11 @@ pub fn list(
     first: usize,
     end: usize,
 ) -> Out
-    requires { ⌜ SomeReady (now s) (now table) (now w) (now names) (now args) scope state stands code first end ⌝ }
+    requires { ⌜ SomeReady (now s) (now table) (now w) (now names) (now args) (entries (now keys) (now places) scope) state stands code first end ⌝ }
     ensures { λ r. ⌜ ((bound codes : ℕ) (es : Nodes) (p : Place) (h : Here)
-        → Ready (now (s .entry)) (now (table .entry)) bound codes (now (w .entry)) (now (names .entry)) (now (args .entry)) scope state stands code first end es p h
-        → Met (now (s .entry)) (now (table .entry)) (now (w .entry)) (now (w .exit)) (now (names .exit)) state (hold (state .steps) (state .room) (in-list (run-code codes) es p h)) r) ⌝ }
+        → Ready (now (s .entry)) (now (table .entry)) bound codes (now (w .entry)) (now (names .entry)) (now (args .entry)) (entries (now (keys .entry)) (now (places .entry)) scope) state stands code first end es p h
+        → Met (now (s .entry)) (now (table .entry)) (now (w .entry)) (now (w .exit)) (now (names .exit)) state (hold (state .steps) (state .room) (in-list (run-code codes) es p h)) r)
+        × (entries (now (keys .exit)) (now (places .exit)) scope ≡ entries (now (keys .entry)) (now (places .entry)) scope) ⌝ }
 {
     let floor = state.floor;
     let depth = code.depth;
@@ -74,7 +78,20 @@ pub fn list(
     while row < end {
         let start = state.top;
         let next = rows::next(table, row);
-        let left = match element::begin(s, table, w, names, args, scope, state, stands, code, row) {
+        let left = match element::begin(
+            s,
+            table,
+            w,
+            names,
+            args,
+            keys,
+            places,
+            scope,
+            state,
+            stands,
+            code,
+            row,
+        ) {
             Step::Leaves(done) => done,
             Step::Inside {
                 state: inner,
@@ -87,6 +104,8 @@ pub fn list(
                     w,
                     names,
                     args,
+                    keys,
+                    places,
                     scope,
                     inner,
                     stands_in(after),
@@ -108,6 +127,8 @@ pub fn list(
                     w,
                     names,
                     args,
+                    keys,
+                    places,
                     scope,
                     inner,
                     Stands::Inner,
@@ -120,6 +141,8 @@ pub fn list(
                     table,
                     w,
                     names,
+                    keys,
+                    places,
                     scope,
                     visible,
                     out,
@@ -144,7 +167,7 @@ pub fn list(
                 place,
             } => {
                 state = done;
-                scope = scope.add(key, place);
+                scope = scope.add(keys, places, key, place);
                 row = next;
             }
         }
@@ -158,6 +181,8 @@ fn call(
     table: &[u32],
     w: &mut [u8],
     names: &mut [u32; 64],
+    keys: &[u32; 256],
+    places: &[u32; 256],
     scope: Scope,
     visible: usize,
     out: Out,
@@ -166,8 +191,8 @@ fn call(
     start: usize,
     row: usize,
 ) -> Left
-    requires { ⌜ CanCall (now s) (now table) (now w) (now names) scope visible depth code start out ⌝ }
-    ensures { λ r. ⌜ Called (now (s .entry)) (now (table .entry)) (now (w .entry)) (now (w .exit)) (now (names .entry)) (now (names .exit)) scope visible depth code start row r out ⌝ }
+    requires { ⌜ CanCall (now s) (now table) (now w) (now names) (entries (now keys) (now places) scope) visible depth code start out ⌝ }
+    ensures { λ r. ⌜ Called (now (s .entry)) (now (table .entry)) (now (w .entry)) (now (w .exit)) (now (names .entry)) (now (names .exit)) (entries (now (keys .entry)) (now (places .entry)) scope) visible depth code start row r out ⌝ }
 {
     match out {
         Out::Refused { number, row: at } => Left::Stopped { number, row: at },
@@ -176,6 +201,9 @@ fn call(
                 return Left::Stopped { number: 19, row };
             }
             let mut args = [0u32; 64];
+            // The code's definitions are written over those past the first `visible`.
+            let mut inner_keys = *keys;
+            let mut inner_places = *places;
             let from = state.top;
             let count = forms::spread(&w[start..from], start, &mut args);
             let inner = Code {
@@ -189,6 +217,8 @@ fn call(
                 w,
                 names,
                 &args,
+                &mut inner_keys,
+                &mut inner_places,
                 scope.back_to(visible),
                 state,
                 Stands::Inner,

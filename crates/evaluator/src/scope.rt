@@ -1,14 +1,13 @@
-// The visible definitions, by value. Document 01: "a list of definitions that are visible at each place".
+// The visible definitions: two lent arrays, and by value how many of their entries count. Document 01: "a list of definitions that are visible at
+// each place".
 ghost use mathlib.Core.Path.{_≡_};
-ghost use mathlib.Core.List.{[], _∷_};
-ghost use Prim.Native.Nat.{_+_, _-_, _≤_, _<_};
-ghost use lib.ListN.{drop};
+ghost use mathlib.Core.List.{List, [], _∷_};
+ghost use Prim.Native.Nat.{ℕ, _+_, _-_, _≤_, _<_};
+ghost use lib.ListN.{length, set, drop};
 ghost use Rattle.evaluator.specs.Entries.{pack, packed-from, packed-to, function-bit, entries, find};
 
-// Of each definition its key, and where its value stands or the row of its code; the latest is the last.
+// How many definitions are visible. Of each, `keys` has its key, and `places` where its value stands or the row of its code; the latest is the last.
 pub struct Scope {
-    pub keys: [u32; 256],
-    pub places: [u32; 256],
     pub len: usize,
 }
 
@@ -41,41 +40,50 @@ pub fn packed_to(place: u32) -> usize
     (place / 65536 + 1) as usize
 }
 
+// The row of a function's code.
+fn code_row(place: u32) -> usize
+    ensures { λ r. ⌜ r ≡ place ⌝ }
+{
+    place as usize
+}
+
+// Stores a number in a lent array.
+pub fn put(array: &mut [u32], n: usize, number: u32)
+    requires { ⌜ n < length (now array) ⌝ }
+    ensures { λ _. ⌜ now (array .exit) ≡ set (now (array .entry)) n number ⌝ }
+{
+    array[n] = number;
+}
+
 impl Scope {
     pub fn new() -> Self
-        ensures { λ r. ⌜ (entries r ≡ []) × (r .len ≡ 0) ⌝ }
+        ensures { λ r. ⌜ ((keys places : List ℕ) → entries keys places r ≡ []) ⌝ }
     {
-        let none = [0u32; 256];
-        Self {
-            keys: none,
-            places: none,
-            len: 0,
-        }
+        Self { len: 0 }
     }
 
-    // One more definition.
-    pub fn add(mut self, key: u32, place: u32) -> Self
+    // One more definition, written past those that are visible.
+    pub fn add(self, keys: &mut [u32; 256], places: &mut [u32; 256], key: u32, place: u32) -> Self
         requires { ⌜ self .len < 256 ⌝ }
-        ensures { λ r. ⌜ (entries r ≡ record { key = key; place = place } ∷ entries self) × (r .len ≡ self .len + 1) ⌝ }
+        ensures { λ r. ⌜ (entries (now (keys .exit)) (now (places .exit)) r ≡ record { key = key; place = place } ∷ entries (now (keys .entry)) (now (places .entry)) self) × (r .len ≡ self .len + 1) ⌝ }
     {
         let n = self.len;
-        self.keys[n] = key;
-        self.places[n] = place;
-        self.len = n + 1;
-        self
+        put(keys, n, key);
+        put(places, n, place);
+        Self { len: n + 1 }
     }
 
     // The latest definition of a reference's key.
-    pub fn look_up(self, key: u32) -> Found
+    pub fn look_up(self, keys: &[u32; 256], places: &[u32; 256], key: u32) -> Found
         requires { ⌜ (self .len ≤ 256) × (key < function-bit) ⌝ }
-        ensures { λ r. ⌜ r ≡ find key (entries self) ⌝ }
+        ensures { λ r. ⌜ r ≡ find key (entries (now (keys .entry)) (now (places .entry)) self) ⌝ }
     {
         let mut i = self.len;
         while 0 < i {
             i -= 1;
-            let k = self.keys[i];
+            let k = keys[i];
             if k == key {
-                let p = self.places[i];
+                let p = places[i];
                 return Found::Value {
                     from: packed_from(p),
                     to: packed_to(p),
@@ -83,7 +91,7 @@ impl Scope {
             }
             if k == key + FUNCTION {
                 return Found::Function {
-                    code: self.places[i] as usize,
+                    code: code_row(places[i]),
                     visible: i,
                 };
             }
@@ -92,11 +100,10 @@ impl Scope {
     }
 
     // The scope as it was when it had n definitions.
-    pub fn back_to(mut self, n: usize) -> Self
+    pub fn back_to(self, n: usize) -> Self
         requires { ⌜ n ≤ self .len ⌝ }
-        ensures { λ r. ⌜ (entries r ≡ drop (self .len - n) (entries self)) × (r .len ≡ n) ⌝ }
+        ensures { λ r. ⌜ ((keys places : List ℕ) → entries keys places r ≡ drop (self .len - n) (entries keys places self)) ⌝ }
     {
-        self.len = n;
-        self
+        Self { len: n }
     }
 }

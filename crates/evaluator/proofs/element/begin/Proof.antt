@@ -12,8 +12,8 @@ returns c bound run e h b =
     let x = c .before .before .before .before .args in
     eval-none (x .s .now) (x .table .now) (x .row) run h e (b .node) (x .state .steps) (x .state .room) (c .if1 .taken)
 
-sub-t16 : tie.Need-sub-t16
-sub-t16 c = search needs
+sub-t18 : tie.Need-sub-t18
+sub-t18 c = search needs
 
 plan-requires : tie.Need-plan-requires
 plan-requires c κs = search needs
@@ -24,7 +24,7 @@ perform-requires c κs =
     let x = k .before .before .before .before .args in
     let b = k .before .before .before .before .pre .begins in
     let planned = c .before .before .plan .ensures (x .w .now) (x .state .floor) (x .state .top) _ _ (b .node) (b .setting) in
-    (entries (x .scope), x .state, _, _, refl, begin-performs b (omega (arith, k .if1 .left)) planned)
+    (entries (x .keys .now) (x .places .now) (x .scope), x .state, _, _, refl, begin-performs b (omega (arith, k .if1 .left)) planned)
 
 same-length : tie.Need-same-length
 same-length c = search needs
@@ -35,8 +35,8 @@ returns-2 c bound run e h b =
     let k = p .before .before in
     let x = k .before .before .before .before .args in
     let planned = p .plan .ensures (x .w .now) (x .state .floor) (x .state .top) e h (b .node) (b .setting) in
-    c .before .before .perform .ensures (entries (x .scope)) (x .state) run e h refl (begin-performs b (omega (arith, k .if1 .left)) planned)
+    c .before .before .perform .ensures (entries (x .keys .now) (x .places .now) (x .scope)) (x .state) run e h refl (begin-performs b (omega (arith, k .if1 .left)) planned)
 
 pub begin-spec : {M : Type 1} → statement M
 begin-spec =
-    tie.close (tie.spec returns sub-t16 plan-requires perform-requires same-length returns-2)
+    tie.close (tie.spec returns sub-t18 plan-requires perform-requires same-length returns-2)

@@ -36,7 +36,7 @@ module _ (c : tie.After-head) where
 
 -- what is known of the namespaces and the arguments
 module _ (start : tie.Start) where
-  abbrev known : let a = start .args in Known (a .s .now) (a .table .now) (a .names .now) (a .args .now) (entries (a .scope)) (a .count) (a .stands) (a .code) (a .row)
+  abbrev known : let a = start .args in Known (a .s .now) (a .table .now) (a .names .now) (a .args .now) (entries (a .keys .now) (a .places .now) (a .scope)) (a .count) (a .stands) (a .code) (a .row)
   known = start .pre .1
 
   counted : let a = start .args in Counted (a .s .now) (a .table .now) (a .names .now) (a .count)
@@ -89,7 +89,7 @@ named-requires c κs =
     let f = start .pre .0 in
     let p = as-plain (c .before) (f .number) (f .elements) (f .at) (start .pre .1 .here) (unlisted c) in
     let key : c .before .head .result ≡ key-of (p .marker) (p .name) = c .before .head .ensures (branch (f .number) (f .elements)) (f .at) ∙ ap head-key (p .is) in (
-      omega (arith, entries-length (a .scope .keys) (a .scope .places) (a .scope .len), start .pre .1 .setting .few),
+      omega (arith, entries-length (a .keys .now) (a .places .now) (a .scope .len), start .pre .1 .setting .few),
       omega (arith, key, key-small (p .marker) (p .name) (p .fits .1) (p .fits .2)),
       form-row (a .s .now) (a .table .now) (a .row) (f .number) (f .elements) (f .at) .few,
     )
@@ -104,11 +104,11 @@ returns-2 : tie.Need-returns-2
 unfolding plan-form
 returns-2 c = λ w floor top q es h at set.
     let a = c .before .before .before .before .before .args in
-    let sc = a .scope in
-    let size = entries-length (sc .keys) (sc .places) (sc .len) in
-    let shown = shows-length (a .s .now) (a .table .now) w floor (entries sc) (h .scope) (set .scope) in
+    let sc = entries (a .keys .now) (a .places .now) (a .scope) in
+    let size = entries-length (a .keys .now) (a .places .now) (a .scope .len) in
+    let shown = shows-length (a .s .now) (a .table .now) w floor sc (h .scope) (set .scope) in
     rw (as-word (c .before .before) q es at h define (omega arith) (c .before .match .keys2))
-    (c .define .ensures w floor q (entries sc) es h at (set .place) (set .namespaces) (set .counted) (sym size) (sym size ∙ shown))
+    (c .define .ensures w floor q sc es h at (set .place) (set .namespaces) (set .counted) (sym size) (sym size ∙ shown))
 
 returns-3 : tie.Need-returns-3
 unfolding plan-form
@@ -133,12 +133,12 @@ returns-6 c = λ w floor top q es h at set.
 returns-7 : tie.Need-returns-7
 returns-7 c = λ w floor top q es h at set.
     let a = c .before .before .before .before .before .args in
-    let sc = a .scope in
+    let sc = entries (a .keys .now) (a .places .now) (a .scope) in
     let head = c .before .before .head in
     let key = head .ensures (branch q es) at in
-    let size = entries-length (sc .keys) (sc .places) (sc .len) in
+    let size = entries-length (a .keys .now) (a .places .now) (a .scope .len) in
     rw (form-none (a .s .now) (a .table .now) (a .row) q es h (bytes (c .before .before)) at (head .result) key (c .before .match .keys7))
-    (c .unnamed .ensures w floor q (entries sc) es (h .scope) at (sym key ∙ c .before .match .keys7) (set .scope) (sym size))
+    (c .unnamed .ensures w floor q sc es (h .scope) at (sym key ∙ c .before .match .keys7) (set .scope) (sym size))
 
 returns-8 : tie.Need-returns-8
 returns-8 c = λ w floor top q es h at set.
@@ -148,7 +148,7 @@ returns-8 c = λ w floor top q es h at set.
     let there = along (λ (x : Nodes). NodeAt (a .s .now) (a .table .now) (a .row) (branch q x)) (p .is) at in
     let plans = plan-head (look-up (p .marker) (p .name) (h .scope)) in
     rw (p .plans)
-    (along (λ (x : Nodes). Planned (a .s .now) (a .table .now) w floor (entries (a .scope)) (a .row) x (c .named .result) plans) (sym (p .is))
+    (along (λ (x : Nodes). Planned (a .s .now) (a .table .now) w floor (entries (a .keys .now) (a .places .now) (a .scope)) (a .row) x (c .named .result) plans) (sym (p .is))
     (c .named .ensures (a .s .now) (a .table .now) w floor (p .marker) (p .name) q (p .row) (p .rest) (h .scope) there (p .fits) key (set .scope)))
 
 pub form-spec : {M : Type 1} → statement M

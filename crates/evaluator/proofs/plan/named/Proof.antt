@@ -8,26 +8,26 @@ use Rattle.spec.specs.Nodes.{leaf, branch, Nodes, cons}
 use Rattle.spec.specs.Plan.{Scope, look-up, plan-head}
 use Rattle.laws.proofs.Fits.{Fits}
 use Rattle.evaluator.specs.Stands.{NodeAt, key-of}
-use Rattle.evaluator.specs.Entries.{entries, find}
+use Rattle.evaluator.specs.Entries.{Entry, entries, find}
 use Rattle.evaluator.specs.Planned.{Shows, Planned}
 use Rattle.evaluator.specs.declared.scope.Found.{Found}
-use Rattle.evaluator.proofs.Shown.{array-words, entries-words, answers}
+use Rattle.evaluator.proofs.Shown.{answers}
 use Rattle.evaluator.proofs.Heads.{head-task, head-planned}
 use Rattle.evaluator.proofs.plan.named.Statement.{statement}
 use Rattle.evaluator.proofs.plan.named.Tie as tie
 
--- what is done with what was found
-done : (c : tie.After-look-up) (f : Found) → c .look-up .result ≡ f → (s t w : List ℕ) (floor m n q q′ : ℕ) (fs : Nodes) (ds : Scope)
-    → let a = c .before .args in
-    NodeAt s t (a .row) (branch q (cons (leaf q′ (ref m n)) fs)) → Fits (ref m n) → a .head ≡ key-of m n → Shows s t w floor (entries (a .scope)) ds
-    → Planned s t w floor (entries (a .scope)) (a .row) (cons (leaf q′ (ref m n)) fs) (head-task (a .row) f) (plan-head (look-up m n ds))
-done c f is s t w floor m n q q′ fs ds at fits key sh =
-    let a = c .before .args in
-    let sc = a .scope in
-    let owned = c .before .good .0 .1 .1 .1 .0 in
-    let small = entries-words (sc .keys) (sc .places) (array-words (sc .places) (owned .0) (owned .1 .1)) (sc .len) in
-    let found : find (key-of m n) (entries sc) ≡ f = ap (λ (k : ℕ). find k (entries sc)) (sym key) ∙ sym (c .look-up .ensures) ∙ is in
-    head-planned s t w floor (entries sc) (a .row) q q′ (ref m n) fs at (rw found at (answers s t w floor m n fits (entries sc) ds small sh))
+module _ (c : tie.After-look-up) where
+  abbrev sc : List Entry
+  sc = let a = c .before .args in entries (a .keys .now) (a .places .now) (a .scope)
+
+  -- what is done with what was found
+  done : (f : Found) → c .look-up .result ≡ f → (s t w : List ℕ) (floor m n q q′ : ℕ) (fs : Nodes) (ds : Scope)
+      → let a = c .before .args in
+      NodeAt s t (a .row) (branch q (cons (leaf q′ (ref m n)) fs)) → Fits (ref m n) → a .head ≡ key-of m n → Shows s t w floor sc ds
+      → Planned s t w floor sc (a .row) (cons (leaf q′ (ref m n)) fs) (head-task (a .row) f) (plan-head (look-up m n ds))
+  done f is s t w floor m n q q′ fs ds at fits key sh =
+      let found : find (key-of m n) sc ≡ f = ap (λ (k : ℕ). find k sc) (sym key) ∙ sym (c .look-up .ensures) ∙ is in
+      head-planned s t w floor sc (c .before .args .row) q q′ (ref m n) fs at (rw found at (answers s t w floor m n fits sc ds sh))
 
 look-up-requires : tie.Need-look-up-requires
 look-up-requires c κs = search needs
@@ -35,8 +35,8 @@ look-up-requires c κs = search needs
 enum-known-code : tie.Need-enum-known-code
 enum-known-code c = search needs
 
-add-t8 : tie.Need-add-t8
-add-t8 c = search needs
+add-t10 : tie.Need-add-t10
+add-t10 c = search needs
 
 enum-told : tie.Need-enum-told
 enum-told c = search needs
@@ -65,7 +65,7 @@ named-spec =
     (tie.spec
     look-up-requires
     enum-known-code
-    add-t8
+    add-t10
     enum-told
     data-requires
     enum-told-2

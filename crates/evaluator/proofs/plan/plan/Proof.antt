@@ -31,7 +31,7 @@ reference-requires c κs =
     let a = start .args in
     let r = reference-at (a .s .now) (a .table .now) (a .row) (start .pre .node) (start .pre .at) (sym (c .before .kind .ensures) ∙ c .match .keys2) in (
       (r .marker, r .name, r .here),
-      omega (arith, entries-length (a .scope .keys) (a .scope .places) (a .scope .len), start .pre .setting .few),
+      omega (arith, entries-length (a .keys .now) (a .places .now) (a .scope .len), start .pre .setting .few),
     )
 
 returns : tie.Need-returns

@@ -10,12 +10,12 @@ use Rattle.spec.specs.Plan.{Scope, plan-atom}
 use Rattle.laws.proofs.Fits.{Fits}
 use Rattle.laws.proofs.Steps.{all-bytes}
 use Rattle.evaluator.specs.Stands.{LeafAt, key-of}
-use Rattle.evaluator.specs.Entries.{entries, find}
+use Rattle.evaluator.specs.Entries.{Entry, entries, find}
 use Rattle.evaluator.specs.Planned.{Shows, Planned, refuses}
 use Rattle.evaluator.specs.declared.scope.Found.{Found}
 use Rattle.evaluator.proofs.Nodes.{leaf-fits}
 use Rattle.evaluator.proofs.Keys.{key-small}
-use Rattle.evaluator.proofs.Shown.{array-words, entries-words, answers}
+use Rattle.evaluator.proofs.Shown.{answers}
 use Rattle.evaluator.proofs.Heads.{plan-name, reference-task, reference-planned}
 use Rattle.evaluator.proofs.plan.reference.Statement.{statement}
 use Rattle.evaluator.proofs.plan.reference.Tie as tie
@@ -25,25 +25,26 @@ fits : (c : tie.After-key) (m n : ℕ) → let a = c .before .before .before .ar
 fits c m n l =
     leaf-fits (all-bytes (c .before .before .before .args .s .now) (λ i. c .before .before .shared-slice-known .given i .fits)) l
 
--- what is done with what was found
-done : (c : tie.After-look-up) (f : Found) → c .look-up .result ≡ f → (w : List ℕ) (floor m n : ℕ) (ds : Scope)
-    → let a = c .before .before .before .before .before .before .args in
-    LeafAt (a .s .now) (a .table .now) (a .row) (ref m n) → Shows (a .s .now) (a .table .now) w floor (entries (a .scope)) ds
-    → Planned (a .s .now) (a .table .now) w floor (entries (a .scope)) (a .row) empty (reference-task f) (plan-atom (ref m n) ds)
-done c f is w floor m n ds at sh =
-    let k = c .before .before .before in
-    let start = k .before .before .before in
-    let a = start .args in
-    let sc = a .scope in
-    let owned = start .good .1 .1 .0 .1 .1 .1 .0 in
-    let small = entries-words (sc .keys) (sc .places) (array-words (sc .places) (owned .0) (owned .1 .1)) (sc .len) in
-    let key = k .key .ensures m n at in
-    let fit = fits k m n at in
-    let found : find (key-of m n) (entries sc) ≡ f = ap (λ (x : ℕ). find x (entries sc)) (sym key) ∙ sym (c .look-up .ensures) ∙ is in
-    let plans = plan-name (k .key .result) m n ds key fit (c .before .before .is-function .result) (c .before .before .is-function .ensures) in
-    rw (plans, c .before .if1 .left)
-    (reference-planned (a .s .now) (a .table .now) w floor (entries sc) (a .row) (ref m n) empty at
-    (rw found at (answers (a .s .now) (a .table .now) w floor m n fit (entries sc) ds small sh)))
+module _ (c : tie.After-look-up) where
+  abbrev sc : List Entry
+  sc = let a = c .before .before .before .before .before .before .args in entries (a .keys .now) (a .places .now) (a .scope)
+
+  -- what is done with what was found
+  done : (f : Found) → c .look-up .result ≡ f → (w : List ℕ) (floor m n : ℕ) (ds : Scope)
+      → let a = c .before .before .before .before .before .before .args in
+      LeafAt (a .s .now) (a .table .now) (a .row) (ref m n) → Shows (a .s .now) (a .table .now) w floor sc ds
+      → Planned (a .s .now) (a .table .now) w floor sc (a .row) empty (reference-task f) (plan-atom (ref m n) ds)
+  done f is w floor m n ds at sh =
+      let k = c .before .before .before in
+      let a = k .before .before .before .args in
+      let key = k .key .ensures m n at in
+      let fit = fits k m n at in
+      let looked : c .look-up .result ≡ find (k .key .result) sc = c .look-up .ensures in
+      let found : find (key-of m n) sc ≡ f = ap (λ (x : ℕ). find x sc) (sym key) ∙ sym looked ∙ is in
+      let plans = plan-name (k .key .result) m n ds key fit (c .before .before .is-function .result) (c .before .before .is-function .ensures) in
+      rw (plans, c .before .if1 .left)
+      (reference-planned (a .s .now) (a .table .now) w floor sc (a .row) (ref m n) empty at
+      (rw found at (answers (a .s .now) (a .table .now) w floor m n fit sc ds sh)))
 
 key-requires : tie.Need-key-requires
 key-requires c κs = search needs

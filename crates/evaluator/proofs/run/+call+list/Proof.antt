@@ -1,11 +1,11 @@
 -- `evaluator::run::list` and `evaluator::run::call` meet their contracts, by recursion on the steps that are left: at each call they are fewer, or
 -- as many and it is the code of a call. Assumes nothing.
-use Prim.Native.Nat.{ℕ, _+_, _-_, _*_, _<_}
+use Prim.Native.Nat.{ℕ, _+_, _-_, _*_, _≤_, _<_}
 use mathlib.Core.Path.{_≡_, refl, sym, ap, _∙_, subst}
 use mathlib.Core.List.{List}
 use mathlib.Core.Logic.{⊎-elim}
 use native.Mathlib.Omega.{arith}
-use lib.ListN.{length}
+use lib.ListN.{length, drop}
 use borrow.Author.Needs.{needs}
 use borrow.Fn.Kinds.{In}
 use borrow.Fn.PlainCycle.{Measures, is, falls, and}
@@ -15,7 +15,7 @@ use Rattle.spec.specs.Plan.{Scope as Definitions, Place, inner, Here, as-call}
 use Rattle.spec.specs.Evaluation.{Left, finish, run-code}
 use Rattle.laws.specs.Holding.{Held, hold, in-list, skip}
 use Rattle.evaluator.specs.Stands.{next}
-use Rattle.evaluator.specs.Entries.{entries}
+use Rattle.evaluator.specs.Entries.{Entry, entries}
 use Rattle.evaluator.specs.Completed.{with-top}
 use Rattle.evaluator.specs.Listed.{Ready, SomeReady, Met, LeftBy, GoesInside, stands-in, Begun, Beginning, SomeBeginning, CanFinish, Finished, Calling, SomeCalling, CanCall, Called}
 use Rattle.evaluator.specs.declared.values.State.{State}
@@ -29,7 +29,7 @@ use Rattle.evaluator.specs.declared.element.Left.the-variants.{Stopped}
 use Rattle.evaluator.specs.declared.element.Step.{Step}
 use Rattle.evaluator.specs.declared.element.Step.the-variants.{Inside, Enter}
 use Rattle.evaluator.proofs.Nodes.{node-whole}
-use Rattle.evaluator.proofs.Entries.{entries-length}
+use Rattle.evaluator.proofs.Entries.{entries-length, entries-under, entries-behind}
 use Rattle.evaluator.proofs.Turns.{held-list, Going, going-start, going-over, going-more, standing-here, held-next, going-begins, going-ceased, going-values, going-definition}
 use Rattle.evaluator.proofs.Insides.{steps-of, met-steps, inside-ready-as, inside-fewer, inside-can-finish, inside-finishes, inside-can-call, inside-calls}
 use Rattle.evaluator.proofs.Calling.{in-body, part-is, part-size, call-arguments, call-refused, call-ready, call-can-return, call-returns}
@@ -53,32 +53,33 @@ use Rattle.evaluator.proofs.values.refused.Reads as refused-reads
 use Rattle.evaluator.proofs.run.+call+list.{statement}
 use Rattle.evaluator.proofs.run.+call+list.Tie.{close}
 
-abbrev μ-call : Measures 4 call-kinds.ps ℕ
-μ-call κs a = 2 * steps-of (a .1 .1 .1 .1 .1 .1 .0) + 1
+abbrev μ-call : Measures 6 call-kinds.ps ℕ
+μ-call κs a = 2 * steps-of (a .1 .1 .1 .1 .1 .1 .1 .1 .0) + 1
 
-abbrev μ-list : Measures 5 list-kinds.ps ℕ
-μ-list κs a = 2 * (a .1 .1 .1 .1 .1 .1 .0 .steps)
+abbrev μ-list : Measures 7 list-kinds.ps ℕ
+μ-list κs a = 2 * (a .1 .1 .1 .1 .1 .1 .1 .1 .0 .steps)
 
-abbrev call-at : ℕ → In 4 call-kinds.ps
-call-at t = and 4 call-kinds.ps (is 4 call-kinds.ps μ-call t) call.Pre
+abbrev call-at : ℕ → In 6 call-kinds.ps
+call-at t = and 6 call-kinds.ps (is 6 call-kinds.ps μ-call t) call.Pre
 
-abbrev call-below : ℕ → In 4 call-kinds.ps
-call-below t = and 4 call-kinds.ps (falls 4 call-kinds.ps _<_ μ-call t) call.Pre
+abbrev call-below : ℕ → In 6 call-kinds.ps
+call-below t = and 6 call-kinds.ps (falls 6 call-kinds.ps _<_ μ-call t) call.Pre
 
-abbrev list-at : ℕ → In 5 list-kinds.ps
-list-at t = and 5 list-kinds.ps (is 5 list-kinds.ps μ-list t) list.Pre
+abbrev list-at : ℕ → In 7 list-kinds.ps
+list-at t = and 7 list-kinds.ps (is 7 list-kinds.ps μ-list t) list.Pre
 
-abbrev list-below : ℕ → In 5 list-kinds.ps
-list-below t = and 5 list-kinds.ps (falls 5 list-kinds.ps _<_ μ-list t) list.Pre
+abbrev list-below : ℕ → In 7 list-kinds.ps
+list-below t = and 7 list-kinds.ps (falls 7 list-kinds.ps _<_ μ-list t) list.Pre
 
 abbrev list-Inv-loop : list-lts.InvT-loop
-list-Inv-loop s table w₀ names₀ args scope₀ state₀ stands code first end floor depth row₀ w names scope state row =
-    ((y : SomeReady s table w₀ names₀ args scope₀ state₀ stands code first end)
-    → Going s table (y .bound) (y .codes) args stands code end w₀ w names scope state₀ state row (held-list y))
+list-Inv-loop s table w₀ names₀ args keys₀ places₀ scope₀ state₀ stands code first end floor depth row₀ w names keys places scope state row =
+    ((y : SomeReady s table w₀ names₀ args (entries keys₀ places₀ scope₀) state₀ stands code first end)
+    → Going s table (y .bound) (y .codes) args stands code end w₀ w names (entries keys places scope) state₀ state row (held-list y))
     × (floor ≡ state₀ .floor) × (depth ≡ code .depth) × (length w ≡ length w₀)
+    × (entries keys places scope₀ ≡ entries keys₀ places₀ scope₀) × (scope₀ .len ≤ scope .len)
 
 abbrev list-μ-loop : list-lts.MeasureT-loop
-list-μ-loop s table w₀ names₀ args scope₀ state₀ stands code first end floor depth row₀ w names scope state row = end - row
+list-μ-loop s table w₀ names₀ args keys₀ places₀ scope₀ state₀ stands code first end floor depth row₀ w names keys places scope state row = end - row
 
 module _ (t : ℕ) where
   -- Lists
@@ -106,7 +107,7 @@ module _ (t : ℕ) where
   )
 
   list-loop-holds : list-lts.Need-loop-holds list-calls (list-at t) list.Post list-Inv-loop list-μ-loop
-  list-loop-holds c = (λ y. going-start _ _ _ _ _ _ _ _ _ _ _ (y .ready), refl, refl, refl)
+  list-loop-holds c = (λ y. going-start _ _ _ _ _ _ _ _ _ _ _ (y .ready), refl, refl, refl, refl, omega arith)
 
   -- before an expression
   module _ (c : list-lts.In-loop list-calls (list-at t) list.Post list-Inv-loop list-μ-loop) where
@@ -119,10 +120,17 @@ module _ (t : ℕ) where
     abbrev table : List ℕ
     table = start .args .table .now
 
+    -- the entries at the list's start, and now
+    abbrev shown₀ : List Entry
+    shown₀ = entries (start .args .keys .now) (start .args .places .now) (start .args .scope)
+
+    abbrev shown : List Entry
+    shown = entries (c .before .loop .keys) (c .before .loop .places) (c .before .loop .scope)
+
     -- nodes that are listed
     abbrev Listed : Type 0
     Listed =
-        SomeReady stream table (start .args .w .now) (start .args .names .now) (start .args .args .now) (start .args .scope) (start .args .state)
+        SomeReady stream table (start .args .w .now) (start .args .names .now) (start .args .args .now) shown₀ (start .args .state)
         (start .args .stands) (start .args .code) (start .args .first) (start .args .end)
 
     some : Listed
@@ -133,7 +141,7 @@ module _ (t : ℕ) where
 
     module _ (y : Listed) where
       going : Going stream table (y .bound) (y .codes) (start .args .args .now) (start .args .stands) (start .args .code) (start .args .end)
-          (start .args .w .now) (c .before .loop .w) (c .before .loop .names) (c .before .loop .scope) (start .args .state) (c .before .loop .state)
+          (start .args .w .now) (c .before .loop .w) (c .before .loop .names) shown (start .args .state) (c .before .loop .state)
           (c .before .loop .row) (held-list y)
       going = c .before .loop .inv .0 y
 
@@ -147,26 +155,26 @@ module _ (t : ℕ) where
       abbrev answer : Held Left
       answer = held-next _ _ _ _ _ _ _ _ going on
 
-      begins : Beginning stream table (y .bound) (c .before .loop .w) (c .before .loop .names) (start .args .args .now) (c .before .loop .scope)
+      begins : Beginning stream table (y .bound) (c .before .loop .w) (c .before .loop .names) (start .args .args .now) shown
           (c .before .loop .state) (start .args .stands) (start .args .code) (c .before .loop .row) node here
       begins = going-begins _ _ _ _ _ _ _ _ going on
 
       -- it has begun, or has left something, with this workspace and these namespaces
       abbrev BegunBy : List ℕ → List ℕ → Step → Type 0
       BegunBy w names step =
-          Begun stream table (c .before .loop .w) w (c .before .loop .names) names (entries (c .before .loop .scope)) (c .before .loop .state)
+          Begun stream table (c .before .loop .w) w (c .before .loop .names) names shown (c .before .loop .state)
           (c .before .loop .row) node here answer step
 
       abbrev Leaving : List ℕ → List ℕ → Answer → Type 0
       Leaving w names left =
-          LeftBy stream table (c .before .loop .w) w names (entries (c .before .loop .scope)) (c .before .loop .state) here answer left
+          LeftBy stream table (c .before .loop .w) w names shown (c .before .loop .state) here answer left
 
       -- what is inside it is evaluated first
       abbrev Within : State → ℕ → After → Type 0
       Within st first after =
-          GoesInside stream table (c .before .loop .w) (entries (c .before .loop .scope)) (c .before .loop .state) st (c .before .loop .row) first node here after
+          GoesInside stream table (c .before .loop .w) shown (c .before .loop .state) st (c .before .loop .row) first node here after
 
-    some-begins : SomeBeginning stream table (c .before .loop .w) (c .before .loop .names) (start .args .args .now) (c .before .loop .scope)
+    some-begins : SomeBeginning stream table (c .before .loop .w) (c .before .loop .names) (start .args .args .now) shown
         (c .before .loop .state) (start .args .stands) (start .args .code) (c .before .loop .row)
     some-begins = record { bound = some .bound; node = node some; here = here some; begins = begins some }
 
@@ -174,7 +182,7 @@ module _ (t : ℕ) where
   list-next-requires c κs = let b = some-begins c in node-whole _ _ _ (b .node) (b .begins .node) .0
 
   list-begin-requires : list-lts.Need-begin-requires list-calls (list-at t) list.Post list-Inv-loop list-μ-loop
-  list-begin-requires c κs = some-begins (c .before .before .before)
+  list-begin-requires c κs = some-begins (c .before .before .before .before .before)
 
   -- the row behind it is nearer to the end
   nearer : (c : list-lts.After-next list-calls (list-at t) list.Post list-Inv-loop list-μ-loop)
@@ -186,7 +194,7 @@ module _ (t : ℕ) where
   -- after its step
   module _ (c : list-lts.After-slice-known2 list-calls (list-at t) list.Post list-Inv-loop list-μ-loop) where
     abbrev turn : list-lts.In-loop list-calls (list-at t) list.Post list-Inv-loop list-μ-loop
-    turn = c .before .before .before .before .before .before
+    turn = c .before .before .before .before .before .before .before .before
 
     abbrev w₁ : List ℕ
     w₁ = c .before .before .begin .last .1 .1 .0
@@ -199,21 +207,21 @@ module _ (t : ℕ) where
       begun step e = subst (λ (x : Step). BegunBy turn y w₁ names₁ x) e (c .before .before .begin .ensures (y .bound) (run-code (y .codes)) _ _ (begins turn y))
 
       -- what is inside it
-      module _ {st′ : State} {first : ℕ} {after : After} (i : Within turn y st′ first after) (same : w₁ ≡ c .before .before .before .before .before .before .before .loop .w) (same′ : names₁ ≡ c .before .before .before .before .before .before .before .loop .names) where
+      module _ {st′ : State} {first : ℕ} {after : After} (i : Within turn y st′ first after) (same : w₁ ≡ turn .before .loop .w) (same′ : names₁ ≡ turn .before .loop .names) where
         abbrev inside-held : Held Left
         inside-held = hold (st′ .steps) (st′ .room) (in-list (run-code (y .codes)) (skip (i .skipped) (elements (node turn y))) (i .place) (here turn y))
 
         inner-ready : (stands : Stands) → stands ≡ stands-in after
-            → Ready (stream turn) (table turn) (y .bound) (y .codes) w₁ names₁ (start turn .args .args .now) (c .before .before .before .before .before .before .before .loop .scope) st′ stands
-            (start turn .args .code) first (c .before .before .before .before .before .next .result) (skip (i .skipped) (elements (node turn y))) (i .place) (here turn y)
-        inner-ready stands e = inside-ready-as (going turn y) (on turn) i w₁ names₁ stands (c .before .before .before .before .before .next .result) same same′ e (c .before .before .before .before .before .next .ensures)
+            → Ready (stream turn) (table turn) (y .bound) (y .codes) w₁ names₁ (start turn .args .args .now) (shown turn) st′ stands
+            (start turn .args .code) first (c .before .before .before .before .before .before .before .next .result) (skip (i .skipped) (elements (node turn y))) (i .place) (here turn y)
+        inner-ready stands e = inside-ready-as (going turn y) (on turn) i w₁ names₁ stands (c .before .before .before .before .before .before .before .next .result) same same′ e (c .before .before .before .before .before .before .before .next .ensures)
 
         inner-some : (stands : Stands) → stands ≡ stands-in after
-            → SomeReady (stream turn) (table turn) w₁ names₁ (start turn .args .args .now) (c .before .before .before .before .before .before .before .loop .scope) st′ stands (start turn .args .code) first (c .before .before .before .before .before .next .result)
+            → SomeReady (stream turn) (table turn) w₁ names₁ (start turn .args .args .now) (shown turn) st′ stands (start turn .args .code) first (c .before .before .before .before .before .before .before .next .result)
         inner-some stands e = record { bound = y .bound; codes = y .codes; nodes = _; place = _; here = _; ready = inner-ready stands e }
 
         inner-met : (w₂ names₂ : List ℕ) (out : Out) → Met (stream turn) (table turn) w₁ w₂ names₂ st′ inside-held out
-            → Met (stream turn) (table turn) (c .before .before .before .before .before .before .before .loop .w) w₂ names₂ st′ inside-held out
+            → Met (stream turn) (table turn) (turn .before .loop .w) w₂ names₂ st′ inside-held out
         inner-met w₂ names₂ out m = subst (λ (x : List ℕ). Met (stream turn) (table turn) x w₂ names₂ st′ inside-held out) same m
 
         inner-fewer : st′ .steps < start turn .args .state .steps
@@ -223,40 +231,41 @@ module _ (t : ℕ) where
     abbrev Evaluated : State → Stands → ℕ → List ℕ → List ℕ → Out → Type 0
     Evaluated st′ stands first w₂ names₂ out =
         (bound codes : ℕ) (es : Nodes) (p : Place) (h : Here)
-        → Ready (stream turn) (table turn) bound codes w₁ names₁ (start turn .args .args .now) (c .before .before .before .before .before .before .before .loop .scope) st′ stands (start turn .args .code) first (c .before .before .before .before .before .next .result) es p h
+        → Ready (stream turn) (table turn) bound codes w₁ names₁ (start turn .args .args .now) (shown turn) st′ stands (start turn .args .code) first (c .before .before .before .before .before .before .before .next .result) es p h
         → Met (stream turn) (table turn) w₁ w₂ names₂ st′ (hold (st′ .steps) (st′ .room) (in-list (run-code codes) es p h)) out
 
     module _ (y : Listed turn) where
       -- then the expression is finished
       module _ (st′ : State) (first : ℕ) (after : After) (told : c .before .before .begin .result ≡ Inside st′ first after) (stands : Stands)
           (e : stands ≡ stands-in after) (w₂ names₂ : List ℕ) (out : Out) (evaluated : Evaluated st′ stands first w₂ names₂ out) where
-        finish-met : Met (stream turn) (table turn) (c .before .before .before .before .before .before .before .loop .w) w₂ names₂ st′ (inside-held y (begun y _ told .0) (begun y _ told .2) (begun y _ told .3)) out
+        finish-met : Met (stream turn) (table turn) (turn .before .loop .w) w₂ names₂ st′ (inside-held y (begun y _ told .0) (begun y _ told .2) (begun y _ told .3)) out
         finish-met =
             let b = begun y _ told in
             inner-met y (b .0) (b .2) (b .3) w₂ names₂ out (evaluated _ _ _ _ _ (inner-ready y (b .0) (b .2) (b .3) stands e))
 
-        can-finish : CanFinish w₂ (c .before .before .before .before .before .before .before .loop .state .top) after out
+        can-finish : CanFinish w₂ (turn .before .loop .state .top) after out
         can-finish = let b = begun y _ told in inside-can-finish (going turn y) (on turn) (b .0) (b .1) w₂ names₂ out finish-met
 
-        finished : (w₃ : List ℕ) (left : Answer) → Finished w₂ w₃ (c .before .before .before .before .before .before .before .loop .state .top) (c .before .before .before .before .before .before .before .loop .row) after left out → Leaving turn y w₃ names₂ left
+        finished : (w₃ : List ℕ) (left : Answer) → Finished w₂ w₃ (turn .before .loop .state .top) (turn .before .loop .row) after left out → Leaving turn y w₃ names₂ left
         finished w₃ left f = let b = begun y _ told in inside-finishes (going turn y) (on turn) (b .0) (b .1) w₂ names₂ out w₃ left finish-met f
 
       -- then code is entered
       module _ (st′ : State) (first body visible : ℕ) (told : c .before .before .begin .result ≡ Enter st′ first body visible) (w₂ names₂ : List ℕ) (out : Out)
-          (evaluated : Evaluated st′ Inner first w₂ names₂ out) (depth : ℕ) (d : depth ≡ start turn .args .code .depth) where
-        enter-met : Met (stream turn) (table turn) (c .before .before .before .before .before .before .before .loop .w) w₂ names₂ st′ (inside-held y (begun y _ told .0) (begun y _ told .1) (begun y _ told .2)) out
+          (evaluated : Evaluated st′ Inner first w₂ names₂ out) (keys places : List ℕ)
+          (kept : entries keys places (turn .before .loop .scope) ≡ shown turn) (depth : ℕ) (d : depth ≡ start turn .args .code .depth) where
+        enter-met : Met (stream turn) (table turn) (turn .before .loop .w) w₂ names₂ st′ (inside-held y (begun y _ told .0) (begun y _ told .1) (begun y _ told .2)) out
         enter-met =
             let b = begun y _ told in
             inner-met y (b .0) (b .1) (b .2) w₂ names₂ out (evaluated _ _ _ _ _ (inner-ready y (b .0) (b .1) (b .2) Inner refl))
 
-        can-call : CanCall (stream turn) (table turn) w₂ names₂ (c .before .before .before .before .before .before .before .loop .scope) visible depth body (c .before .before .before .before .before .before .before .loop .state .top) out
-        can-call = let b = begun y _ told in rw d (inside-can-call (going turn y) (on turn) (b .0) w₂ names₂ out enter-met)
+        can-call : CanCall (stream turn) (table turn) w₂ names₂ (entries keys places (turn .before .loop .scope)) visible depth body (turn .before .loop .state .top) out
+        can-call = let b = begun y _ told in rw (d, kept) (inside-can-call (going turn y) (on turn) (b .0) w₂ names₂ out enter-met)
 
         called : (w₃ names₃ : List ℕ) (left : Answer)
-            → Called (stream turn) (table turn) w₂ w₃ names₂ names₃ (c .before .before .before .before .before .before .before .loop .scope) visible depth body (c .before .before .before .before .before .before .before .loop .state .top) (c .before .before .before .before .before .before .before .loop .row) left out
+            → Called (stream turn) (table turn) w₂ w₃ names₂ names₃ (entries keys places (turn .before .loop .scope)) visible depth body (turn .before .loop .state .top) (turn .before .loop .row) left out
             → Leaving turn y w₃ names₃ left
         called w₃ names₃ left f =
-            let b = begun y _ told in inside-calls (going turn y) (on turn) (b .0) w₂ names₂ out w₃ names₃ left enter-met (rw d at f)
+            let b = begun y _ told in inside-calls (going turn y) (on turn) (b .0) w₂ names₂ out w₃ names₃ left enter-met (rw (d, kept) at f)
 
         enter-fewer : steps-of out < start turn .args .state .steps
         enter-fewer = let b = begun y _ told in omega (arith, inner-fewer y (b .0) (b .1) (b .2), met-steps _ _ _ _ _ st′ _ out enter-met)
@@ -272,57 +281,73 @@ module _ (t : ℕ) where
 
   list-list-requires : list-lts.Need-list-requires list-calls (list-at t) list.Post list-Inv-loop list-μ-loop
   list-list-requires c κs =
-      let k = c .before .before .before .before .before .before in
+      let k = c .before .before .before .before .before .before .before .before in
       let y = some (turn k) in
-      let b = begun k y _ (c .before .before .before .before .inner .given .1) in (
+      let b = begun k y _ (c .before .before .before .before .before .before .inner .given .1) in (
         omega (arith, inner-fewer k y (b .0) (b .2) (b .3), start (turn k) .pre .0),
         inner-some k y (b .0) (b .2) (b .3) (c .stands-in .result) (c .stands-in .ensures),
       )
 
   list-finish-requires : list-lts.Need-finish-requires list-calls (list-at t) list.Post list-Inv-loop list-μ-loop
   list-finish-requires c κs =
-      let k = c .before .before .before .before .before .before .before .before .before .before in
-      can-finish k (some (turn k)) _ _ _ (c .before .before .before .before .before .before .before .before .inner .given .1) (c .before .before .before .before .stands-in .result) (c .before .before .before .before .stands-in .ensures)
-      (c .before .before .before .list .last .1 .1 .0) (c .before .before .before .list .last .1 .1 .1 .0) (c .before .before .before .list .result) (c .before .before .before .list .ensures)
+      let k = c .before .before .before .before .before .before .before .before .before .before .before .before in
+      can-finish k (some (turn k)) _ _ _ (c .before .before .before .before .before .before .before .before .before .before .inner .given .1) (c .before .before .before .before .stands-in .result) (c .before .before .before .before .stands-in .ensures)
+      (c .before .before .before .list .last .1 .1 .0) (c .before .before .before .list .last .1 .1 .1 .0) (c .before .before .before .list .result) (c .before .before .before .list .ensures .0)
 
   list-enum-known-inner-2 : list-lts.Need-enum-known-inner-2 list-calls (list-at t) list.Post list-Inv-loop list-μ-loop
   list-enum-known-inner-2 c = search needs
 
   list-list-requires-2 : list-lts.Need-list-requires-2 list-calls (list-at t) list.Post list-Inv-loop list-μ-loop
   list-list-requires-2 c κs =
-      let k = c .before .before .before .before .before in
+      let k = c .before .before .before .before .before .before .before in
       let y = some (turn k) in
-      let b = begun k y _ (c .before .before .before .inner2 .given .1) in
+      let b = begun k y _ (c .before .before .before .before .before .inner2 .given .1) in
       (omega (arith, inner-fewer k y (b .0) (b .1) (b .2), start (turn k) .pre .0), inner-some k y (b .0) (b .1) (b .2) Inner refl)
 
   list-call-requires : list-lts.Need-call-requires list-calls (list-at t) list.Post list-Inv-loop list-μ-loop
   list-call-requires c κs =
-      let k = c .before .before .before .before .before .before .before .before .before .before in
+      let k = c .before .before .before .before .before .before .before .before .before .before .before .before .before .before in
       let y = some (turn k) in
-      let l = c .before .before .before .before .list2 in
+      let l = c .before .before .before .before .before .before .list2 in
+      let told = c .before .before .before .before .before .before .before .before .before .before .before .before .inner2 .given .1 in
       let d = turn k .before .loop .inv .2 in (
-        omega (arith, enter-fewer k y _ _ _ _ (c .before .before .before .before .before .before .before .before .inner2 .given .1) (l .last .1 .1 .0) (l .last .1 .1 .1 .0) (l .result) (l .ensures) _ d, start (turn k) .pre .0),
-        can-call k y _ _ _ _ (c .before .before .before .before .before .before .before .before .inner2 .given .1) (l .last .1 .1 .0) (l .last .1 .1 .1 .0) (l .result) (l .ensures) _ d,
+        omega (arith, enter-fewer k y _ _ _ _ told (l .last .1 .1 .0) (l .last .1 .1 .1 .0) (l .result) (l .ensures .0) (l .last .1 .1 .1 .1 .1 .0) (l .last .1 .1 .1 .1 .1 .1 .0) (l .ensures .1) _ d, start (turn k) .pre .0),
+        can-call k y _ _ _ _ told (l .last .1 .1 .0) (l .last .1 .1 .1 .0) (l .result) (l .ensures .0) (l .last .1 .1 .1 .1 .1 .0) (l .last .1 .1 .1 .1 .1 .1 .0) (l .ensures .1) _ d,
       )
 
   -- what it leaves, in each of the three ways
   module _ (c : list-lts.At-match-came list-calls (list-at t) list.Post list-Inv-loop list-μ-loop) where
-    same-length-left : length (c .match .w) ≡ length (c .before .before .before .before .before .before .before .before .loop .w)
+    same-length-left : length (c .match .w) ≡ length (turn (c .before) .before .loop .w)
     same-length-left =
         ⊎-elim (λ x. ap length (x .3) ∙ c .before .before .before .begin .kept .1 .1 .0)
-        (λ y. ⊎-elim (λ x. ap length (x .13) ∙ x .10 .kept .0 ∙ x .6 .kept .1 .1 .0 ∙ c .before .before .before .begin .kept .1 .1 .0)
-        (λ x. ap length (x .13) ∙ x .10 .kept .1 .1 .0 ∙ x .5 .kept .1 .1 .0 ∙ c .before .before .before .begin .kept .1 .1 .0) y) (c .match .came)
+        (λ y. ⊎-elim (λ x. ap length (x .15) ∙ x .12 .kept .0 ∙ x .8 .kept .1 .1 .0 ∙ c .before .before .before .begin .kept .1 .1 .0)
+        (λ x. ap length (x .17) ∙ x .14 .kept .1 .1 .0 ∙ x .7 .kept .1 .1 .0 ∙ c .before .before .before .begin .kept .1 .1 .0) y) (c .match .came)
+
+    -- the entries are as they were
+    abbrev shown-left : List Entry
+    shown-left = entries (c .match .keys) (c .match .places) (turn (c .before) .before .loop .scope)
+
+    kept-left : shown-left ≡ shown (turn (c .before))
+    kept-left =
+        ⊎-elim (λ x. rw (x .5, x .6))
+        (λ y. ⊎-elim (λ x. rw (x .17, x .18) (x .8 .ensures .1)) (λ x. rw (x .19, x .20) (x .7 .ensures .1)) y) (c .match .came)
+
+    kept-start : entries (c .match .keys) (c .match .places) (start (turn (c .before)) .args .scope) ≡ shown₀ (turn (c .before))
+    kept-start =
+        let l = turn (c .before) .before .loop in
+        entries-under (c .match .keys) (c .match .places) (l .keys) (l .places) (start (turn (c .before)) .args .scope .len) (l .scope .len) (l .inv .5) kept-left
+        ∙ l .inv .4
 
     module _ (y : Listed (turn (c .before))) where
       left-by-one : Leaving (turn (c .before)) y (c .match .w) (c .match .names) (c .match .left)
       left-by-one =
           let k = c .before in
-          ⊎-elim (λ x. rw (x .3, x .4, x .5) (begun k y _ (x .1 .given .1)))
+          ⊎-elim (λ x. rw (x .3, x .4, x .7) (begun k y _ (x .1 .given .1)))
           (λ z. ⊎-elim
-          (λ x. rw (x .13, x .14, x .15) (finished k y _ _ _ (x .1 .given .1) (x .5 .result) (x .5 .ensures) (x .6 .last .1 .1 .0) (x .6 .last .1 .1 .1 .0)
-          (x .6 .result) (x .6 .ensures) (x .10 .last .0) (x .10 .result) (x .10 .ensures)))
-          (λ x. rw (x .13, x .14, x .15) (called k y _ _ _ _ (x .1 .given .1) (x .5 .last .1 .1 .0) (x .5 .last .1 .1 .1 .0) (x .5 .result) (x .5 .ensures) _
-          (turn k .before .loop .inv .2) (x .10 .last .1 .1 .0) (x .10 .last .1 .1 .1 .0) (x .10 .result) (x .10 .ensures))) z) (c .match .came)
+          (λ x. rw (x .15, x .16, x .19) (finished k y _ _ _ (x .1 .given .1) (x .7 .result) (x .7 .ensures) (x .8 .last .1 .1 .0) (x .8 .last .1 .1 .1 .0)
+          (x .8 .result) (x .8 .ensures .0) (x .12 .last .0) (x .12 .result) (x .12 .ensures)))
+          (λ x. rw (x .17, x .18, x .21) (called k y _ _ _ _ (x .1 .given .1) (x .7 .last .1 .1 .0) (x .7 .last .1 .1 .1 .0) (x .7 .result) (x .7 .ensures .0)
+          (x .7 .last .1 .1 .1 .1 .1 .0) (x .7 .last .1 .1 .1 .1 .1 .1 .0) (x .7 .ensures .1) _ (turn k .before .loop .inv .2) (x .14 .last .1 .1 .0) (x .14 .last .1 .1 .1 .0) (x .14 .result) (x .14 .ensures))) z) (c .match .came)
 
       left-as : (left : Answer) → c .match .left ≡ left → Leaving (turn (c .before)) y (c .match .w) (c .match .names) left
       left-as left e = subst (λ (x : Answer). Leaving (turn (c .before)) y (c .match .w) (c .match .names) x) e left-by-one
@@ -334,32 +359,37 @@ module _ (t : ℕ) where
   list-refused-requires c κs = search needs
 
   list-same-length : list-lts.Need-same-length list-calls (list-at t) list.Post list-Inv-loop list-μ-loop
-  list-same-length c = same-length-left (c .before .before .before .before) ∙ c .before .before .before .before .before .before .before .before .before .before .before .before .loop .inv .3
+  list-same-length c = same-length-left (c .before .before .before .before) ∙ turn (c .before .before .before .before .before) .before .loop .inv .3
 
   list-returns : list-lts.Need-returns list-calls (list-at t) list.Post list-Inv-loop list-μ-loop
   list-returns c =
-      λ bound codes es p h r.
       let j = c .before .before .before .before in
-      let k = j .before in
-      let y : Listed (turn k) = record { bound = bound; codes = codes; nodes = es; place = p; here = h; ready = r } in
-      subst (λ (x : Out). Met (stream (turn k)) (table (turn k)) (start (turn k) .args .w .now) (j .match .w) (j .match .names) (start (turn k) .args .state) (held-list y) x)
-      (sym (c .refused .ensures))
-      (going-ceased _ _ _ _ _ _ _ _ (going (turn k) y) (on (turn k)) _ _ (left-as j y _ (c .before .before .left .given .1)))
+      let k = j .before in (
+        λ bound codes es p h r.
+            let y : Listed (turn k) = record { bound = bound; codes = codes; nodes = es; place = p; here = h; ready = r } in
+            subst (λ (x : Out). Met (stream (turn k)) (table (turn k)) (start (turn k) .args .w .now) (j .match .w) (j .match .names) (start (turn k) .args .state) (held-list y) x)
+            (sym (c .refused .ensures))
+            (going-ceased _ _ _ _ _ _ _ _ (going (turn k) y) (on (turn k)) _ _ (left-as j y _ (c .before .before .left .given .1))),
+        kept-start j,
+      )
 
   list-enum-known-left-2 : list-lts.Need-enum-known-left-2 list-calls (list-at t) list.Post list-Inv-loop list-μ-loop
   list-enum-known-left-2 c = search needs
 
   list-loop-less : list-lts.Need-loop-less list-calls (list-at t) list.Post list-Inv-loop list-μ-loop
-  list-loop-less c = nearer (c .before .before .before .before .before .before .before .before .before)
+  list-loop-less c = nearer (c .before .before .before .before .before .before .before .before .before .before .before)
 
   list-loop-again : list-lts.Need-loop-again list-calls (list-at t) list.Post list-Inv-loop list-μ-loop
   list-loop-again c =
       let j = c .before .before .before in
-      let k = j .before in (
-        λ y. going-values _ _ _ _ _ _ _ _ (going (turn k) y) (on (turn k)) (k .before .before .before .before .before .next .ensures) (left-as j y _ (c .before .left2 .given .1)),
-        k .before .before .before .before .before .before .before .loop .inv .1,
-        k .before .before .before .before .before .before .before .loop .inv .2,
-        same-length-left j ∙ k .before .before .before .before .before .before .before .loop .inv .3,
+      let k = j .before in
+      let l = turn k .before .loop in (
+        λ y. going-values _ _ _ _ _ _ _ _ (going (turn k) y) (on (turn k)) (k .before .before .before .before .before .before .before .next .ensures) (left-as j y _ (c .before .left2 .given .1)) (kept-left j),
+        l .inv .1,
+        l .inv .2,
+        same-length-left j ∙ l .inv .3,
+        kept-start j,
+        l .inv .5,
       )
 
   list-enum-known-left-3 : list-lts.Need-enum-known-left-3 list-calls (list-at t) list.Post list-Inv-loop list-μ-loop
@@ -367,22 +397,26 @@ module _ (t : ℕ) where
 
   list-add-requires : list-lts.Need-add-requires list-calls (list-at t) list.Post list-Inv-loop list-μ-loop
   list-add-requires c κs =
-      let j = c .before .before .before in
-      let scope = j .before .before .before .before .before .before .before .before .loop .scope in
-      let l = left-as j (some (turn (j .before))) _ (c .before .left3 .given .1) in
-      omega (arith, l .few, entries-length (scope .keys) (scope .places) (scope .len))
+      let j = c .before .before .before .before .before in
+      let now = turn (j .before) .before .loop in
+      let l = left-as j (some (turn (j .before))) _ (c .before .before .before .left3 .given .1) in
+      omega (arith, l .few, entries-length (now .keys) (now .places) (now .scope .len))
 
   list-loop-less-2 : list-lts.Need-loop-less-2 list-calls (list-at t) list.Post list-Inv-loop list-μ-loop
-  list-loop-less-2 c = nearer (c .before .before .before .before .before .before .before .before .before .before)
+  list-loop-less-2 c = nearer (c .before .before .before .before .before .before .before .before .before .before .before .before .before .before)
 
   list-loop-again-2 : list-lts.Need-loop-again-2 list-calls (list-at t) list.Post list-Inv-loop list-μ-loop
   list-loop-again-2 c =
-      let j = c .before .before .before .before in
-      let k = j .before in (
-        λ y. going-definition _ _ _ _ _ _ _ _ (going (turn k) y) (on (turn k)) (k .before .before .before .before .before .next .ensures) (left-as j y _ (c .before .before .left3 .given .1)) (c .add .ensures .0),
-        k .before .before .before .before .before .before .before .loop .inv .1,
-        k .before .before .before .before .before .before .before .loop .inv .2,
-        same-length-left j ∙ k .before .before .before .before .before .before .before .loop .inv .3,
+      let j = c .before .before .before .before .before .before in
+      let k = j .before in
+      let l = turn k .before .loop in
+      let more = c .add .ensures in (
+        λ y. going-definition _ _ _ _ _ _ _ _ (going (turn k) y) (on (turn k)) (k .before .before .before .before .before .before .before .next .ensures) (left-as j y _ (c .before .before .before .before .left3 .given .1)) (more .0) (kept-left j),
+        l .inv .1,
+        l .inv .2,
+        same-length-left j ∙ l .inv .3,
+        entries-under _ _ _ _ (start (turn k) .args .scope .len) (l .scope .len) (l .inv .5) (entries-behind _ _ _ _ _ _ (rw (more .1) at (more .0))) ∙ kept-start j,
+        omega (arith, more .1, l .inv .5),
       )
 
   list-over-requires : list-lts.Need-over-requires list-calls (list-at t) list.Post list-Inv-loop list-μ-loop
@@ -393,13 +427,15 @@ module _ (t : ℕ) where
 
   list-returns-2 : list-lts.Need-returns-2 list-calls (list-at t) list.Post list-Inv-loop list-μ-loop
   list-returns-2 c =
-      λ bound codes es p h r.
       let l = c .before .before in
-      let a = l .before .before .before .before .args in
-      let y : SomeReady (a .s .now) (a .table .now) (a .w .now) (a .names .now) (a .args .now) (a .scope) (a .state) (a .stands) (a .code) (a .first) (a .end) =
-      record { bound = bound; codes = codes; nodes = es; place = p; here = h; ready = r } in
-      subst (λ (x : Out). Met (a .s .now) (a .table .now) (a .w .now) (l .loop .w) (l .loop .names) (a .state) (held-list y) x) (sym (c .over .ensures))
-      (going-over _ _ _ _ _ _ _ _ (l .loop .inv .0 y) (c .before .loop-test .left) _ (l .loop .inv .1))
+      let a = l .before .before .before .before .args in (
+        λ bound codes es p h r.
+            let y : SomeReady (a .s .now) (a .table .now) (a .w .now) (a .names .now) (a .args .now) (entries (a .keys .now) (a .places .now) (a .scope)) (a .state) (a .stands) (a .code) (a .first) (a .end) =
+            record { bound = bound; codes = codes; nodes = es; place = p; here = h; ready = r } in
+            subst (λ (x : Out). Met (a .s .now) (a .table .now) (a .w .now) (l .loop .w) (l .loop .names) (a .state) (held-list y) x) (sym (c .over .ensures))
+            (going-over _ _ _ _ _ _ _ _ (l .loop .inv .0 y) (c .before .loop-test .left) _ (l .loop .inv .1)),
+        l .loop .inv .4,
+      )
 
   -- Calls
 
@@ -423,57 +459,74 @@ module _ (t : ℕ) where
     told : first .args .out ≡ Done given-state
     told = c .before .out2 .given .1
 
-    some-calls : SomeCalling (first .args .s .now) (first .args .table .now) (first .args .w .now) (first .args .names .now) (first .args .scope) (first .args .visible) given-state (first .args .depth) (first .args .code) (first .args .start)
-    some-calls = subst (λ (x : Out). CanCall (first .args .s .now) (first .args .table .now) (first .args .w .now) (first .args .names .now) (first .args .scope) (first .args .visible) (first .args .depth) (first .args .code) (first .args .start) x) told (first .pre .1)
+    abbrev lent : List Entry
+    lent = entries (first .args .keys .now) (first .args .places .now) (first .args .scope)
 
-    calls-some : Calling (first .args .s .now) (first .args .table .now) (some-calls .bound) (some-calls .codes) (first .args .w .now) (first .args .names .now) (first .args .scope) (first .args .visible) given-state (first .args .depth) (first .args .code) (first .args .start) (some-calls .body) (some-calls .behind) (some-calls .here) (some-calls .values)
+    some-calls : SomeCalling (first .args .s .now) (first .args .table .now) (first .args .w .now) (first .args .names .now) lent (first .args .visible) given-state (first .args .depth) (first .args .code) (first .args .start)
+    some-calls = subst (λ (x : Out). CanCall (first .args .s .now) (first .args .table .now) (first .args .w .now) (first .args .names .now) lent (first .args .visible) (first .args .depth) (first .args .code) (first .args .start) x) told (first .pre .1)
+
+    calls-some : Calling (first .args .s .now) (first .args .table .now) (some-calls .bound) (some-calls .codes) (first .args .w .now) (first .args .names .now) lent (first .args .visible) given-state (first .args .depth) (first .args .code) (first .args .start) (some-calls .body) (some-calls .behind) (some-calls .here) (some-calls .values)
     calls-some = some-calls .calls
 
     call-answers : (w′ names′ : List ℕ) (left : Answer)
-        → Called (first .args .s .now) (first .args .table .now) (first .args .w .now) w′ (first .args .names .now) names′ (first .args .scope) (first .args .visible) (first .args .depth) (first .args .code) (first .args .start) (first .args .row) left (Done given-state)
-        → Called (first .args .s .now) (first .args .table .now) (first .args .w .now) w′ (first .args .names .now) names′ (first .args .scope) (first .args .visible) (first .args .depth) (first .args .code) (first .args .start) (first .args .row) left (first .args .out)
+        → Called (first .args .s .now) (first .args .table .now) (first .args .w .now) w′ (first .args .names .now) names′ lent (first .args .visible) (first .args .depth) (first .args .code) (first .args .start) (first .args .row) left (Done given-state)
+        → Called (first .args .s .now) (first .args .table .now) (first .args .w .now) w′ (first .args .names .now) names′ lent (first .args .visible) (first .args .depth) (first .args .code) (first .args .start) (first .args .row) left (first .args .out)
     call-answers w′ names′ left f =
-        subst (λ (x : Out). Called (first .args .s .now) (first .args .table .now) (first .args .w .now) w′ (first .args .names .now) names′ (first .args .scope) (first .args .visible) (first .args .depth) (first .args .code) (first .args .start) (first .args .row) left x) (sym told) f
+        subst (λ (x : Out). Called (first .args .s .now) (first .args .table .now) (first .args .w .now) w′ (first .args .names .now) names′ lent (first .args .visible) (first .args .depth) (first .args .code) (first .args .start) (first .args .row) left x) (sym told) f
 
   call-returns-1 : call-lts.Need-returns call-calls (call-at t) call.Post
   call-returns-1 c = call-answers (c .before) _ _ _ λ bound codes body behind h vs es z. call-refused z _ (c .if1 .taken)
 
   call-sub-spread : call-lts.Need-sub-spread call-calls (call-at t) call.Post
-  call-sub-spread c = calls-some (c .before) .stand .order
+  call-sub-spread c = calls-some (c .before .before .before) .stand .order
 
   call-part-spread-start : call-lts.Need-part-spread-start call-calls (call-at t) call.Post
-  call-part-spread-start c = let z = calls-some (c .before .before) in search (needs, z .stand .order)
+  call-part-spread-start c = let z = calls-some (c .before .before .before .before) in search (needs, z .stand .order)
 
   call-part-spread-end : call-lts.Need-part-spread-end call-calls (call-at t) call.Post
-  call-part-spread-end c = let z = calls-some (c .before .before) in search (needs, z .stand .inside)
+  call-part-spread-end c = let z = calls-some (c .before .before .before .before) in search (needs, z .stand .inside)
 
   call-spread-requires : call-lts.Need-spread-requires call-calls (call-at t) call.Post
   call-spread-requires c κs =
-      let z = calls-some (c .before .before .before .before) in
-      (omega (arith, part-size z (first (c .before .before .before .before) .args .row), z .stand .inside, z .fitting .short), (some-calls (c .before .before .before .before) .values, part-is z (first (c .before .before .before .before) .args .row), z .sound .0, z .sound .1))
+      let k = c .before .before .before .before .before .before in
+      let z = calls-some k in
+      (omega (arith, part-size z (first k .args .row), z .stand .inside, z .fitting .short), (some-calls k .values, part-is z (first k .args .row), z .sound .0, z .sound .1))
 
   call-add-list : call-lts.Need-add-list call-calls (call-at t) call.Post
-  call-add-list c = let z = calls-some (c .before .before .before .before .before) in search (needs, c .before .before .before .before .if1 .left)
+  call-add-list c = let z = calls-some (c .before .before .before .before .before .before .before) in search (needs, c .before .before .before .before .before .before .if1 .left)
 
   call-back-to-requires : call-lts.Need-back-to-requires call-calls (call-at t) call.Post
-  call-back-to-requires c κs = calls-some (c .before .before .before .before .before .before .before .before) .visible-in
+  call-back-to-requires c κs =
+      let k = c .before .before .before .before .before .before .before .before .before .before .before .before in
+      let a = first k .args in
+      omega (arith, entries-length (a .keys .now) (a .places .now) (a .scope .len), calls-some k .visible-in)
 
   call-add-list-2 : call-lts.Need-add-list-2 call-calls (call-at t) call.Post
-  call-add-list-2 c = let z = calls-some (c .before .before .before .before .before .before .before .before .before) in search (needs, z .at .form .few)
+  call-add-list-2 c = let z = calls-some (c .before .before .before .before .before .before .before .before .before .before .before .before .before) in search (needs, z .at .form .few)
 
   call-next-requires : call-lts.Need-next-requires call-calls (call-at t) call.Post
-  call-next-requires c κs = calls-some (c .before .before .before .before .before .before .before .before .before) .at .form .inside
+  call-next-requires c κs = calls-some (c .before .before .before .before .before .before .before .before .before .before .before .before .before) .at .form .inside
 
   -- where the code is run
   module _ (c : call-lts.After-next call-calls (call-at t) call.Post) where
     abbrev k : call-lts.After-known-told2 call-calls (call-at t) call.Post
-    k = c .before .before .before .before .before .before .before .before .before .before
+    k = c .before .before .before .before .before .before .before .before .before .before .before .before .before .before
 
-    body-ready : {bound codes : ℕ} {body : Nodes} {behind : Definitions} {h : Here} {vs : Exprs} (z : Calling (first k .args .s .now) (first k .args .table .now) bound codes (first k .args .w .now) (first k .args .names .now) (first k .args .scope) (first k .args .visible) (given-state k) (first k .args .depth) (first k .args .code) (first k .args .start) body behind h vs)
-        → Ready (first k .args .s .now) (first k .args .table .now) bound (codes - 1) (first k .args .w .now) (first k .args .names .now) (c .before .before .before .before .before .spread .last .1 .1 .0) (c .before .back-to .result) (given-state k) Inner
-        (record { depth = first k .args .depth + 1; count = c .before .before .before .before .before .spread .result; to = given-state k .top }) (first k .args .code + 2) (c .next .result) body inner (in-body z (first k .args .row))
+    -- of the entries that are lent, those behind the code's definition
+    abbrev inner-shown : List Entry
+    inner-shown = let a = first k .args in entries (a .keys .now) (a .places .now) (c .before .back-to .result)
+
+    behind-code : inner-shown ≡ drop (length (lent k) - first k .args .visible) (lent k)
+    behind-code =
+        let a = first k .args in
+        c .before .back-to .ensures (a .keys .now) (a .places .now)
+        ∙ ap (λ (n : ℕ). drop (n - a .visible) (lent k)) (sym (entries-length (a .keys .now) (a .places .now) (a .scope .len)))
+
+    body-ready : {bound codes : ℕ} {body : Nodes} {behind : Definitions} {h : Here} {vs : Exprs} (z : Calling (first k .args .s .now) (first k .args .table .now) bound codes (first k .args .w .now) (first k .args .names .now) (lent k) (first k .args .visible) (given-state k) (first k .args .depth) (first k .args .code) (first k .args .start) body behind h vs)
+        → Ready (first k .args .s .now) (first k .args .table .now) bound (codes - 1) (first k .args .w .now) (first k .args .names .now) (c .before .before .before .before .before .before .before .spread .last .1 .1 .0) inner-shown (given-state k) Inner
+        (record { depth = first k .args .depth + 1; count = c .before .before .before .before .before .before .before .spread .result; to = given-state k .top }) (first k .args .code + 2) (c .next .result) body inner (in-body z (first k .args .row))
     body-ready z =
-        call-ready z (first k .args .row) (c .before .before .before .before .before .before .before .before .before .if1 .left) _ _ _ _ (c .next .ensures) (c .before .back-to .ensures) (call-arguments z (first k .args .row) _ _ (c .before .before .before .before .before .spread .ensures))
+        call-ready z (first k .args .row) (c .before .before .before .before .before .before .before .before .before .before .before .before .before .if1 .left) _ _ _ _ (c .next .ensures) behind-code (call-arguments z (first k .args .row) _ _ (c .before .before .before .before .before .before .before .spread .ensures))
 
   call-list-requires : call-lts.Need-list-requires call-calls (call-at t) call.Post
   call-list-requires c κs =
@@ -486,7 +539,7 @@ module _ (t : ℕ) where
       let n = c .before .before .before .before in
       let y = some-calls (k n) in
       let z = calls-some (k n) in
-      ((y .body, z .at), call-can-return z (first (k n) .args .row) (n .before .before .before .before .before .before .before .before .before .if1 .left) (c .before .before .before .list .last .1 .1 .0) (c .before .before .before .list .last .1 .1 .1 .0) (c .before .before .before .list .result) (c .before .before .before .list .ensures _ _ _ _ _ (body-ready n z)))
+      ((y .body, z .at), call-can-return z (first (k n) .args .row) (n .before .before .before .before .before .before .before .before .before .before .before .before .before .if1 .left) (c .before .before .before .list .last .1 .1 .0) (c .before .before .before .list .last .1 .1 .1 .0) (c .before .before .before .list .result) (c .before .before .before .list .ensures .0 _ _ _ _ _ (body-ready n z)))
 
   call-leaves-requires : call-lts.Need-leaves-requires call-calls (call-at t) call.Post
   call-leaves-requires c κs = search needs
@@ -494,7 +547,7 @@ module _ (t : ℕ) where
   call-returns-2 : call-lts.Need-returns-2 call-calls (call-at t) call.Post
   call-returns-2 c =
       let a = c .before .before .before .before .before .before .args in
-      subst (λ (x : Out). Called (a .s .now) (a .table .now) (a .w .now) (a .w .now) (a .names .now) (a .names .now) (a .scope) (a .visible) (a .depth) (a .code) (a .start) (a .row) (Stopped (c .before .out .given .0 .0) (c .before .out .given .0 .1 .0)) x) (sym (c .before .out .given .1)) refl
+      subst (λ (x : Out). Called (a .s .now) (a .table .now) (a .w .now) (a .w .now) (a .names .now) (a .names .now) (entries (a .keys .now) (a .places .now) (a .scope)) (a .visible) (a .depth) (a .code) (a .start) (a .row) (Stopped (c .before .out .given .0 .0) (c .before .out .given .0 .1 .0)) x) (sym (c .before .out .given .1)) refl
 
   call-same-length : call-lts.Need-same-length call-calls (call-at t) call.Post
   call-same-length c = search needs
@@ -503,11 +556,11 @@ module _ (t : ℕ) where
   call-returns-3 c =
       let n = c .before .before .before .before .before .before .before .before in
       call-answers (k n) _ _ _ λ bound codes body behind h vs es z.
-      let m = c .before .before .before .before .before .before .before .list .ensures _ _ _ _ _ (body-ready n z) in
+      let m = c .before .before .before .before .before .before .before .list .ensures .0 _ _ _ _ _ (body-ready n z) in
       subst (λ (x : Answer). LeftBy (first (k n) .args .s .now) (first (k n) .args .table .now) (first (k n) .args .w .now) (c .before .before .before .returned .last .1 .1 .0) (c .before .before .before .before .before .before .before .list .last .1 .1 .1 .0) es
       (with-top (given-state (k n)) (given-state (k n) .room) (first (k n) .args .start)) h (hold (given-state (k n) .steps) (given-state (k n) .room) (finish (run-code codes) (first (k n) .args .row) h (as-call body behind) vs)) x)
       (sym (c .leaves .ensures))
-      (call-returns z (first (k n) .args .row) (n .before .before .before .before .before .before .before .before .before .if1 .left) (c .before .before .before .before .before .before .before .list .last .1 .1 .0) (c .before .before .before .before .before .before .before .list .last .1 .1 .1 .0) (c .before .before .before .before .before .before .before .list .result) (c .before .before .before .returned .last .1 .1 .0) es (c .before .before .before .returned .result) m (c .before .before .before .returned .ensures))
+      (call-returns z (first (k n) .args .row) (n .before .before .before .before .before .before .before .before .before .before .before .before .before .if1 .left) (c .before .before .before .before .before .before .before .list .last .1 .1 .0) (c .before .before .before .before .before .before .before .list .last .1 .1 .1 .0) (c .before .before .before .before .before .before .before .list .result) (c .before .before .before .returned .last .1 .1 .0) es (c .before .before .before .returned .result) m (c .before .before .before .returned .ensures))
 
 pub +call+list-spec : {M : Type 1} → statement M
 +call+list-spec = close μ-call μ-list

@@ -11,10 +11,10 @@ use Rattle.evaluator.proofs.scope.Scope.look_up.Statement.{statement}
 use Rattle.evaluator.proofs.scope.Scope.look_up.Tie as tie
 
 abbrev Inv-loop : tie.InvT-loop
-Inv-loop key self i₀ i = (i ≤ 256) × (find key (entries-at (self .keys) (self .places) i) ≡ find key (entries self))
+Inv-loop keys places key i₀ i = (i ≤ 256) × (find key (entries-at keys places i) ≡ find key (entries-at keys places i₀))
 
 abbrev μ-loop : tie.MeasureT-loop
-μ-loop key self i₀ i = i
+μ-loop keys places key i₀ i = i
 
 -- At the loop's head
 
@@ -24,15 +24,15 @@ module _ (c : tie.At-loop Inv-loop μ-loop) where
 
   -- the latest of the entries that are left, and those behind it
   abbrev latest : Entry
-  latest = let sc = c .before .args .t1 in entry-at (sc .keys) (sc .places) (c .loop .i - 1)
+  latest = let a = c .before .args in entry-at (a .keys .now) (a .places .now) (c .loop .i - 1)
 
   abbrev behind : List Entry
-  behind = let sc = c .before .args .t1 in entries-at (sc .keys) (sc .places) (c .loop .i - 1)
+  behind = let a = c .before .args in entries-at (a .keys .now) (a .places .now) (c .loop .i - 1)
 
-  found : {f : Found} → 0 < c .loop .i → f ≡ find key (latest ∷ behind) → f ≡ find key (entries (c .before .args .t1))
+  found : {f : Found} → 0 < c .loop .i → f ≡ find key (latest ∷ behind) → (let a = c .before .args in f ≡ find key (entries (a .keys .now) (a .places .now) (a .self)))
   found h is =
-      let sc = c .before .args .t1 in
-      is ∙ ap (find key) (sym (entries-latest (sc .keys) (sc .places) (c .loop .i) h)) ∙ c .loop .inv .1
+      let a = c .before .args in
+      is ∙ ap (find key) (sym (entries-latest (a .keys .now) (a .places .now) (c .loop .i) h)) ∙ c .loop .inv .1
 
 loop-holds : tie.Need-loop-holds Inv-loop μ-loop
 loop-holds c = search needs
@@ -68,22 +68,22 @@ returns c =
 add-if2 : tie.Need-add-if2 Inv-loop μ-loop
 add-if2 c = search needs
 
-mul-t17 : tie.Need-mul-t17 Inv-loop μ-loop
-mul-t17 c = search needs
+mul-code-row : tie.Need-mul-code-row Inv-loop μ-loop
+mul-code-row c = search needs
 
-element-copy-out-t20 : tie.Need-element-copy-out-t20 Inv-loop μ-loop
-element-copy-out-t20 c = search needs
+element-copy-out-code-row : tie.Need-element-copy-out-code-row Inv-loop μ-loop
+element-copy-out-code-row c = search needs
 
-cast-t21 : tie.Need-cast-t21 Inv-loop μ-loop
-cast-t21 c = search needs
+code-row-requires : tie.Need-code-row-requires Inv-loop μ-loop
+code-row-requires c κs = tt
 
 returns-2 : tie.Need-returns-2 Inv-loop μ-loop
 returns-2 c =
-    let k = c .before in
+    let k = c .before .before in
     let l = k .before .before .before .before in
-    let sc = l .before .args .t1 in
+    let a = l .before .args in
     let is = find-function (key l) (latest l) (behind l) (k .if2 .taken) in
-    rw (entries-length (sc .keys) (sc .places) (l .loop .i - 1)) at (found l (k .before .before .before .loop-test .taken) is)
+    rw (c .code-row .ensures) (rw (entries-length (a .keys .now) (a .places .now) (l .loop .i - 1)) at (found l (k .before .before .before .loop-test .taken) is))
 
 loop-less : tie.Need-loop-less Inv-loop μ-loop
 loop-less c = search needs
@@ -116,9 +116,9 @@ look-up-spec =
     packed-to-requires
     returns
     add-if2
-    mul-t17
-    element-copy-out-t20
-    cast-t21
+    mul-code-row
+    element-copy-out-code-row
+    code-row-requires
     returns-2
     loop-less
     loop-again

@@ -6,7 +6,7 @@ use Rattle.evaluator.proofs.scope.Scope.new.Tie as tie
 
 returns : tie.Need-returns
 unfolding entries-at
-returns c = (refl, refl)
+returns c keys places = refl
 
 pub new-spec : {M : Type 1} → statement M
 new-spec = tie.close (tie.spec returns)
