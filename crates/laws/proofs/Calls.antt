@@ -36,6 +36,11 @@ put-out-is bs k t o = go (ltb (length o) (length bs)) refl
     go true e = too-short (ltb-true (length o) (length bs) e)
     go false e = fits (ltb-false (length o) (length bs) e)
 
+-- an output that is long enough is not refused
+pub put-long : {bs : List ℕ} {k : ℕ} {t o : List ℕ} {a : Answer} → Put bs k t o a → length bs ≤ length o → a .number ≡ 18 → ⊥
+put-long (too-short l) h e = omega arith
+put-long (fits l) h e = omega arith
+
 put-out-room : (bs : List ℕ) (k : ℕ) (t o : List ℕ) → length bs ≤ length o → put-out bs k t o ≡ acceptance (length bs) k t (over bs o)
 unfolding put-out
 put-out-room bs k t o h = rw (le-ltb (length o) (length bs) h)

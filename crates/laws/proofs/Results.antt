@@ -1,24 +1,25 @@
 -- What Write has written and what Evaluate has left: the canonical bytes of a meaning that can be read.
 -- Document 01: "Canonical", "Result". Assumes nothing.
-use Prim.Native.Nat.{ℕ, _+_, _/_, _≤_}
-use mathlib.Core.Path.{_≡_, sym, ap, _∙_}
+use Prim.Native.Nat.{ℕ, _+_, _/_, _≤_, min}
+use mathlib.Core.Path.{_≡_, refl, sym, ap, _∙_}
 use mathlib.Core.Logic.{_↔_}
 use mathlib.Core.List.{List}
 use lib.ListN.{length, take, drop}
 use native.Mathlib.Omega.{arith}
 use Rattle.spec.specs.Expr.{Exprs, first, rows-all, deepest, canonical}
 use Rattle.spec.specs.Reading.{tokens, Row, rows-of, readable, read}
-use Rattle.spec.specs.Runs.{done, steps-in}
+use Rattle.spec.specs.Runs.{End, done, stopped, cut, steps-in}
 use Rattle.spec.specs.Evaluation.{run, result}
-use Rattle.spec.specs.Calls.{Answer, filled, reading, Write}
+use Rattle.spec.specs.Calls.{Answer, filled, end-answer, reading, Write}
 use Rattle.laws.specs.Demands.{Bytes, Begins, Lent, evaluation, result-bytes, meaning-of, left-by, values-of, bytes-of-first, Accepted, SameFirst, SamePrefix}
 use Rattle.laws.proofs.Fits.{FitsAll}
 use Rattle.laws.proofs.Canonical.{canonical-append, canonical-bytes}
-use Rattle.laws.proofs.Reading.{read-readable, Meant, read-meant, read-canonical}
+use Rattle.laws.proofs.Reading.{read-readable, read-refused, Meant, read-meant, read-canonical}
+use Rattle.laws.proofs.Runs.{cut-done}
 use Rattle.laws.proofs.Charges.{run-paid}
-use Rattle.laws.proofs.Values.{run-fits}
+use Rattle.laws.proofs.Values.{not-rule, run-fits}
 use Rattle.laws.proofs.Prefix.{run-first, result-split}
-use Rattle.laws.proofs.Calls.{put-out-bytes, Written, written, Ran, evaluate-ran, reading-fits}
+use Rattle.laws.proofs.Calls.{put-out-is, put-long, put-out-bytes, Written, written, Way, unread, unversioned, wrong-version, runs, way, answered, evaluation-answered, reading-fits, CutNumber, for-steps, for-work, for-rule, cut-refused, Ran, evaluate-ran}
 
 -- A meaning that was read
 
@@ -120,6 +121,30 @@ module _ (s : List ℕ) (l : Lent) (stream : Bytes s) (accepted : evaluation s l
         back = canonical (result (drop q ls));
         is = left-canonical ∙ ap canonical (result-split q ls) ∙ canonical-append (result (take q ls)) (result (drop q ls));
       }
+
+-- an output as long as the workspace that counts is never too short: the result's bytes have been charged
+pub output-never-short : (s : List ℕ) (l : Lent) → Bytes s → min (l .work) 65536 ≤ length (l .output) → evaluation s l .number ≡ 18 → ⊥
+output-never-short s l b long = rw (evaluation-answered s l (way s (l .table))) (go (way s (l .table)))
+  where
+    by-end : (rs : List Row) (es : Exprs) → reading s (l .table) ≡ readable rs es → (x : End (List Exprs))
+        → cut (l .steps) (min (l .work) 65536) (run es .events) (run es .end) ≡ x
+        → end-answer rs (steps-in (run es .events)) (filled rs (l .table)) (l .output) x .number ≡ 18 → ⊥
+    by-end rs es e (done ls) c h =
+        let within = cut-done (run es .events) (run es .end) (l .steps) (min (l .work) 65536) ls c in
+        let bs = canonical (result ls) in
+        put-long (put-out-is bs (steps-in (run es .events)) (filled rs (l .table)) (l .output)) (omega (arith, run-paid es ls (within .ends), within .work)) h
+    by-end rs es e (stopped v r) c h = go (cut-refused es (reading-fits s (l .table) rs es b e) (l .steps) (min (l .work) 65536) v r c)
+      where
+        go : CutNumber v → ⊥
+        go (for-steps k) = omega arith
+        go (for-work k) = omega arith
+        go (for-rule k) = not-rule {v = 18} refl k h
+
+    go : (y : Way s (l .table)) → answered y l .number ≡ 18 → ⊥
+    go (unread v p e) h = omega (arith, read-refused s (length (l .table) / 4) v p b e .1)
+    go (unversioned rs es e x) h = omega arith
+    go (wrong-version rs es e x y) h = omega arith
+    go (runs rs es e x y) h = by-end rs es e (cut (l .steps) (min (l .work) 65536) (run es .events) (run es .end)) refl h
 
 -- the first q expressions of two accepted streams
 pub same-prefix : (q : ℕ) (s s′ : List ℕ) → Bytes s → Bytes s′ → Accepted s → Accepted s′ → SameFirst q s s′ → SamePrefix q s s′

@@ -1,6 +1,6 @@
 -- The demands, as theorems over the definitions of the crate `spec`, in the words of specs/Demands. Above each stands what was demanded. A
 -- stream is a list of bytes (`Bytes`); whatever is said of a table or an output is said for all lengths and contents. Assumes nothing.
-use Prim.Native.Nat.{ℕ, _+_, _*_, _/_, _≤_, _<_}
+use Prim.Native.Nat.{ℕ, _+_, _*_, _/_, _≤_, _<_, min}
 use mathlib.Core.Path.{_≡_, ap, _∙_}
 use mathlib.Core.Logic.{_↔_}
 use mathlib.Core.List.{List, []}
@@ -19,7 +19,7 @@ use Rattle.laws.proofs.Shortest.{all-shortest}
 use Rattle.laws.proofs.Items.{spelled-rows, item-spelled, item-past}
 use Rattle.laws.proofs.Values.{run-proper}
 use Rattle.laws.proofs.Calls.{put-out-bytes, read-kept, read-within, write-out, write-room, write-within, write-kept, write-rows, evaluation-kept, evaluation-rows, evaluation-within}
-use Rattle.laws.proofs.Results.{meant, canonical-reads, same-canonical, written-same, writing, written-means, written-canonical, written-reads, written-stream, left-canonical, left-length, left-stream, left-reads, same-prefix}
+use Rattle.laws.proofs.Results.{meant, canonical-reads, same-canonical, written-same, writing, written-means, written-canonical, written-reads, written-stream, left-canonical, left-length, left-stream, left-reads, same-prefix, output-never-short}
 use Rattle.laws.proofs.Places.{read-order, read-inside, read-at-most, write-at-most, evaluation-at-most}
 use Rattle.laws.proofs.Retry.{read-alike, write-alike, evaluate-alike, contents-alike}
 use Rattle.laws.proofs.Count.{counted, enough-same, short-refused, sixteen-short}
@@ -162,6 +162,10 @@ module _ (s : List ℕ) (l : Lent) (stream : Bytes s) (accepted : evaluation s l
 
 pub retry : (s : List ℕ) (l m : Lent) → NoSmaller l m → Final (evaluation s l) → Alike (evaluation s l) (evaluation s m)
 retry = evaluate-alike
+
+-- an output as long as the workspace that counts is long enough for every result
+pub output-enough : (s : List ℕ) (l : Lent) → Bytes s → min (l .work) 65536 ≤ length (l .output) → evaluation s l .number ≡ 18 → ⊥
+output-enough = output-never-short
 
 -- "whatever table, workspace and output held before": no answer depends on it, whichever it is, 16, 17 and 18 too. Of the workspace only the
 -- length counts.
