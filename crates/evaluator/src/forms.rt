@@ -17,18 +17,16 @@ ghost use Rattle.evaluator.specs.Entries.{pack};
 ghost use Rattle.evaluator.specs.Joins.{array-at};
 ghost use Rattle.evaluator.specs.Completed.{Fitting, Stand, Completed, Joined, ArgumentsAt};
 
-// Whether values have at most 63 forms one inside another. 64 would take 128 bytes.
+// Whether values have at most 63 forms one inside another.
 fn shallow(values: &[u8]) -> bool
     requires { ⌜ length (now values) ≤ 65536 ⌝ }
     requires { ⌜ ((vs : Exprs) × (now values ≡ canonical vs) × FitsAll vs) ⌝ }
     ensures { λ r. ⌜ ((vs : Exprs) → now (values .entry) ≡ canonical vs → FitsAll vs → r ≡ leb (deepest vs) 63) ⌝ }
 {
-    if values.len() < 128 {
-        return true;
-    }
     let mut at: usize = 0;
     let mut depth: usize = 0;
-    while at < values.len() {
+    // The bytes left close every form, so with n left and d forms open no more than (n + d) / 2 are open at once.
+    while 128 <= values.len() - at + depth {
         match atoms::token_at(values, at) {
             Token::Opening => {
                 if 63 <= depth {

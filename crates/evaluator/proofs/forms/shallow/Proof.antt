@@ -1,14 +1,13 @@
--- `evaluator::forms::shallow` meets its contract: few bytes are shallow. For others the invariant is `Nesting`, which each token keeps.
--- Assumes nothing.
+-- `evaluator::forms::shallow` meets its contract: the invariant is `Nesting`, which each token keeps and few bytes left decide. Assumes nothing.
 use borrow.Author.Needs.{needs}
-use Prim.Native.Nat.{_-_}
+use Prim.Native.Nat.{_-_, _<_}
 use mathlib.Core.Path.{_≡_, sym, _∙_}
 use native.Mathlib.Omega.{arith}
 use lib.ListN.{length}
 use Rattle.laws.proofs.Steps.{all-bytes}
 use Rattle.atoms.specs.declared.Token.{Token as Answer}
 use Rattle.atoms.specs.declared.Token.the-variants.{Opening, Closing}
-use Rattle.evaluator.proofs.Depths.{few-bytes, Nesting, nesting-start, nesting-end, NestingTurn, nesting-turn}
+use Rattle.evaluator.proofs.Depths.{Nesting, nesting-start, nesting-end, NestingTurn, nesting-turn}
 use Rattle.evaluator.proofs.forms.shallow.Statement.{statement}
 use Rattle.evaluator.proofs.forms.shallow.Tie as tie
 
@@ -18,27 +17,34 @@ Inv-loop values at₀ depth₀ at depth = Nesting values at depth
 abbrev μ-loop : tie.MeasureT-loop
 μ-loop values at₀ depth₀ at depth = length values - at
 
-returns : tie.Need-returns Inv-loop μ-loop
-returns c vs e f = few-bytes vs (rw e at (c .if1 .taken))
-
 loop-holds : tie.Need-loop-holds Inv-loop μ-loop
 loop-holds c =
-    let a = c .before .before .args in
-    nesting-start (a .values .now) (all-bytes (a .values .now) (λ i. c .before .shared-slice-known .given i .fits)) (c .before .before .pre .1)
+    let a = c .before .args in
+    nesting-start (a .values .now) (all-bytes (a .values .now) (λ i. c .shared-slice-known .given i .fits)) (c .before .pre .1)
+
+sub-loop : tie.Need-sub-loop Inv-loop μ-loop
+sub-loop c = c .loop .inv .inside
+
+add-loop : tie.Need-add-loop Inv-loop μ-loop
+add-loop c = omega (arith, c .loop .inv .few)
+
+-- where the loop goes on, bytes are left
+left : (c : tie.In-loop Inv-loop μ-loop) → c .before .loop .at < length (c .before .before .before .args .values .now)
+left c = omega (arith, c .loop-test .taken, c .before .loop .inv .few)
 
 token-at-requires : tie.Need-token-at-requires Inv-loop μ-loop
-token-at-requires c κs = omega arith
+token-at-requires c κs = omega (arith, left c)
 
 -- what is known of the turn where the token is this one
 at-token : (c : tie.After-token-at Inv-loop μ-loop) (r : Answer) → c .token-at .result ≡ r
-    → NestingTurn (c .before .before .before .before .before .args .values .now) (c .before .before .loop .at) (c .before .before .loop .depth) r
-at-token c r e = nesting-turn _ _ _ (c .before .before .loop .inv) (c .before .loop-test .taken) r (sym e ∙ c .token-at .ensures)
+    → NestingTurn (c .before .before .before .before .args .values .now) (c .before .before .loop .at) (c .before .before .loop .depth) r
+at-token c r e = nesting-turn _ _ _ (c .before .before .loop .inv) (left (c .before)) r (sym e ∙ c .token-at .ensures)
 
 enum-told : tie.Need-enum-told Inv-loop μ-loop
 enum-told c = search needs
 
-returns-2 : tie.Need-returns-2 Inv-loop μ-loop
-returns-2 c = at-token (c .before .before .before) Opening (c .before .enum-told .given .1) .0 (omega (arith, c .if2 .taken))
+returns : tie.Need-returns Inv-loop μ-loop
+returns c = at-token (c .before .before .before) Opening (c .before .enum-told .given .1) .0 (omega (arith, c .if1 .taken))
 
 add-depth : tie.Need-add-depth Inv-loop μ-loop
 add-depth c = omega arith
@@ -50,7 +56,7 @@ loop-less : tie.Need-loop-less Inv-loop μ-loop
 loop-less c = omega arith
 
 loop-again : tie.Need-loop-again Inv-loop μ-loop
-loop-again c = at-token (c .before .before .before) Opening (c .before .enum-told .given .1) .1 (c .if2 .left)
+loop-again c = at-token (c .before .before .before) Opening (c .before .enum-told .given .1) .1 (c .if1 .left)
 
 enum-told-2 : tie.Need-enum-told-2 Inv-loop μ-loop
 enum-told-2 c = search needs
@@ -79,11 +85,11 @@ loop-again-3 c = at-token (c .before .before .before) _ (c .before .end .given .
 enum-told-3 : tie.Need-enum-told-3 Inv-loop μ-loop
 enum-told-3 c = search needs
 
-returns-3 : tie.Need-returns-3 Inv-loop μ-loop
-returns-3 c = absurd (at-token (c .before .before) _ (c .enum-told3 .given .1))
+returns-2 : tie.Need-returns-2 Inv-loop μ-loop
+returns-2 c = absurd (at-token (c .before .before) _ (c .enum-told3 .given .1))
 
-returns-4 : tie.Need-returns-4 Inv-loop μ-loop
-returns-4 c = nesting-end _ _ _ (c .before .loop .inv) (c .loop-test .left)
+returns-3 : tie.Need-returns-3 Inv-loop μ-loop
+returns-3 c = nesting-end _ _ _ (c .before .loop .inv) (c .loop-test .left)
 
 pub shallow-spec : {M : Type 1} → statement M
 shallow-spec =
@@ -91,11 +97,12 @@ shallow-spec =
     (tie.spec
     Inv-loop
     μ-loop
-    returns
     loop-holds
+    sub-loop
+    add-loop
     token-at-requires
     enum-told
-    returns-2
+    returns
     add-depth
     add-at
     loop-less
@@ -109,5 +116,5 @@ shallow-spec =
     loop-less-3
     loop-again-3
     enum-told-3
-    returns-3
-    returns-4)
+    returns-2
+    returns-3)
