@@ -263,12 +263,12 @@ threes-few (suc k) (b ∷ s) = go (eqb b 0x03) (leading-threes k s) (threes-few 
     go false j h = (omega arith, omega arith)
 
 -- with fewer than eight bytes 03: what stands behind them
-pub record Counted (s : List ℕ) (at depth : ℕ) : Type 0 where
+pub record BehindThrees (s : List ℕ) (at depth : ℕ) : Type 0 where
   pub inside : at + depth ≤ length s
   pub is : length-expr 7 (drop at s) ≡ around depth (plain (drop (at + depth) s))
 
-pub counted : (s : List ℕ) (at depth : ℕ) → at ≤ length s → depth ≡ leading-threes 8 (drop at s) → (depth ≡ 8 → ⊥) → Counted s at depth
-counted s at depth h e n =
+pub behind-threes : (s : List ℕ) (at depth : ℕ) → at ≤ length s → depth ≡ leading-threes 8 (drop at s) → (depth ≡ 8 → ⊥) → BehindThrees s at depth
+behind-threes s at depth h e n =
     let few = threes-few 8 (drop at s) in
     let size = length-drop at s in
     let below : leading-threes 8 (drop at s) < 8 = omega (arith, n) in
@@ -329,7 +329,7 @@ module _ (s : List ℕ) (at : ℕ) (bytes : (i : ℕ) → getD s i 0 < 256) (mos
   unfolding around
   by-plain v e other m =
       let none : 0 ≡ leading-threes 8 (drop (at + 1) s) = sym (threes-other s (at + 1) 8 (omega arith) other) in
-      let is = counted s (at + 1) 0 (omega arith) none (λ q. omega arith) .is in
+      let is = behind-threes s (at + 1) 0 (omega arith) none (λ q. omega arith) .is in
       let here : at + 1 + 0 ≡ at + 1 = omega arith in
       rw (← add-one at)
       (told-bytes s v e (length-expr 7 (drop (at + 1) s)) most

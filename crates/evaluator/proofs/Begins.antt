@@ -17,9 +17,9 @@ use Rattle.laws.proofs.Values.{FitsNode, SoundHere, SoundPlan, leaves, plan-ato
 use Rattle.evaluator.specs.Stands.{LeafAt, NodeAt}
 use Rattle.evaluator.specs.Entries.{function-bit, Entry}
 use Rattle.evaluator.specs.Named.{named, Named}
-use Rattle.evaluator.specs.Completed.{Fitting, Stand, with-top, Unkept, too-deep, too-long, Completed, stepped}
+use Rattle.evaluator.specs.Completed.{Fitting, Stand, with-top, Incomplete, too-deep, too-long, Completed, stepped}
 use Rattle.evaluator.specs.Planned.{function-at, Planned, refuses, owns, repeats, associates, defines, goes-inside}
-use Rattle.evaluator.specs.Listed.{LeftDefinition, LeftBy, GoesInside, Begun, Beginning, left-by}
+use Rattle.evaluator.specs.Listed.{LeftDefinition, LeftBy, GoesInside, Begun, Beginning, as-left}
 use Rattle.evaluator.specs.Performed.{one-named, Performing, going}
 use Rattle.evaluator.specs.declared.values.State.{State}
 use Rattle.evaluator.specs.declared.values.Out.{Out}
@@ -40,7 +40,7 @@ use Rattle.evaluator.proofs.Places.{untouched-none}
 completed-from : (s t w w′ names′ : List ℕ) (sc : List Entry) (from st : State) (start row : ℕ) (vs : Exprs) (h h′ : Here) (out : Out)
     → from .top ≡ start → from .floor ≡ st .floor → Fitting w st → start ≤ st .top → h′ .scope ≡ h .scope → Named s t names′ (h′ .namespaces)
     → st .names ≡ length (h′ .namespaces) → st .names ≤ 64 → Completed w w′ st start row vs out
-    → LeftBy s t w w′ names′ sc from h (hold (st .steps) (st .room) (complete row vs h′)) (left-by out)
+    → LeftBy s t w w′ names′ sc from h (hold (st .steps) (st .room) (complete row vs h′)) (as-left out)
 completed-from s t w w′ names′ sc from st start row vs h h′ (Done st′) top floor fits order scope named counted most k =
     rw (k .state) record {
       over = record {
@@ -59,14 +59,14 @@ completed-from s t w w′ names′ sc from st start row vs h h′ (Done st′) t
 completed-from s t w w′ names′ sc from st start row vs h h′ (Refused number at) top floor fits order scope named counted most (is, why) =
     rw is (go number why)
   where
-    go : (number : ℕ) → Unkept st vs number → hold (st .steps) (st .room) (complete row vs h′) ≡ ceased number row
+    go : (number : ℕ) → Incomplete st vs number → hold (st .steps) (st .room) (complete row vs h′) ≡ ceased number row
     go _ (too-deep deep) = hold-complete-deep (st .steps) (st .room) row vs h′ deep
     go _ (too-long shallow long) = hold-complete-none (st .steps) (st .room) row vs h′ shallow long
 
 pub completed-left : (s t w w′ names′ : List ℕ) (sc : List Entry) (st : State) (start row : ℕ) (vs : Exprs) (h h′ : Here) (out : Out)
     → Fitting w st → start ≤ st .top → h′ .scope ≡ h .scope → Named s t names′ (h′ .namespaces) → st .names ≡ length (h′ .namespaces)
     → st .names ≤ 64 → Completed w w′ st start row vs out
-    → LeftBy s t w w′ names′ sc (with-top st (st .room) start) h (hold (st .steps) (st .room) (complete row vs h′)) (left-by out)
+    → LeftBy s t w w′ names′ sc (with-top st (st .room) start) h (hold (st .steps) (st .room) (complete row vs h′)) (as-left out)
 completed-left s t w w′ names′ sc st start row vs h h′ out =
     completed-from s t w w′ names′ sc (with-top st (st .room) start) st start row vs h h′ out refl refl
 
@@ -163,7 +163,7 @@ module _ {s t w names : List ℕ} {sc : List Entry} {st : State} {row : ℕ} {e 
         go _ (refuses _) = hold-stop (st .steps - 1) (st .room) n row
 
     pub leave-begun : {task : Task} (vs : Exprs) (w′ : List ℕ) (out : Out) → Performing s t w names sc st task row e h → plan e h ≡ leave vs
-        → Completed w w′ (stepped st) (st .top) row vs out → LeftBy s t w w′ names sc st h (hold (st .steps) (st .room) (eval run e h)) (left-by out)
+        → Completed w w′ (stepped st) (st .top) row vs out → LeftBy s t w w′ names sc st h (hold (st .steps) (st .room) (eval run e h)) (as-left out)
     leave-begun vs w′ out p is c =
         rw (performed p, is)
         (completed-from s t w w′ names sc st (stepped st) (st .top) row vs h h out refl refl (fits-stepped p) (omega arith) refl
@@ -172,7 +172,7 @@ module _ {s t w names : List ℕ} {sc : List Entry} {st : State} {row : ℕ} {e 
     pub associate-begun : {entry : ℕ} (w′ : List ℕ) (out : Out) → length names ≡ 64 → Performing s t w names sc st (Ns entry) row e h
         → (a : Associates s t row entry e h)
         → Completed w w′ (one-named (stepped st)) (st .top) row (ns-form (a .marker) (a .name) (a .id)) out
-        → LeftBy s t w w′ (set names (st .names) entry) sc st h (hold (st .steps) (st .room) (eval run e h)) (left-by out)
+        → LeftBy s t w w′ (set names (st .names) entry) sc st h (hold (st .steps) (st .room) (eval run e h)) (as-left out)
     associate-begun {entry} w′ out size p a c =
         let m = a .marker in
         let id = a .id in

@@ -17,7 +17,7 @@ use Rattle.laws.proofs.Basics.{impossible}
 use Rattle.laws.proofs.Spelling.{length-spelled}
 use Rattle.laws.proofs.Steps.{none-left}
 use Rattle.atoms.specs.Tokens.{leading-threes, plain, around}
-use Rattle.atoms.proofs.Places.{left-at, first-left, around-failed, around-inner, length-many, Counted, counted}
+use Rattle.atoms.proofs.Places.{left-at, first-left, around-failed, around-inner, length-many, BehindThrees, behind-threes}
 use Rattle.evaluator.specs.Stands.{cell, LeafAt}
 use Rattle.evaluator.specs.Lengths.{EndsAt}
 
@@ -82,7 +82,7 @@ one-end {s = s} h g = sym (h .place) ∙ ap (λ (l : List ℕ). length s - lengt
 no-end : {A : Type 0} (s : List ℕ) (k w : ℕ) (t : List ℕ) (end : ℕ) → EndsAt s (around k (failed w t)) end → A
 no-end s k w t end ends = not-taken (sym (around-failed k w t) ∙ ends .is)
 
--- the bytes from a place on, as many as are counted from there
+-- the bytes from a place on, as many as are behind-threes from there
 taken-from : (s : List ℕ) (p n : ℕ) → taken (natural 0 (take n (drop p s))) (drop n (drop p s)) ≡ taken (natural 0 (take (p + n - p) (drop p s))) (drop (p + n) s)
 taken-from s p n = let same : p + n - p ≡ n = omega arith in rw (same, drop-drop n p s)
 
@@ -203,8 +203,8 @@ innermost s at depth end whole h e ends = record {
       };
 }
   where
-    all : Counted s at depth
-    all = counted s at depth h e (λ g. not-taken (sym (length-many 7 (drop at s) (sym e ∙ g)) ∙ ends .is))
+    all : BehindThrees s at depth
+    all = behind-threes s at depth h e (λ g. not-taken (sym (length-many 7 (drop at s) (sym e ∙ g)) ∙ ends .is))
 
     here : EndsAt s (around depth (plain (drop (at + depth) s))) end
     here = ends-as (all .is) ends

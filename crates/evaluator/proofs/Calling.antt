@@ -21,7 +21,7 @@ use Rattle.evaluator.specs.Entries.{Entry}
 use Rattle.evaluator.specs.Named.{Named}
 use Rattle.evaluator.specs.Completed.{with-top, ArgumentsAt}
 use Rattle.evaluator.specs.Planned.{at-inner, in-code}
-use Rattle.evaluator.specs.Listed.{Ready, Over, Met, LeftBy, Calling, Ran, CanReturn, Returned, left-by}
+use Rattle.evaluator.specs.Listed.{Ready, Over, Met, LeftBy, Calling, Ran, CanReturn, Returned, as-left}
 use Rattle.evaluator.specs.declared.values.State.{State}
 use Rattle.evaluator.specs.declared.values.Out.{Out}
 use Rattle.evaluator.specs.declared.values.Out.the-variants.{Done, Refused}
@@ -127,14 +127,14 @@ module _ {s t : List ℕ} {bound codes : ℕ} {w names : List ℕ} {sc : List En
 
       pub call-returns : (out : Out) (w₂ : List ℕ) (es : List Entry) (answer : Out) → Met s t w w₁ names₁ st body-held out
           → Returned s t w₁ w₂ code start (st .top) row answer out
-          → LeftBy s t w w₂ names₁ es (with-top st (st .room) start) h call-held (left-by answer)
+          → LeftBy s t w w₂ names₁ es (with-top st (st .room) start) h call-held (as-left answer)
       call-returns (Done st₁) w₂ es answer o f =
           let r = ran o in
           let us : Exprs = o .left .values in
           let named : Named s t names₁ (h .namespaces) = subst (λ ks. Named s t names₁ ks) (same-namespaces o) (o .namespaces) in
           let counted : st₁ .names ≡ length (h .namespaces) = o .counted ∙ ap length (same-namespaces o) in
-          left-from s t w w₁ w₂ names₁ es (with-top st (st .room) start) st₁ start h call-held _ (left-by answer)
+          left-from s t w w₁ w₂ names₁ es (with-top st (st .room) start) st₁ start h call-held _ (as-left answer)
           (untouched-less start (st .floor) (c .stand .order) (omega arith) (o .others)) refl (o .floor) (counted ∙ sym (c .counted)) (call-held-is ∙ rw (o .is))
           (completed-left s t w₁ w₂ names₁ es st₁ start row (if one-value body then us else only (form us)) h h answer (r .fitting)
           (omega (arith, c .stand .order, o .stand .order)) refl named counted (o .most) (f us body r (c .at)))
-      call-returns (Refused n r) w₂ es answer e f = subst (λ (x : Out). LeftBy s t w w₂ names₁ es (with-top st (st .room) start) h call-held (left-by x)) (sym f) (call-held-is ∙ rw e)
+      call-returns (Refused n r) w₂ es answer e f = subst (λ (x : Out). LeftBy s t w w₂ names₁ es (with-top st (st .room) start) h call-held (as-left x)) (sym f) (call-held-is ∙ rw e)

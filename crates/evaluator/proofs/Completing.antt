@@ -14,7 +14,7 @@ use Rattle.atoms.specs.Tokens.{atom-head}
 use Rattle.writer.specs.Bytes.{put-at, Put, with-head}
 use Rattle.writer.proofs.Puts.{stored}
 use Rattle.evaluator.specs.Stands.{cell, LeafAt}
-use Rattle.evaluator.specs.Completed.{Fitting, Stand, with-top, Kept, Unkept, too-long, Defined}
+use Rattle.evaluator.specs.Completed.{Fitting, Stand, with-top, Complete, Incomplete, too-long, Defined}
 use Rattle.evaluator.specs.declared.values.State.{State}
 use Rattle.evaluator.proofs.Nodes.{leaf-array, leaf-nil, leaf-int, leaf-ref}
 use Rattle.evaluator.proofs.Places.{slice-take, put-untouched, slice-put, moved}
@@ -22,9 +22,9 @@ use Rattle.evaluator.proofs.Places.{slice-take, put-untouched, slice-pu
 -- Any values
 
 module _ {w w′ : List ℕ} {st : State} {start : ℕ} {vs : Exprs} (shallow : deepest vs ≤ 64) where
-  pub kept-written : (n : ℕ) (bs : List ℕ) → Fitting w st → start ≤ st .top → bs ≡ canonical vs → length bs ≡ n → n ≤ st .room
-      → w′ ≡ put-at w start bs → Kept w w′ st start vs (with-top st (st .room - n) (start + n))
-  kept-written n bs fits h is size paid put =
+  pub complete-written : (n : ℕ) (bs : List ℕ) → Fitting w st → start ≤ st .top → bs ≡ canonical vs → length bs ≡ n → n ≤ st .room
+      → w′ ≡ put-at w start bs → Complete w w′ st start vs (with-top st (st .room - n) (start + n))
+  complete-written n bs fits h is size paid put =
       let room : start + length bs ≤ length w = omega (arith, size, fits .paid, fits .below) in
       let same : n ≡ length (canonical vs) = sym size ∙ ap (λ (l : List ℕ). length l) is in
       let others = put-untouched w start bs room start (st .floor) (omega arith) (omega (arith, size, fits .paid)) in
@@ -40,19 +40,19 @@ module _ {w w′ : List ℕ} {st : State} {start : ℕ} {vs : Exprs} (shallow : 
         others = rw put others;
       }
 
-pub unkept : {st : State} {vs : Exprs} (n : ℕ) → deepest vs ≤ 64 → length (canonical vs) ≡ n → st .room < n → Unkept st vs 17
+pub unkept : {st : State} {vs : Exprs} (n : ℕ) → deepest vs ≤ 64 → length (canonical vs) ≡ n → st .room < n → Incomplete st vs 17
 unkept n shallow size h = too-long shallow (omega (arith, size))
 
 -- Values that stand in the workspace
 
 module _ {w : List ℕ} {st : State} {vs : Exprs} {from to : ℕ} (shallow : deepest vs ≤ 64) (there : Stand w from to vs) where
-  pub kept-moved : {w′ : List ℕ} {start : ℕ} → Fitting w st → start ≤ st .top → to - from ≤ st .room → w′ ≡ moved w from to start
-      → Kept w w′ st start vs (with-top st (st .room - (to - from)) (start + (to - from)))
-  kept-moved fits h paid put =
-      kept-written shallow (to - from) (slice from to w) fits h (there .bytes) (length-slice from to w (there .inside)) paid put
+  pub complete-moved : {w′ : List ℕ} {start : ℕ} → Fitting w st → start ≤ st .top → to - from ≤ st .room → w′ ≡ moved w from to start
+      → Complete w w′ st start vs (with-top st (st .room - (to - from)) (start + (to - from)))
+  complete-moved fits h paid put =
+      complete-written shallow (to - from) (slice from to w) fits h (there .bytes) (length-slice from to w (there .inside)) paid put
 
-  pub unkept-moved : st .room < to - from → Unkept st vs 17
-  unkept-moved h =
+  pub incomplete-moved : st .room < to - from → Incomplete st vs 17
+  incomplete-moved h =
       unkept (to - from) shallow (ap (λ (l : List ℕ). length l) (sym (there .bytes)) ∙ length-slice from to w (there .inside)) h
 
 -- A definition's values
@@ -124,10 +124,10 @@ only-atom a = (append-nil (atom-bytes a), omega arith)
 module _ {s : List ℕ} {st : State} {kind from to : ℕ} {a : Atom} (n : ℕ) (own : Own s kind from to (atom-bytes a))
     (size : n ≡ length (atom-head kind (to - from)) + (to - from)) where
   pub atom-kept : {w w′ : List ℕ} → Fitting w st → n ≤ st .room → w′ ≡ put-at w (st .top) (with-head kind (take (to - from) (drop from s)))
-      → Kept w w′ st (st .top) (only (atom a)) (with-top st (st .room - n) (st .top + n))
+      → Complete w w′ st (st .top) (only (atom a)) (with-top st (st .room - n) (st .top + n))
   atom-kept {w} fits paid put =
       let v = only-atom a in
-      kept-written
+      complete-written
       (v .1)
       n
       (atom-bytes a)
@@ -138,7 +138,7 @@ module _ {s : List ℕ} {st : State} {kind from to : ℕ} {a : Atom} (n : ℕ) (
       paid
       (put ∙ ap (put-at w (st .top)) (own .is))
 
-  pub atom-unkept : st .room < n → Unkept st (only (atom a)) 17
+  pub atom-unkept : st .room < n → Incomplete st (only (atom a)) 17
   atom-unkept h = let v = only-atom a in unkept n (v .1) (ap (λ (l : List ℕ). length l) (v .0) ∙ own .size ∙ sym size) h
 
 -- An `ns` form, of a reference and an array in the stream
@@ -174,9 +174,9 @@ module _ {s : List ℕ} {r p i e : ℕ} (m n : ℕ) (id : List ℕ) (k : ℕ) (a
 
   pub ns-kept : {w w′ : List ℕ} {st : State} {past : ℕ} → Fitting w st → k ≤ st .room
       → Put w (st .top) (ns-front ++ with-head 4 (take (p - r) (drop r s)) ++ with-head 2 (take (e - i) (drop i s)) ++ (0x02 ∷ [])) w′ past
-      → Kept w w′ st (st .top) (ns-form m n id) (with-top st (st .room - k) (st .top + k))
+      → Complete w w′ st (st .top) (ns-form m n id) (with-top st (st .room - k) (st .top + k))
   ns-kept {w} {w′} {st} fits paid put =
-      kept-written
+      complete-written
       (only-ns m n id .1)
       k
       (canonical (ns-form m n id))
@@ -187,5 +187,5 @@ module _ {s : List ℕ} {r p i e : ℕ} (m n : ℕ) (id : List ℕ) (k : ℕ) (a
       paid
       (put .is ∙ ap (put-at w (st .top)) (rw (a .is, b .is) (sym (only-ns m n id .0))))
 
-  pub ns-unkept : {st : State} → st .room < k → Unkept st (ns-form m n id) 17
+  pub ns-unkept : {st : State} → st .room < k → Incomplete st (ns-form m n id) 17
   ns-unkept h = unkept k (only-ns m n id .1) ns-size h

@@ -23,7 +23,7 @@ use Rattle.evaluator.specs.Stands.{next, NodeAt, head-key}
 use Rattle.evaluator.specs.Entries.{pack}
 use Rattle.evaluator.specs.Completed.{Stand, with-top, Completed, Joined, joined, no-arrays, Defined as Moved}
 use Rattle.evaluator.specs.Planned.{CodeAt, value-at}
-use Rattle.evaluator.specs.Listed.{LeftBy, NoCall, FinishedBy, by-form, by-define, by-concat, Finishing, CanFinish, Finished, left-by}
+use Rattle.evaluator.specs.Listed.{LeftBy, NoCall, FinishedBy, by-form, by-define, by-concat, Finishing, CanFinish, Finished, as-left}
 use Rattle.evaluator.specs.declared.values.State.{State}
 use Rattle.evaluator.specs.declared.values.Out.{Out}
 use Rattle.evaluator.specs.declared.values.Out.the-variants.{Done}
@@ -103,7 +103,7 @@ join-others row (atom (array bs)) (atom (array cs)) h other = absurd (other bs c
 
 module _ (w w′ : List ℕ) (st : State) (start row : ℕ) where
   pub form-finished : (out : Out) → ((vs : Exprs) → Stand w start (st .top) vs → FitsAll vs → Completed w w′ st start row (only (form vs)) out)
-      → Finished w w′ start row Form (left-by out) (Done st)
+      → Finished w w′ start row Form (as-left out) (Done st)
   form-finished out done s t names sc run h f vs by-form ready named counted most =
       completed-left s t w w′ names sc st start row (only (form vs)) h h out (ready .fitting) (ready .stand .order) refl named counted most
       (done vs (ready .stand) (ready .sound .0))
@@ -145,13 +145,13 @@ module _ (w w′ : List ℕ) (st : State) (start row : ℕ) where
 
   pub concat-finished : (out : Out)
       → ((a b : Expr) → Stand w start (st .top) (more a (only b)) → FitsAll (more a (only b)) → Joined w w′ st start row a b out)
-      → Finished w w′ start row Concat (left-by out) (Done st)
+      → Finished w w′ start row Concat (as-left out) (Done st)
   concat-finished out done s t names sc run h f vs by-concat ready named counted most =
       let two = ready .finishable in
       rw (two .2) (go (done (two .0) (two .1) (rw (two .2) at (ready .stand)) (rw (two .2) at (ready .sound .0))))
     where
       go : {a b : Expr} {r : Out} → Joined w w′ st start row a b r
-          → LeftBy s t w w′ names sc (with-top st (st .room) start) h (hold (st .steps) (st .room) (join row [] (more a (only b)) h)) (left-by r)
+          → LeftBy s t w w′ names sc (with-top st (st .room) start) h (hold (st .steps) (st .room) (join row [] (more a (only b)) h)) (as-left r)
       go {a} {b} {r} (joined bs cs is is′ done) =
           rw (is, is′, join-arrays row bs cs h)
           (completed-left s t w w′ names sc st start row (only (atom (array (bs ++ cs)))) h h r (ready .fitting) (ready .stand .order) refl named counted

@@ -21,12 +21,12 @@ use Rattle.reader.proofs.Finding.{spelled-some}
 use Rattle.writer.specs.Bytes.{put-at, Put}
 use Rattle.writer.proofs.Puts.{length-put-at, put-at-more, stored, written-on}
 use Rattle.evaluator.specs.Joins.{array-of, array-at}
-use Rattle.evaluator.specs.Completed.{Fitting, Stand, Untouched, with-top, Kept, Unkept, too-deep}
+use Rattle.evaluator.specs.Completed.{Fitting, Stand, Untouched, with-top, Complete, Incomplete, too-deep}
 use Rattle.evaluator.specs.declared.forms.Bytes.{Bytes}
 use Rattle.evaluator.specs.declared.forms.Bytes.the-variants.{Array, Other}
 use Rattle.evaluator.specs.declared.values.State.{State}
 use Rattle.evaluator.proofs.Places.{slice-take, untouched-then, slice-below, put-untouched, slice-put, put-before, moved}
-use Rattle.evaluator.proofs.Completing.{kept-written, unkept, only-atom}
+use Rattle.evaluator.proofs.Completing.{complete-written, unkept, only-atom}
 use Rattle.evaluator.proofs.Spread.{slice-rest}
 
 -- The form of values
@@ -62,30 +62,30 @@ module _ {w : List ℕ} (st : State) {from : ℕ} {vs : Exprs} (there : Stand w 
       let size : length (canonical vs) ≡ st .top - from = ap (λ (l : List ℕ). length l) (sym (there .bytes)) ∙ length-slice from (st .top) w (there .inside) in
       ap (λ (l : List ℕ). length l) (form-bytes vs) ∙ simp length-append (omega (arith, size))
 
-  pub form-deep : leb (deepest vs) 63 ≡ false → Unkept st (only (form vs)) 6
+  pub form-deep : leb (deepest vs) 63 ≡ false → Incomplete st (only (form vs)) 6
   form-deep h = too-deep (omega (arith, form-depth vs, leb-false (deepest vs) 63 h))
 
   module _ (shallow : leb (deepest vs) 63 ≡ true) where
     form-shallow : deepest (only (form vs)) ≤ 64
     form-shallow = omega (arith, form-depth vs, leb-true (deepest vs) 63 shallow)
 
-    pub form-unkept : st .room < st .top - from + 2 → Unkept st (only (form vs)) 17
+    pub form-unkept : st .room < st .top - from + 2 → Incomplete st (only (form vs)) 17
     form-unkept h = unkept (st .top - from + 2) form-shallow form-size h
 
     pub form-kept : {w₁ : List ℕ} {start : ℕ} → Fitting w st → start ≤ from → let n : ℕ = st .top - from + 2 in n ≤ st .room
         → w₁ ≡ moved w from (st .top) (start + 1)
-        → Kept w (set (set w₁ start 0x01) (start + n - 1) 0x02) st start (only (form vs)) (with-top st (st .room - n) (start + n))
+        → Complete w (set (set w₁ start 0x01) (start + n - 1) 0x02) st start (only (form vs)) (with-top st (st .room - n) (start + n))
     form-kept {w₁} {start} fits h paid is =
         let n : ℕ = st .top - from + 2 in
         let same : 0x01 ∷ (slice from (st .top) w ++ (0x02 ∷ [])) ≡ canonical (only (form vs)) = rw (there .bytes) (sym (form-bytes vs)) in
         let put : set (set w₁ start 0x01) (start + n - 1) 0x02 ≡ put-at w start (canonical (only (form vs))) =
         rw is (form-put w start from (st .top) h (there .order) (omega (arith, fits .paid, fits .below)) ∙ ap (put-at w start) same) in
-        kept-written form-shallow n (canonical (only (form vs))) fits (omega (arith, there .order)) refl form-size paid put
+        complete-written form-shallow n (canonical (only (form vs))) fits (omega (arith, there .order)) refl form-size paid put
 
 -- The join of two arrays
 
-kept-since : {w w₁ w′ : List ℕ} {st : State} {start : ℕ} {vs : Exprs} {st′ : State} → Untouched w w₁ start (st .floor) → Kept w₁ w′ st start vs st′
-    → Kept w w′ st start vs st′
+kept-since : {w w₁ w′ : List ℕ} {st : State} {start : ℕ} {vs : Exprs} {st′ : State} → Untouched w w₁ start (st .floor) → Complete w₁ w′ st start vs st′
+    → Complete w w′ st start vs st′
 kept-since u k = record {
   shallow = k .shallow;
   charged = k .charged;
@@ -132,13 +132,13 @@ module _ (w : List ℕ) (st : State) (a b c d : ℕ) (fits : Fitting w st) (insi
   join-size =
       ap (λ (l : List ℕ). length l) join-bytes ∙ simp length-append (omega (arith, parts-length .0, parts-length .1))
 
-  pub join-unkept : st .room < n → Unkept st join-values 17
+  pub join-unkept : st .room < n → Incomplete st join-values 17
   join-unkept h = unkept n (only-atom (array (slice a b w ++ slice c d w)) .1) join-size h
 
   -- the head above the top, behind it the two parts, then all of it moved down
   pub join-kept : {start : ℕ} {w₁ w₂ w₃ w′ : List ℕ} {at : ℕ} → start ≤ st .top → n ≤ st .room → Put w (st .top) head w₁ at
       → w₂ ≡ moved w₁ a b at → w₃ ≡ moved w₂ c d (at + (b - a)) → w′ ≡ moved w₃ (st .top) (st .top + n) start
-      → Kept w w′ st start join-values (with-top st (st .room - n) (start + n))
+      → Complete w w′ st start join-values (with-top st (st .room - n) (start + n))
   join-kept {start} {w₁} {w₂} {w₃} {w′} {at} h paid headed first second down =
       let top : ℕ = st .top in
       let all = canonical join-values in
@@ -154,7 +154,7 @@ module _ (w : List ℕ) (st : State) (a b c d : ℕ) (fits : Fitting w st) (insi
       let others : Untouched w w₃ start (st .floor) = rw put (put-untouched w top all room start (st .floor) h (omega (arith, fits .paid))) in
       let fits₃ : Fitting w₃ st = record { paid = fits .paid; below = omega (arith, others .size, fits .below); short = omega (arith, others .size, fits .short) } in
       let shallow = only-atom (array (slice a b w ++ slice c d w)) .1 in
-      kept-since others (kept-written shallow n all fits₃ h refl size paid (down ∙ ap (put-at w₃ start) back))
+      kept-since others (complete-written shallow n all fits₃ h refl size paid (down ∙ ap (put-at w₃ start) back))
 
 -- Whether a value is an array
 

@@ -19,7 +19,7 @@ use Rattle.evaluator.specs.Stands.{cell, next, LeafAt, NodeAt, NodesAt, 
 use Rattle.evaluator.specs.Entries.{pack, packed-from, packed-to, Entry}
 use Rattle.evaluator.specs.Named.{named}
 use Rattle.evaluator.specs.Completed.{Stand, ArgumentsAt}
-use Rattle.evaluator.specs.Planned.{CodeAt, Lent, no-code, in-code, Placed, at-top, at-element, at-inner, OneMore, one-more, TwoMore, two-more, define-finishes, concat-finishes, Planned, refuses, repeats, associates, defines, goes-inside}
+use Rattle.evaluator.specs.Planned.{CodeAt, ArgumentsOf, no-code, in-code, Placed, at-top, at-element, at-inner, OneMore, one-more, TwoMore, two-more, define-finishes, concat-finishes, Planned, refuses, repeats, associates, defines, goes-inside}
 use Rattle.evaluator.specs.declared.rows.Parts.{Parts}
 use Rattle.evaluator.specs.declared.plan.Stands.{Stands}
 use Rattle.evaluator.specs.declared.plan.Stands.the-variants.{Top, Element, Inner}
@@ -516,15 +516,15 @@ pub record Given (w args : List ℕ) (code : Code) (xs : Arguments) : Type 0 whe
   pub at : ArgumentsAt w args 0 from (code .to) values
 
 module _ (w args : List ℕ) (code : Code) (above : ℕ) where
-  pub arg-outside : (xs : Arguments) (n : ℕ) → Lent w args code above xs → code .depth ≡ 0 → plan-arg n xs ≡ refuse 15
+  pub arg-outside : (xs : Arguments) (n : ℕ) → ArgumentsOf w args code above xs → code .depth ≡ 0 → plan-arg n xs ≡ refuse 15
   arg-outside xs n (no-code e) h = refl
   arg-outside xs n (in-code from e c l i g a) h = absurd (omega arith)
 
-  pub rest-outside : (xs : Arguments) (n : ℕ) → Lent w args code above xs → code .depth ≡ 0 → plan-rest n xs ≡ refuse 15
+  pub rest-outside : (xs : Arguments) (n : ℕ) → ArgumentsOf w args code above xs → code .depth ≡ 0 → plan-rest n xs ≡ refuse 15
   rest-outside xs n (no-code e) h = refl
   rest-outside xs n (in-code from e c l i g a) h = absurd (omega arith)
 
-  pub code-given : (xs : Arguments) → Lent w args code above xs → (code .depth ≡ 0 → ⊥) → Given w args code xs
+  pub code-given : (xs : Arguments) → ArgumentsOf w args code above xs → (code .depth ≡ 0 → ⊥) → Given w args code xs
   code-given xs (no-code e) h = absurd (h e)
   code-given xs (in-code {vs} from e c l i g a) h =
       record { values = vs; from = from; is = refl; count = c; inside = i; short = g; at = a }

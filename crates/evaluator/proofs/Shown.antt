@@ -16,7 +16,7 @@ use Rattle.laws.proofs.Fits.{Fits}
 use Rattle.evaluator.specs.Stands.{key-of}
 use Rattle.evaluator.specs.Entries.{Entry, find}
 use Rattle.evaluator.specs.Completed.{Stand, ArgumentsAt, Untouched}
-use Rattle.evaluator.specs.Planned.{CodeAt, EntryAt, value-at, function-at, Shows, Lent, no-code, in-code}
+use Rattle.evaluator.specs.Planned.{CodeAt, EntryAt, value-at, function-at, Shows, ArgumentsOf, no-code, in-code}
 use Rattle.evaluator.specs.declared.plan.Code.{Code}
 use Rattle.evaluator.specs.declared.scope.Found.{Found}
 use Rattle.evaluator.specs.declared.scope.Found.the-variants.{Value, Function, Nothing}
@@ -154,13 +154,13 @@ module _ (s t w : List ℕ) (floor : ℕ) where
 -- Arguments
 
 module _ {w w′ : List ℕ} {top from : ℕ} (u : Untouched w w′ top from) (args : List ℕ) where
-  arguments-kept : (i a b : ℕ) (vs : Exprs) → b ≤ top → ArgumentsAt w args i a b vs → ArgumentsAt w′ args i a b vs
+  each-kept : (i a b : ℕ) (vs : Exprs) → b ≤ top → ArgumentsAt w args i a b vs → ArgumentsAt w′ args i a b vs
   unfolding ArgumentsAt
-  arguments-kept i a b none h x = x
-  arguments-kept i a b (more v vs) h x =
-      (x .0, x .1, x .2, slice-below u a (x .0) (omega (arith, x .2)) ∙ x .3, x .4, arguments-kept (i + 1) (x .0) b vs h (x .5))
+  each-kept i a b none h x = x
+  each-kept i a b (more v vs) h x =
+      (x .0, x .1, x .2, slice-below u a (x .0) (omega (arith, x .2)) ∙ x .3, x .4, each-kept (i + 1) (x .0) b vs h (x .5))
 
-  pub lent-kept : (code : Code) (top′ : ℕ) (xs : Arguments) → Lent w args code top xs → top ≤ top′ → Lent w′ args code top′ xs
-  lent-kept code top′ xs (no-code h) up = no-code h
-  lent-kept code top′ xs (in-code a h size below inside short at) up =
-      in-code a h size (omega arith) (omega (arith, u .size)) (omega (arith, u .size)) (arguments-kept 0 a (code .to) _ below at)
+  pub arguments-kept : (code : Code) (top′ : ℕ) (xs : Arguments) → ArgumentsOf w args code top xs → top ≤ top′ → ArgumentsOf w′ args code top′ xs
+  arguments-kept code top′ xs (no-code h) up = no-code h
+  arguments-kept code top′ xs (in-code a h size below inside short at) up =
+      in-code a h size (omega arith) (omega (arith, u .size)) (omega (arith, u .size)) (each-kept 0 a (code .to) _ below at)

@@ -21,7 +21,7 @@ use Rattle.laws.proofs.Values.{FitsNode, FitsNodes, SoundHere, eval-sound, run-
 use Rattle.evaluator.specs.Stands.{next, NodeAt, NodesAt}
 use Rattle.evaluator.specs.Entries.{Entry}
 use Rattle.evaluator.specs.Completed.{Stand, Untouched}
-use Rattle.evaluator.specs.Planned.{Shows, Lent, Placed, at-top, at-element, at-inner}
+use Rattle.evaluator.specs.Planned.{Shows, ArgumentsOf, Placed, at-top, at-element, at-inner}
 use Rattle.evaluator.specs.Listed.{Ready, SomeReady, Over, LeftValues, LeftDefinition, Beginning}
 use Rattle.evaluator.specs.declared.values.State.{State}
 use Rattle.evaluator.specs.declared.plan.Stands.{Stands}
@@ -29,7 +29,7 @@ use Rattle.evaluator.specs.declared.plan.Code.{Code}
 use Rattle.evaluator.proofs.Nodes.{MoreAt, append-nodes, markers-append, nodes-append, nodes-done, nodes-more, node-next-in}
 use Rattle.evaluator.proofs.Borne.{some-append}
 use Rattle.evaluator.proofs.Places.{slice-split, untouched-less, untouched-then, stand-below}
-use Rattle.evaluator.proofs.Shown.{shows-more, shows-kept, shows-lower, lent-kept}
+use Rattle.evaluator.proofs.Shown.{shows-more, shows-kept, shows-lower, arguments-kept}
 
 -- Values one after the other
 
@@ -240,8 +240,8 @@ module _ (s t : List ℕ) (bound codes : ℕ) (args : List ℕ) (stands : Stands
                 namespaces = o .namespaces;
                 counted = o .counted;
                 most = o .most;
-                arguments = subst (λ x. Lent w′ args code (st′ .top) x) (sym (arguments-next one (st′ .steps) (st′ .room) (o .is)))
-                    (lent-kept (o .others) args code (st′ .top) (g .here .arguments) (set .arguments) order′);
+                arguments = subst (λ x. ArgumentsOf w′ args code (st′ .top) x) (sym (arguments-next one (st′ .steps) (st′ .room) (o .is)))
+                    (arguments-kept (o .others) args code (st′ .top) (g .here .arguments) (set .arguments) order′);
                 place = placed-beyond s t row (going-more .head) (going-more .node) stands (g .place) (set .place);
               };
               fitting = record { paid = o .paid; below = omega (arith, size, r .fitting .below); short = omega (arith, size, r .fitting .short) };
@@ -287,7 +287,7 @@ module _ (s t : List ℕ) (bound codes : ℕ) (args : List ℕ) (stands : Stands
                 namespaces = l .namespaces;
                 counted = l .counted ∙ set .counted;
                 most = rw (l .counted) (set .most);
-                arguments = lent-kept (l .others) args code (st′ .top) (g .here .arguments) (set .arguments) (omega arith);
+                arguments = arguments-kept (l .others) args code (st′ .top) (g .here .arguments) (set .arguments) (omega arith);
                 place = placed-beyond s t row (going-more .head) (going-more .node) stands (g .place) (set .place);
               };
               fitting = record { paid = l .paid; below = omega (arith, size, l .floor, r .fitting .below); short = omega (arith, size, r .fitting .short) };

@@ -39,7 +39,7 @@ pub record Untouched (w w′ : List ℕ) (below from : ℕ) : Type 0 where
   pub upper : drop from w′ ≡ drop from w
 
 -- the values are complete, charged, and stand from `start` on, in the place of all that stood there
-pub record Kept (w w′ : List ℕ) (st : State) (start : ℕ) (vs : Exprs) (st′ : State) : Type 0 where
+pub record Complete (w w′ : List ℕ) (st : State) (start : ℕ) (vs : Exprs) (st′ : State) : Type 0 where
   pub shallow : deepest vs ≤ 64
   pub charged : length (canonical vs) ≤ st .room
   pub state : st′ ≡ with-top st (st .room - length (canonical vs)) (start + length (canonical vs))
@@ -47,14 +47,14 @@ pub record Kept (w w′ : List ℕ) (st : State) (start : ℕ) (vs : Exprs) (st�
   pub others : Untouched w w′ start (st .floor)
 
 -- or refused, "6, 17"
-pub data Unkept (st : State) (vs : Exprs) : ℕ → Type 0 where
-  too-deep : 64 < deepest vs → Unkept st vs 6
-  too-long : deepest vs ≤ 64 → st .room < length (canonical vs) → Unkept st vs 17
+pub data Incomplete (st : State) (vs : Exprs) : ℕ → Type 0 where
+  too-deep : 64 < deepest vs → Incomplete st vs 6
+  too-long : deepest vs ≤ 64 → st .room < length (canonical vs) → Incomplete st vs 17
 
 -- completing the values of the expression at a row
 abbrev pub Completed : List ℕ → List ℕ → State → ℕ → ℕ → Exprs → Out → Type 0
-Completed w w′ st start row vs (Done st′) = Kept w w′ st start vs st′
-Completed w w′ st start row vs (Refused number at) = (at ≡ row) × Unkept st vs number
+Completed w w′ st start row vs (Done st′) = Complete w w′ st start vs st′
+Completed w w′ st start row vs (Refused number at) = (at ≡ row) × Incomplete st vs number
 
 -- the two values of a concat's operands joined, if they are arrays; else 11
 pub data Joined (w w′ : List ℕ) (st : State) (start row : ℕ) (a b : Expr) : Out → Type 0 where

@@ -235,6 +235,6 @@ Called s t w w′ names names′ sc visible depth code start row left (Done st) 
     → LeftBy s t w w′ names′ es (with-top st (st .room) start) h (hold (st .steps) (st .room) (finish (run-code codes) row h (as-call body behind) vs)) left
 
 -- what was completed, or refused
-abbrev pub left-by : Out → Answer
-left-by (Done st) = Values st
-left-by (Refused n r) = Stopped n r
+abbrev pub as-left : Out → Answer
+as-left (Done st) = Values st
+as-left (Refused n r) = Stopped n r

@@ -44,10 +44,10 @@ Shows s t w floor (e ∷ es) [] = ⊥
 Shows s t w floor (e ∷ es) (d ∷ ds) = EntryAt s t w floor e (d .marker) (d .name) (d .content) × Shows s t w floor es ds
 
 -- the arguments of the nearest code, which stand below `top`
-pub data Lent (w args : List ℕ) (code : Code) (top : ℕ) : Arguments → Type 0 where
-  no-code : code .depth ≡ 0 → Lent w args code top outside
+pub data ArgumentsOf (w args : List ℕ) (code : Code) (top : ℕ) : Arguments → Type 0 where
+  no-code : code .depth ≡ 0 → ArgumentsOf w args code top outside
   in-code : {vs : Exprs} (from : ℕ) → 0 < code .depth → code .count ≡ size vs → code .to ≤ top → code .to ≤ length w → length w ≤ 65536
-      → ArgumentsAt w args 0 from (code .to) vs → Lent w args code top (given vs)
+      → ArgumentsAt w args 0 from (code .to) vs → ArgumentsOf w args code top (given vs)
 
 -- what list the expression at a row belongs to; at the top level, what stands before it
 pub data Placed (s t : List ℕ) (row : ℕ) : Stands → Place → Type 0 where
@@ -93,7 +93,7 @@ pub record Setting (s t w names args : List ℕ) (floor top : ℕ) (sc : List En
   pub namespaces : Named s t names (h .namespaces)
   pub counted : count ≡ length (h .namespaces)
   pub most : count ≤ 64
-  pub arguments : Lent w args code top (h .arguments)
+  pub arguments : ArgumentsOf w args code top (h .arguments)
   pub place : Placed s t row stands (h .place)
 
 -- some expression stands at a row, in some setting
@@ -113,7 +113,7 @@ pub record FormAt (s t : List ℕ) (row : ℕ) : Type 0 where
   pub at : NodeAt s t row (branch number elements)
 
 -- some namespaces are so many, and the array's
-pub record Counted (s t names : List ℕ) (count : ℕ) : Type 0 where
+pub record NamespacesAre (s t names : List ℕ) (count : ℕ) : Type 0 where
   pub namespaces : List Namespace
   pub are : Named s t names namespaces
   pub counted : count ≡ length namespaces

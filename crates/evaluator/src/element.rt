@@ -25,7 +25,7 @@ ghost use Rattle.evaluator.specs.Stands.{LeafAt};
 ghost use Rattle.evaluator.specs.Entries.{Entry, entries};
 ghost use Rattle.evaluator.specs.Completed.{Fitting, stepped, Completed};
 ghost use Rattle.evaluator.specs.Planned.{CodeAt};
-ghost use Rattle.evaluator.specs.Listed.{Begun, Beginning, SomeBeginning, CanFinish, Finished, CanReturn, Returned, left-by};
+ghost use Rattle.evaluator.specs.Listed.{Begun, Beginning, SomeBeginning, CanFinish, Finished, CanReturn, Returned, as-left};
 ghost use Rattle.evaluator.specs.Performed.{one-named, Performing, going};
 ghost use Rattle.evaluator.specs.declared.values.Out.the-variants.{Done};
 
@@ -54,7 +54,7 @@ pub enum Step {
 
 // What was completed, or refused.
 pub fn leaves(out: Out) -> Left
-    ensures { λ r. ⌜ r ≡ left-by out ⌝ }
+    ensures { λ r. ⌜ r ≡ as-left out ⌝ }
 {
     match out {
         Out::Done(state) => Left::Values(state),

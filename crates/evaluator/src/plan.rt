@@ -19,7 +19,7 @@ ghost use Rattle.laws.proofs.Fits.{Fits};
 ghost use Rattle.evaluator.specs.Stands.{LeafAt, NodeAt, NodesAt, key-of, no-key, head-key};
 ghost use Rattle.evaluator.specs.Entries.{function-bit, Entry, entries};
 ghost use Rattle.evaluator.specs.Named.{Named};
-ghost use Rattle.evaluator.specs.Planned.{Shows, Lent, Placed, Planned, Setting, Known, FormAt, Counted};
+ghost use Rattle.evaluator.specs.Planned.{Shows, ArgumentsOf, Placed, Planned, Setting, Known, FormAt, NamespacesAre};
 ghost use Rattle.evaluator.specs.declared.plan.Stands.the-variants.{Top};
 ghost use Rattle.evaluator.specs.declared.plan.After.the-variants.{Form};
 ghost use Rattle.evaluator.specs.declared.plan.Task.the-variants.{Refuse, Inside};
@@ -106,7 +106,7 @@ fn associate(
     requires { ⌜ ((m : ℕ) × (n : ℕ) × LeafAt (now s) (now table) named (ref m n)) ⌝ }
     requires { ⌜ ((bs : List ℕ) × LeafAt (now s) (now table) id (array bs)) ⌝ }
     requires { ⌜ ((before : Nodes) × NodesAt (now s) (now table) 0 row before) ⌝ }
-    requires { ⌜ Counted (now s) (now table) (now names) count ⌝ }
+    requires { ⌜ NamespacesAre (now s) (now table) (now names) count ⌝ }
     ensures { λ r. ⌜ ((w : List ℕ) (floor m n : ℕ) (sc : List Entry) (bs : List ℕ) (head : Node) (es : Nodes) (h : Here) → LeafAt (now (s .entry)) (now (table .entry)) named (ref m n)
         → LeafAt (now (s .entry)) (now (table .entry)) id (array bs) → named ≡ row + 2 → id ≡ row + 3 → Placed (now (s .entry)) (now (table .entry)) row Top (h .place)
         → Named (now (s .entry)) (now (table .entry)) (now (names .entry)) (h .namespaces) → count ≡ length (h .namespaces)
@@ -139,7 +139,7 @@ fn associate(
 
 fn ns(s: &[u8], table: &[u32], names: &[u32; 64], count: usize, stands: Stands, row: usize) -> Task
     requires { ⌜ FormAt (now s) (now table) row ⌝ }
-    requires { ⌜ Counted (now s) (now table) (now names) count ⌝ }
+    requires { ⌜ NamespacesAre (now s) (now table) (now names) count ⌝ }
     requires { ⌜ ((e : Place) × Placed (now s) (now table) row stands e) ⌝ }
     ensures { λ r. ⌜ ((w : List ℕ) (floor q : ℕ) (sc : List Entry) (es : Nodes) (h : Here) → NodeAt (now (s .entry)) (now (table .entry)) row (branch q es) → head-word es ≡ ns
         → Placed (now (s .entry)) (now (table .entry)) row stands (h .place) → Named (now (s .entry)) (now (table .entry)) (now (names .entry)) (h .namespaces) → count ≡ length (h .namespaces)
@@ -174,7 +174,7 @@ fn definition(
     row: usize,
 ) -> Task
     requires { ⌜ FormAt (now s) (now table) row ⌝ }
-    requires { ⌜ Counted (now s) (now table) (now names) count ⌝ }
+    requires { ⌜ NamespacesAre (now s) (now table) (now names) count ⌝ }
     ensures { λ r. ⌜ ((w : List ℕ) (floor q : ℕ) (sc : List Entry) (es : Nodes) (h : Here) → NodeAt (now (s .entry)) (now (table .entry)) row (branch q es)
         → Named (now (s .entry)) (now (table .entry)) (now (names .entry)) (h .namespaces) → count ≡ length (h .namespaces)
         → visible ≡ length sc → visible ≡ length (h .scope)
@@ -221,7 +221,7 @@ fn define(
     row: usize,
 ) -> Task
     requires { ⌜ FormAt (now s) (now table) row ⌝ }
-    requires { ⌜ Counted (now s) (now table) (now names) count ⌝ }
+    requires { ⌜ NamespacesAre (now s) (now table) (now names) count ⌝ }
     ensures { λ r. ⌜ ((w : List ℕ) (floor q : ℕ) (sc : List Entry) (es : Nodes) (h : Here) → NodeAt (now (s .entry)) (now (table .entry)) row (branch q es)
         → Placed (now (s .entry)) (now (table .entry)) row stands (h .place) → Named (now (s .entry)) (now (table .entry)) (now (names .entry)) (h .namespaces) → count ≡ length (h .namespaces)
         → visible ≡ length sc → visible ≡ length (h .scope)
@@ -272,8 +272,8 @@ fn written(s: &[u8], table: &[u32], row: usize) -> usize
 
 fn arg(s: &[u8], table: &[u32], args: &[u32; 64], code: Code, row: usize) -> Task
     requires { ⌜ FormAt (now s) (now table) row ⌝ }
-    requires { ⌜ ((w : List ℕ) × (top : ℕ) × (xs : Arguments) × Lent w (now args) code top xs) ⌝ }
-    ensures { λ r. ⌜ ((w : List ℕ) (floor top q : ℕ) (sc : List Entry) (es : Nodes) (xs : Arguments) → NodeAt (now (s .entry)) (now (table .entry)) row (branch q es) → Lent w (now (args .entry)) code top xs
+    requires { ⌜ ((w : List ℕ) × (top : ℕ) × (xs : Arguments) × ArgumentsOf w (now args) code top xs) ⌝ }
+    ensures { λ r. ⌜ ((w : List ℕ) (floor top q : ℕ) (sc : List Entry) (es : Nodes) (xs : Arguments) → NodeAt (now (s .entry)) (now (table .entry)) row (branch q es) → ArgumentsOf w (now (args .entry)) code top xs
         → Planned (now (s .entry)) (now (table .entry)) w floor sc row es r (expect-one es λ a. expect-int a λ n. plan-arg n xs)) ⌝ }
 {
     let n = written(s, table, row);
@@ -295,8 +295,8 @@ fn arg(s: &[u8], table: &[u32], args: &[u32; 64], code: Code, row: usize) -> Tas
 
 fn rest(s: &[u8], table: &[u32], args: &[u32; 64], code: Code, row: usize) -> Task
     requires { ⌜ FormAt (now s) (now table) row ⌝ }
-    requires { ⌜ ((w : List ℕ) × (top : ℕ) × (xs : Arguments) × Lent w (now args) code top xs) ⌝ }
-    ensures { λ r. ⌜ ((w : List ℕ) (floor top q : ℕ) (sc : List Entry) (es : Nodes) (xs : Arguments) → NodeAt (now (s .entry)) (now (table .entry)) row (branch q es) → Lent w (now (args .entry)) code top xs
+    requires { ⌜ ((w : List ℕ) × (top : ℕ) × (xs : Arguments) × ArgumentsOf w (now args) code top xs) ⌝ }
+    ensures { λ r. ⌜ ((w : List ℕ) (floor top q : ℕ) (sc : List Entry) (es : Nodes) (xs : Arguments) → NodeAt (now (s .entry)) (now (table .entry)) row (branch q es) → ArgumentsOf w (now (args .entry)) code top xs
         → Planned (now (s .entry)) (now (table .entry)) w floor sc row es r (expect-one es λ a. expect-int a λ n. plan-rest n xs)) ⌝ }
 {
     let n = written(s, table, row);

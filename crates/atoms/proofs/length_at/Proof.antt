@@ -10,7 +10,7 @@ use lib.Seq.{drop-drop}
 use Rattle.spec.specs.Reading.{Taken, taken, failed}
 use Rattle.laws.proofs.Steps.{all-bytes}
 use Rattle.atoms.specs.Tokens.{measured, around}
-use Rattle.atoms.proofs.Places.{measured-wrong, threes-few, length-many, counted, around-wrong, around-held, ToldLength, told-plain}
+use Rattle.atoms.proofs.Places.{measured-wrong, threes-few, length-many, behind-threes, around-wrong, around-held, ToldLength, told-plain}
 use Rattle.atoms.proofs.length_at.Statement.{statement}
 use Rattle.atoms.proofs.length_at.Tie as tie
 
@@ -34,12 +34,12 @@ returns c =
 add-plain-length : tie.Need-add-plain-length
 add-plain-length c =
     let a = c .before .before .before .args in
-    omega (arith, counted (a .s .now) (a .at) _ (omega arith) (c .before .threes .ensures) (c .if1 .left) .inside)
+    omega (arith, behind-threes (a .s .now) (a .at) _ (omega arith) (c .before .threes .ensures) (c .if1 .left) .inside)
 
 plain-length-requires : tie.Need-plain-length-requires
 plain-length-requires c κs =
     let a = c .before .before .before .args in
-    counted (a .s .now) (a .at) _ (omega arith) (c .before .threes .ensures) (c .if1 .left) .inside
+    behind-threes (a .s .now) (a .at) _ (omega arith) (c .before .threes .ensures) (c .if1 .left) .inside
 
 enum-known-number : tie.Need-enum-known-number
 enum-known-number c = search needs
@@ -50,7 +50,7 @@ enum-known-value c = search needs
 nested-length-requires : tie.Need-nested-length-requires
 nested-length-requires c κs =
     let a = c .before .before .before .before .before .before .before .args in
-    let k = counted (a .s .now) (a .at) _ (omega arith) (c .before .before .before .before .before .threes .ensures) (c .before .before .before .before .if1 .left) in
+    let k = behind-threes (a .s .now) (a .at) _ (omega arith) (c .before .before .before .before .before .threes .ensures) (c .before .before .before .before .if1 .left) in
     let stream = all-bytes (a .s .now) (λ i. c .before .before .before .before .before .before .shared-slice-known .given i .fits) in
     let t = told-plain (a .s .now) _ _ _ stream (k .inside) (sym (c .before .before .before .plain-length .ensures) ∙ c .before .value .given .1) in
     (omega arith, t .inside, omega (arith, t .held))
@@ -59,7 +59,7 @@ returns-2 : tie.Need-returns-2
 returns-2 c =
     let a = c .before .before .before .before .before .before .before .args in
     let s = a .s .now in
-    let k = counted s (a .at) _ (omega arith) (c .before .before .before .before .before .threes .ensures) (c .before .before .before .before .if1 .left) in
+    let k = behind-threes s (a .at) _ (omega arith) (c .before .before .before .before .before .threes .ensures) (c .before .before .before .before .if1 .left) in
     sym (ap (measured (length s)) (k .is) ∙ around-wrong (length s) _ _ _ _ (sym (c .before .before .before .plain-length .ensures) ∙ c .before .number .given .1))
 
 -- a length that was told serves as well as the exact one
@@ -76,7 +76,7 @@ returns-3 : tie.Need-returns-3
 returns-3 c =
     let a = c .before .before .before .before .before .before .before .before .args in
     let s = a .s .now in
-    let k = counted s (a .at) _ (omega arith) (c .before .before .before .before .before .before .threes .ensures) (c .before .before .before .before .before .if1 .left) in
+    let k = behind-threes s (a .at) _ (omega arith) (c .before .before .before .before .before .before .threes .ensures) (c .before .before .before .before .before .if1 .left) in
     let stream = all-bytes s (λ i. c .before .before .before .before .before .before .before .shared-slice-known .given i .fits) in
     let t = told-plain s _ _ _ stream (k .inside) (sym (c .before .before .before .before .plain-length .ensures) ∙ c .before .before .value .given .1) in
     c .nested-length .ensures ∙ told-around s _ _ _ _ (omega arith) t ∙ sym (ap (measured (length s)) (k .is))

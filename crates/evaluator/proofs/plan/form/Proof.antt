@@ -9,7 +9,7 @@ use Rattle.laws.specs.Demands.{Bytes}
 use Rattle.laws.proofs.Steps.{all-bytes}
 use Rattle.evaluator.specs.Stands.{NodeAt, head-key, key-of}
 use Rattle.evaluator.specs.Entries.{entries}
-use Rattle.evaluator.specs.Planned.{Lent, Planned, refuses, Known, Counted}
+use Rattle.evaluator.specs.Planned.{ArgumentsOf, Planned, refuses, Known, NamespacesAre}
 use Rattle.evaluator.proofs.Nodes.{form-row}
 use Rattle.evaluator.proofs.Entries.{entries-length}
 use Rattle.evaluator.proofs.Keys.{Function, word-key, key-small}
@@ -39,12 +39,12 @@ module _ (start : tie.Start) where
   abbrev known : let a = start .args in Known (a .s .now) (a .table .now) (a .names .now) (a .args .now) (entries (a .keys .now) (a .places .now) (a .scope)) (a .count) (a .stands) (a .code) (a .row)
   known = start .pre .1
 
-  counted : let a = start .args in Counted (a .s .now) (a .table .now) (a .names .now) (a .count)
+  counted : let a = start .args in NamespacesAre (a .s .now) (a .table .now) (a .names .now) (a .count)
   counted =
       let set = known .setting in
       record { namespaces = known .here .namespaces; are = set .namespaces; counted = set .counted; most = set .most }
 
-  lent : let a = start .args in (w : List ℕ) × (top : ℕ) × (xs : Arguments) × Lent w (a .args .now) (a .code) top xs
+  lent : let a = start .args in (w : List ℕ) × (top : ℕ) × (xs : Arguments) × ArgumentsOf w (a .args .now) (a .code) top xs
   lent = (known .work, known .top, known .here .arguments, known .setting .arguments)
 
 -- the key is none that the match names
