@@ -11,6 +11,7 @@ pub struct Format {
     pub list: fn(usize, &mut Vec<u8>),
 }
 
+#[cfg(msgpack)]
 pub const MSGPACK: Format = Format {
     nil: 0xC0,
     number: |number, out| match number {
@@ -30,6 +31,7 @@ pub const MSGPACK: Format = Format {
     },
 };
 
+#[cfg(cbor)]
 pub const CBOR: Format = Format {
     nil: 0xF6,
     number: |number, out| cbor_head(0x00, number as usize, out),
@@ -37,6 +39,7 @@ pub const CBOR: Format = Format {
     list: |length, out| cbor_head(0x80, length, out),
 };
 
+#[cfg(cbor)]
 fn cbor_head(kind: u8, number: usize, out: &mut Vec<u8>) {
     match number {
         0..=0x17 => out.push(kind | number as u8),

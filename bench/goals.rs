@@ -1,5 +1,6 @@
 //! The goals, and which workloads meet them.
 
+use crate::peers;
 use crate::timed::Timed;
 
 struct Goal {
@@ -9,10 +10,12 @@ struct Goal {
     met_by: fn(&Timed) -> Option<f64>,
 }
 
-/// msgpack-c is the first peer, if it is installed.
+/// None if msgpack-c is not installed or can't do the document.
 fn beside_msgpack(timed: &Timed) -> Option<f64> {
-    let time = timed.peers.first().copied().flatten()?;
-    Some(time / timed.library)
+    let msgpack = peers::ALL
+        .iter()
+        .position(|peer| peer.name == "msgpack-c")?;
+    Some(timed.peers[msgpack]? / timed.library)
 }
 
 fn beside_copy(timed: &Timed) -> Option<f64> {

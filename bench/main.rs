@@ -31,12 +31,6 @@ use workloads::Workload;
 pub const ROWS: usize = 65_536;
 pub const BYTES: usize = 65_536;
 
-const INTRODUCTION: &str = "\
-Nanoseconds, the least of 11 rounds. A unit is a row for Read and Write, a step for Evaluate, an item
-for msgpack-c and libcbor, of which Read stands beside decoding and Write beside encoding. The library's
-buffers are lent once and not cleared between calls; the second program allocates as it goes.
-";
-
 fn main() -> ExitCode {
     let workloads = workloads::all();
     let failed = workloads.iter().filter(|each| !same::answers(each)).count();
@@ -48,7 +42,6 @@ fn main() -> ExitCode {
 }
 
 fn time_all(workloads: &[Workload]) {
-    println!("{INTRODUCTION}");
     table::print_head();
     let mut all = Vec::new();
     for workload in workloads {

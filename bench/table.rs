@@ -2,8 +2,14 @@
 
 use crate::peers;
 use crate::timed::Timed;
+use crate::timing::ROUNDS;
 
 pub fn print_head() {
+    println!(
+        "Nanoseconds, the least of {ROUNDS} rounds. A unit is a row for Read and Write, a step for Evaluate, an item\n\
+         for msgpack-c and libcbor, of which Read stands beside decoding and Write beside encoding. The library's\n\
+         buffers are lent once and not cleared between calls; the second program allocates as it goes.\n"
+    );
     let peers: String = peers::ALL
         .iter()
         .map(|peer| format!("{:>10}", peer.name))

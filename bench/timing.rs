@@ -2,7 +2,7 @@
 
 use std::time::Instant;
 
-const ROUNDS: usize = 11;
+pub const ROUNDS: usize = 11;
 const ROUND_NANOSECONDS: f64 = 4.0e6;
 
 /// What is timed.

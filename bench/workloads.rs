@@ -64,7 +64,10 @@ fn bodies() -> Vec<(&'static str, Vec<u8>)> {
         ("small message", message()),
         ("large message", facts.repeat(1_000)),
         ("one large array", array(&large)),
-        ("large array in a form", form(&[&name(1), &array(&large[..32_000])])),
+        (
+            "large array in a form",
+            form(&[&name(1), &array(&large[..32_000])]),
+        ),
         ("nils", vec![0x00; 65_500]),
         ("small integers", vec![0x85; 65_500]),
         ("deep forms", deep(60).repeat(6)),
