@@ -309,6 +309,7 @@ pub fn token_at(s: &[u8], at: usize) -> Token
         }
         _ => {}
     }
+    // Kept apart, so that the answers above need not be in memory.
     let other = any_token(s, at);
     other
 }

@@ -1,19 +1,27 @@
--- What a call's answer gives is what the definition gives. Document 01: "For any answer that is an enum". Assumes nothing.
-use mathlib.Core.Path.{_≡_, ap}
+-- What a call's answer gives, and what it leaves in the buffers, is the definition's. Document 01: "For any answer that is an enum". Assumes nothing.
+use mathlib.Core.Path.{_≡_, ap, _∙_}
 use mathlib.Core.List.{List}
 use Prim.Native.Nat.{ℕ}
-use Rattle.spec.specs.Calls.{Answer}
+use Rattle.spec.specs.Calls.{Answer, refusal, acceptance}
 use Rattle.bulk.specs.Answers.{Answered, AnsweredEvaluation}
 use Rattle.bulk.specs.declared.Answer.{Answer as Given}
 use Rattle.bulk.specs.declared.Answer.the-variants.{Accepted, Refused}
 use Rattle.bulk.specs.declared.Evaluation.{Evaluation}
 use Rattle.bulk.specs.declared.Evaluation.the-variants.{Accepted as Result, Refused as Refusal}
-use Rattle.bulk_bench.specs.Given.{given, result}
+use Rattle.bulk_bench.specs.Given.{given, result, Gives}
 
-pub given-is : (a : Answer) (r : Given) (t o : List ℕ) → Answered a r t o → given r ≡ a .given
-given-is a (Accepted n) t o h = ap (λ (b : Answer). b .given) (h .is)
-given-is a (Refused w p) t o h = ap (λ (b : Answer). b .given) (h .is)
+-- an answer's parts, where it is as stated
+parts : (a b : Answer) (r : ℕ) → r ≡ b .given → b ≡ a → Gives a r (b .table) (b .output)
+parts a b r e h = record {
+  number = e ∙ ap (λ (x : Answer). x .given) h;
+  rows = ap (λ (x : Answer). x .table) h;
+  bytes = ap (λ (x : Answer). x .output) h;
+}
 
-pub result-is : (a : Answer) (r : Evaluation) (t o : List ℕ) → AnsweredEvaluation a r t o → result r ≡ a .given
-result-is a (Result size steps) t o h = ap (λ (b : Answer). b .given) (h .is)
-result-is a (Refusal w p) t o h = ap (λ (b : Answer). b .given) (h .is)
+pub given-is : (a : Answer) (r : Given) (n : ℕ) (t o : List ℕ) → n ≡ given r → Answered a r t o → Gives a n t o
+given-is a (Accepted k) n t o e h = parts a (acceptance k 0 t o) n e (h .is)
+given-is a (Refused w p) n t o e h = parts a (refusal w p t o) n e (h .is)
+
+pub result-is : (a : Answer) (r : Evaluation) (n : ℕ) (t o : List ℕ) → n ≡ result r → AnsweredEvaluation a r t o → Gives a n t o
+result-is a (Result size steps) n t o e h = parts a (acceptance size steps t o) n e (h .is)
+result-is a (Refusal w p) n t o e h = parts a (refusal w p t o) n e (h .is)

@@ -1,6 +1,9 @@
 -- What an answer gives: rows, the length, or the result's length. Document 01: "A refusal gives number and place, counts zero."
 -- Assumes nothing.
 use Prim.Native.Nat.{ℕ}
+use mathlib.Core.Path.{_≡_}
+use mathlib.Core.List.{List}
+use Rattle.spec.specs.Calls.{Answer as Stated}
 use Rattle.bulk.specs.declared.Answer.{Answer}
 use Rattle.bulk.specs.declared.Answer.the-variants.{Accepted, Refused}
 use Rattle.bulk.specs.declared.Evaluation.{Evaluation}
@@ -13,3 +16,9 @@ given (Refused number place) = 0
 abbrev pub result : Evaluation → ℕ
 result (Result size steps) = size
 result (Refusal number place) = 0
+
+-- the number, the table and the output are those of the definition's answer
+pub record Gives (a : Stated) (r : ℕ) (table output : List ℕ) : Type 0 where
+  pub number : r ≡ a .given
+  pub rows : table ≡ a .table
+  pub bytes : output ≡ a .output

@@ -1,10 +1,12 @@
-// The calls as functions that C and Rust can call, for the benchmark (`bench/`): each gives document 01's rows or length, which is 0 on a refusal.
+// The calls as functions that C and Rust can call, for the benchmark (`bench/`): each gives document 01's rows or length, which is 0 on a refusal,
+// and leaves table and output as document 01 says.
 use bulk::Answer;
 use bulk::Evaluation;
 ghost use mathlib.Core.Path.{_≡_};
+ghost use mathlib.Core.List.{[]};
 ghost use lib.ListN.{length};
 ghost use Rattle.spec.specs.Calls.{Read, Write, Evaluate};
-ghost use Rattle.bulk_bench.specs.Given.{given, result};
+ghost use Rattle.bulk_bench.specs.Given.{given, result, Gives};
 
 // What Read or Write gives.
 fn given(answer: Answer) -> usize
@@ -34,14 +36,14 @@ fn result(answer: Evaluation) -> usize
 
 #[no_mangle]
 pub extern "C" fn bulk_bench_read(stream: &[u8], table: &mut [u32]) -> usize
-    ensures { λ r. ⌜ r ≡ Read (now (stream .entry)) (now (table .entry)) .given ⌝ }
+    ensures { λ r. ⌜ Gives (Read (now (stream .entry)) (now (table .entry))) r (now (table .exit)) [] ⌝ }
 {
     given(bulk::read(stream, table))
 }
 
 #[no_mangle]
 pub extern "C" fn bulk_bench_write(stream: &[u8], table: &mut [u32], output: &mut [u8]) -> usize
-    ensures { λ r. ⌜ r ≡ Write (now (stream .entry)) (now (table .entry)) (now (output .entry)) .given ⌝ }
+    ensures { λ r. ⌜ Gives (Write (now (stream .entry)) (now (table .entry)) (now (output .entry))) r (now (table .exit)) (now (output .exit)) ⌝ }
 {
     given(bulk::write(stream, table, output))
 }
@@ -54,7 +56,8 @@ pub extern "C" fn bulk_bench_evaluate(
     output: &mut [u8],
     steps: u64,
 ) -> usize
-    ensures { λ r. ⌜ r ≡ Evaluate (now (stream .entry)) (now (table .entry)) (length (now (workspace .entry))) (now (output .entry)) steps .given ⌝ }
+    ensures { λ r.
+        ⌜ Gives (Evaluate (now (stream .entry)) (now (table .entry)) (length (now (workspace .entry))) (now (output .entry)) steps) r (now (table .exit)) (now (output .exit)) ⌝ }
 {
     result(bulk::evaluate(stream, table, workspace, output, steps))
 }

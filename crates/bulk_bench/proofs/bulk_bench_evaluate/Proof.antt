@@ -1,7 +1,6 @@
--- `bulk_bench::bulk_bench_evaluate` meets its contract: what `bulk::evaluate` answers gives what `Evaluate` gives.
+-- `bulk_bench::bulk_bench_evaluate` meets its contract: what `bulk::evaluate` answers and leaves is what `Evaluate` gives and leaves.
 -- Assumes nothing.
 use borrow.Author.Needs.{needs}
-use mathlib.Core.Path.{_∙_}
 use Rattle.bulk_bench.proofs.Told.{result-is}
 use Rattle.bulk_bench.proofs.bulk_bench_evaluate.Statement.{statement}
 use Rattle.bulk_bench.proofs.bulk_bench_evaluate.Tie as tie
@@ -22,7 +21,7 @@ same-length-3 : tie.Need-same-length-3
 same-length-3 c = search needs
 
 returns : tie.Need-returns
-returns c = c .result .ensures ∙ result-is _ _ _ _ (c .before .before .before .before .before .before .before .evaluate .ensures)
+returns c = result-is _ _ _ _ _ (c .result .ensures) (c .before .before .before .before .before .before .before .evaluate .ensures)
 
 pub bulk-bench-evaluate-spec : {M : Type 1} → statement M
 bulk-bench-evaluate-spec =

@@ -1,7 +1,6 @@
--- `bulk_bench::bulk_bench_read` meets its contract: what `bulk::read` answers gives what `Read` gives.
+-- `bulk_bench::bulk_bench_read` meets its contract: what `bulk::read` answers and leaves is what `Read` gives and leaves.
 -- Assumes nothing.
 use borrow.Author.Needs.{needs}
-use mathlib.Core.Path.{_∙_}
 use Rattle.bulk_bench.proofs.Told.{given-is}
 use Rattle.bulk_bench.proofs.bulk_bench_read.Statement.{statement}
 use Rattle.bulk_bench.proofs.bulk_bench_read.Tie as tie
@@ -16,7 +15,7 @@ same-length : tie.Need-same-length
 same-length c = search needs
 
 returns : tie.Need-returns
-returns c = c .given .ensures ∙ given-is _ _ _ _ (c .before .before .before .read .ensures)
+returns c = given-is _ _ _ _ _ (c .given .ensures) (c .before .before .before .read .ensures)
 
 pub bulk-bench-read-spec : {M : Type 1} → statement M
 bulk-bench-read-spec = tie.close (tie.spec read-requires given-requires same-length returns)

@@ -1,7 +1,6 @@
--- `bulk_bench::bulk_bench_write` meets its contract: what `bulk::write` answers gives what `Write` gives.
+-- `bulk_bench::bulk_bench_write` meets its contract: what `bulk::write` answers and leaves is what `Write` gives and leaves.
 -- Assumes nothing.
 use borrow.Author.Needs.{needs}
-use mathlib.Core.Path.{_∙_}
 use Rattle.bulk_bench.proofs.Told.{given-is}
 use Rattle.bulk_bench.proofs.bulk_bench_write.Statement.{statement}
 use Rattle.bulk_bench.proofs.bulk_bench_write.Tie as tie
@@ -19,7 +18,7 @@ same-length-2 : tie.Need-same-length-2
 same-length-2 c = search needs
 
 returns : tie.Need-returns
-returns c = c .given .ensures ∙ given-is _ _ _ _ (c .before .before .before .before .before .write .ensures)
+returns c = given-is _ _ _ _ _ (c .given .ensures) (c .before .before .before .before .before .write .ensures)
 
 pub bulk-bench-write-spec : {M : Type 1} → statement M
 bulk-bench-write-spec =
