@@ -15,18 +15,6 @@ use Rattle.atoms.proofs.Places.{ToldLength, told-length, told-bytes, ar
 use Rattle.atoms.proofs.any_array.Statement.{statement}
 use Rattle.atoms.proofs.any_array.Tie as tie
 
-add-length-at : tie.Need-add-length-at
-add-length-at c = search needs
-
-length-at-requires : tie.Need-length-at-requires
-length-at-requires c κs = search needs
-
-enum-known-number : tie.Need-enum-known-number
-enum-known-number c = search needs
-
-enum-known-value : tie.Need-enum-known-value
-enum-known-value c = search needs
-
 -- what was told of the length
 at-length : (c : tie.After-length-at) (v e : ℕ) → c .length-at .result ≡ Is v e
     → ToldLength (c .before .before .args .s .now) (length-expr 7 (drop (suc (c .before .before .args .at)) (c .before .before .args .s .now))) v e
@@ -56,10 +44,10 @@ pub any-array-spec : {M : Type 1} → statement M
 any-array-spec =
     tie.close
     (tie.spec
-    add-length-at
-    length-at-requires
-    enum-known-number
-    enum-known-value
+    (λ c. search needs)
+    (λ c κs. search needs)
+    (λ c. search needs)
+    (λ c. search needs)
     bytes-at-requires
     returns
     returns-2)

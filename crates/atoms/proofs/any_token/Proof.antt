@@ -8,39 +8,9 @@ use Rattle.atoms.proofs.First.{first-nil, first-opening, first-closing,
 use Rattle.atoms.proofs.any_token.Statement.{statement}
 use Rattle.atoms.proofs.any_token.Tie as tie
 
-shared-slice-read-b : tie.Need-shared-slice-read-b
-shared-slice-read-b c = search needs
-
-add-t7 : tie.Need-add-t7
-add-t7 c = search needs
-
-array-at-requires : tie.Need-array-at-requires
-array-at-requires c κs = search needs
-
-long-reference-requires : tie.Need-long-reference-requires
-long-reference-requires c κs = search needs
-
-cast-reference : tie.Need-cast-reference
-cast-reference c = search needs
-
-add-reference : tie.Need-add-reference
-add-reference c = search needs
-
-reference-requires : tie.Need-reference-requires
-reference-requires c κs = search needs
-
-add-t11 : tie.Need-add-t11
-add-t11 c = search needs
-
-add-bytes-at : tie.Need-add-bytes-at
-add-bytes-at c = search needs
-
 cast-bytes-at : tie.Need-cast-bytes-at
 cast-bytes-at c =
     omega (arith, c .before .before .before .before .shared-slice-known2 .given (c .before .before .before .before .before .before .args .at))
-
-bytes-at-requires : tie.Need-bytes-at-requires
-bytes-at-requires c κs = search needs
 
 returns : tie.Need-returns
 returns c = let a = c .before .before .before .args in sym (first-nil (a .s .now) (a .at) (omega arith) (c .match .keys1))
@@ -93,17 +63,17 @@ pub any-token-spec : {M : Type 1} → statement M
 any-token-spec =
     tie.close
     (tie.spec
-    shared-slice-read-b
-    add-t7
-    array-at-requires
-    long-reference-requires
-    cast-reference
-    add-reference
-    reference-requires
-    add-t11
-    add-bytes-at
+    (λ c. search needs)
+    (λ c. search needs)
+    (λ c κs. search needs)
+    (λ c κs. search needs)
+    (λ c. search needs)
+    (λ c. search needs)
+    (λ c κs. search needs)
+    (λ c. search needs)
+    (λ c. search needs)
     cast-bytes-at
-    bytes-at-requires
+    (λ c κs. search needs)
     returns
     returns-2
     returns-3

@@ -18,44 +18,8 @@ by-bytes : (s : List ℕ) (at : ℕ) {r : Token} {x y : Taken (List ℕ)} → r 
     → r ≡ shown-atom at (length s) (and-then y as-array)
 by-bytes s at told is = told ∙ ap (λ (z : Taken (List ℕ)). shown-atom at (length s) (and-then z as-array)) is
 
-sub-if1 : tie.Need-sub-if1
-sub-if1 c = search needs
-
-any-array-requires : tie.Need-any-array-requires
-any-array-requires c κs = search needs
-
-returns : tie.Need-returns
-returns c = search needs
-
-add-b : tie.Need-add-b
-add-b c = search needs
-
-shared-slice-read-b : tie.Need-shared-slice-read-b
-shared-slice-read-b c = search needs
-
-add-bytes-at : tie.Need-add-bytes-at
-add-bytes-at c = search needs
-
-add-bytes-at-2 : tie.Need-add-bytes-at-2
-add-bytes-at-2 c = search needs
-
-shared-slice-read-bytes-at : tie.Need-shared-slice-read-bytes-at
-shared-slice-read-bytes-at c = search needs
-
 cast-bytes-at : tie.Need-cast-bytes-at
 cast-bytes-at c = omega (arith, c .shared-slice-known3 .given (c .before .before .before .before .before .args .at + 2))
-
-bytes-at-requires : tie.Need-bytes-at-requires
-bytes-at-requires c κs = search needs
-
-add-bytes-at-3 : tie.Need-add-bytes-at-3
-add-bytes-at-3 c = search needs
-
-add-bytes-at-4 : tie.Need-add-bytes-at-4
-add-bytes-at-4 c = search needs
-
-shared-slice-read-bytes-at-2 : tie.Need-shared-slice-read-bytes-at-2
-shared-slice-read-bytes-at-2 c = search needs
 
 cast-bytes-at-2 : tie.Need-cast-bytes-at-2
 cast-bytes-at-2 c = omega (arith, c .shared-slice-known4 .given (c .before .before .before .before .before .args .at + 2))
@@ -63,32 +27,11 @@ cast-bytes-at-2 c = omega (arith, c .shared-slice-known4 .given (c .before .befo
 mul-bytes-at : tie.Need-mul-bytes-at
 mul-bytes-at c = omega (arith, c .shared-slice-known4 .given (c .before .before .before .before .before .args .at + 2))
 
-add-bytes-at-5 : tie.Need-add-bytes-at-5
-add-bytes-at-5 c = search needs
-
-shared-slice-read-bytes-at-3 : tie.Need-shared-slice-read-bytes-at-3
-shared-slice-read-bytes-at-3 c = search needs
-
 cast-bytes-at-3 : tie.Need-cast-bytes-at-3
 cast-bytes-at-3 c = omega (arith, c .shared-slice-known5 .given (c .before .before .before .before .before .before .args .at + 3))
 
 add-bytes-at-6 : tie.Need-add-bytes-at-6
 add-bytes-at-6 c = let a = c .before .before .before .before .before .before .args in omega (arith, c .shared-slice-known5 .given (a .at + 2), c .shared-slice-known5 .given (a .at + 3))
-
-bytes-at-requires-2 : tie.Need-bytes-at-requires-2
-bytes-at-requires-2 c κs = search needs
-
-add-bytes-at-7 : tie.Need-add-bytes-at-7
-add-bytes-at-7 c = search needs
-
-cast-bytes-at-4 : tie.Need-cast-bytes-at-4
-cast-bytes-at-4 c = search needs
-
-bytes-at-requires-3 : tie.Need-bytes-at-requires-3
-bytes-at-requires-3 c κs = search needs
-
-any-array-requires-2 : tie.Need-any-array-requires-2
-any-array-requires-2 c κs = search needs
 
 returns-2 : tie.Need-returns-2
 returns-2 c = by-bytes (c .before .before .before .before .before .before .args .s .now) (c .before .before .before .before .before .before .args .at) (c .bytes-at .ensures (c .before .before .before .before .before .before .args .at)) (array-one (c .before .before .before .before .before .before .args .s .now) (c .before .before .before .before .before .before .args .at) (λ i. c .before .before .before .shared-slice-known2 .given i .fits) (omega arith) (omega arith) (c .before .before .match .keys1))
@@ -99,38 +42,35 @@ returns-3 c = by-bytes (c .before .before .before .before .before .before .befor
 returns-4 : tie.Need-returns-4
 returns-4 c = by-bytes (c .before .before .before .before .before .before .before .args .s .now) (c .before .before .before .before .before .before .before .args .at) (c .bytes-at3 .ensures (c .before .before .before .before .before .before .before .args .at)) (array-int (c .before .before .before .before .before .before .before .args .s .now) (c .before .before .before .before .before .before .before .args .at) (λ i. c .before .before .before .before .shared-slice-known2 .given i .fits) (omega arith) (omega arith) (c .before .before .if2 .left) (c .before .if3 .taken))
 
-returns-5 : tie.Need-returns-5
-returns-5 c = search needs
-
 pub array-at-spec : {M : Type 1} → statement M
 array-at-spec =
     tie.close
     (tie.spec
-    sub-if1
-    any-array-requires
-    returns
-    add-b
-    shared-slice-read-b
-    add-bytes-at
-    add-bytes-at-2
-    shared-slice-read-bytes-at
+    (λ c. search needs)
+    (λ c κs. search needs)
+    (λ c. search needs)
+    (λ c. search needs)
+    (λ c. search needs)
+    (λ c. search needs)
+    (λ c. search needs)
+    (λ c. search needs)
     cast-bytes-at
-    bytes-at-requires
-    add-bytes-at-3
-    add-bytes-at-4
-    shared-slice-read-bytes-at-2
+    (λ c κs. search needs)
+    (λ c. search needs)
+    (λ c. search needs)
+    (λ c. search needs)
     cast-bytes-at-2
     mul-bytes-at
-    add-bytes-at-5
-    shared-slice-read-bytes-at-3
+    (λ c. search needs)
+    (λ c. search needs)
     cast-bytes-at-3
     add-bytes-at-6
-    bytes-at-requires-2
-    add-bytes-at-7
-    cast-bytes-at-4
-    bytes-at-requires-3
-    any-array-requires-2
+    (λ c κs. search needs)
+    (λ c. search needs)
+    (λ c. search needs)
+    (λ c κs. search needs)
+    (λ c κs. search needs)
     returns-2
     returns-3
     returns-4
-    returns-5)
+    (λ c. search needs))

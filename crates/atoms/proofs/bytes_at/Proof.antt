@@ -6,17 +6,11 @@ use Rattle.atoms.proofs.Places.{shown-array, shown-short}
 use Rattle.atoms.proofs.bytes_at.Statement.{statement}
 use Rattle.atoms.proofs.bytes_at.Tie as tie
 
-sub-if1 : tie.Need-sub-if1
-sub-if1 c = search needs
-
 returns : tie.Need-returns
 returns c = let a = c .before .args in λ p. sym (shown-short (a .s .now) p (a .body) (a .size) (c .before .pre) (c .if1 .taken))
-
-add-t4 : tie.Need-add-t4
-add-t4 c = search needs
 
 returns-2 : tie.Need-returns-2
 returns-2 c = let a = c .before .args in λ p. sym (shown-array (a .s .now) p (a .body) (a .size) (c .before .pre) (c .if1 .left))
 
 pub bytes-at-spec : {M : Type 1} → statement M
-bytes-at-spec = tie.close (tie.spec sub-if1 returns add-t4 returns-2)
+bytes-at-spec = tie.close (tie.spec (λ c. search needs) returns (λ c. search needs) returns-2)

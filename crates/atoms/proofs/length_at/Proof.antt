@@ -14,12 +14,6 @@ use Rattle.atoms.proofs.Places.{measured-wrong, threes-few, length-many
 use Rattle.atoms.proofs.length_at.Statement.{statement}
 use Rattle.atoms.proofs.length_at.Tie as tie
 
-threes-requires : tie.Need-threes-requires
-threes-requires c κs = search needs
-
-add-t9 : tie.Need-add-t9
-add-t9 c = search needs
-
 returns : tie.Need-returns
 returns c =
     let a = c .before .before .before .args in
@@ -40,12 +34,6 @@ plain-length-requires : tie.Need-plain-length-requires
 plain-length-requires c κs =
     let a = c .before .before .before .args in
     behind-threes (a .s .now) (a .at) _ (omega arith) (c .before .threes .ensures) (c .if1 .left) .inside
-
-enum-known-number : tie.Need-enum-known-number
-enum-known-number c = search needs
-
-enum-known-value : tie.Need-enum-known-value
-enum-known-value c = search needs
 
 nested-length-requires : tie.Need-nested-length-requires
 nested-length-requires c κs =
@@ -85,13 +73,13 @@ pub length-at-spec : {M : Type 1} → statement M
 length-at-spec =
     tie.close
     (tie.spec
-    threes-requires
-    add-t9
+    (λ c κs. search needs)
+    (λ c. search needs)
     returns
     add-plain-length
     plain-length-requires
-    enum-known-number
-    enum-known-value
+    (λ c. search needs)
+    (λ c. search needs)
     nested-length-requires
     returns-2
     returns-3)

@@ -19,26 +19,14 @@ Inv-loop s at sum₀ p₀ sum p = (p ≤ length s) × (sum ≤ 127 + 255 * p) ×
 abbrev μ-loop : tie.MeasureT-loop
 μ-loop s at sum₀ p₀ sum p = length s - p
 
-add-p : tie.Need-add-p Inv-loop μ-loop
-add-p c = omega arith
-
 loop-holds : tie.Need-loop-holds Inv-loop μ-loop
 loop-holds c = (omega arith, omega arith, ap (λ (p : ℕ). marker 0x7F (drop p (c .before .args .s .now))) (sym (add-one (c .before .args .at))))
-
-shared-slice-read-b : tie.Need-shared-slice-read-b Inv-loop μ-loop
-shared-slice-read-b c = omega arith
 
 cast-sum : tie.Need-cast-sum Inv-loop μ-loop
 cast-sum c = omega (arith, c .shared-slice-known2 .given (c .before .before .loop .p))
 
 add-sum : tie.Need-add-sum Inv-loop μ-loop
 add-sum c = omega (arith, c .shared-slice-known2 .given (c .before .before .loop .p))
-
-add-p-2 : tie.Need-add-p-2 Inv-loop μ-loop
-add-p-2 c = omega arith
-
-reference-requires : tie.Need-reference-requires Inv-loop μ-loop
-reference-requires c κs = omega arith
 
 -- the marker is told, so what follows is the name
 named : (s : List ℕ) (at : ℕ) (x : Taken ℕ) → marker 0x7F (drop (suc at) s) ≡ x
@@ -51,9 +39,6 @@ returns c =
     let l = c .before .before .before .before .loop in
     let s = a .s .now in
     c .reference .ensures ∙ sym (named s (a .at) _ (l .inv .2 ∙ marker-last s (l .p) (l .sum) (omega arith) (c .before .if1 .taken)))
-
-loop-less : tie.Need-loop-less Inv-loop μ-loop
-loop-less c = omega arith
 
 loop-again : tie.Need-loop-again Inv-loop μ-loop
 loop-again c =
@@ -77,14 +62,14 @@ long-reference-spec =
     (tie.spec
     Inv-loop
     μ-loop
-    add-p
+    (λ c. omega arith)
     loop-holds
-    shared-slice-read-b
+    (λ c. omega arith)
     cast-sum
     add-sum
-    add-p-2
-    reference-requires
+    (λ c. omega arith)
+    (λ c κs. omega arith)
     returns
-    loop-less
+    (λ c. omega arith)
     loop-again
     returns-2)

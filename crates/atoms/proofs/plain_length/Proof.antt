@@ -13,14 +13,8 @@ use Rattle.atoms.proofs.plain_length.Tie as tie
 returns : tie.Need-returns
 returns c = let a = c .before .before .args in sym (plain-end (a .s .now) (a .at) (c .if1 .taken))
 
-shared-slice-read-b : tie.Need-shared-slice-read-b
-shared-slice-read-b c = search needs
-
 cast-b : tie.Need-cast-b
 cast-b c = omega (arith, c .shared-slice-known2 .given (c .before .before .before .args .at))
-
-add-body : tie.Need-add-body
-add-body c = search needs
 
 returns-2 : tie.Need-returns-2
 returns-2 c = let a = c .before .before .before .before .args in sym (plain-wrong (a .s .now) (a .at) (omega arith) (c .if2 .taken))
@@ -30,19 +24,10 @@ returns-3 c =
     let a = c .before .before .before .before .before .args in
     sym (plain-int (a .s .now) (a .at) (omega arith) (c .before .if2 .left) (c .if3 .taken))
 
-sub-if4 : tie.Need-sub-if4
-sub-if4 c = search needs
-
 returns-4 : tie.Need-returns-4
 returns-4 c =
     let a = c .before .before .before .before .before .before .args in
     sym (plain-short (a .s .now) (a .at) (omega arith) (c .before .if3 .left) (c .if4 .taken))
-
-add-end : tie.Need-add-end
-add-end c = search needs
-
-number-requires : tie.Need-number-requires
-number-requires c κs = search needs
 
 returns-5 : tie.Need-returns-5
 returns-5 c =
@@ -56,13 +41,13 @@ plain-length-spec =
     tie.close
     (tie.spec
     returns
-    shared-slice-read-b
+    (λ c. search needs)
     cast-b
-    add-body
+    (λ c. search needs)
     returns-2
     returns-3
-    sub-if4
+    (λ c. search needs)
     returns-4
-    add-end
-    number-requires
+    (λ c. search needs)
+    (λ c κs. search needs)
     returns-5)

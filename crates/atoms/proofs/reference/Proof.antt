@@ -13,11 +13,8 @@ returns c = let a = c .before .args in sym (shown-nameless (a .s .now) (a .at) (
 returns-2 : tie.Need-returns-2
 returns-2 c = let a = c .before .before .args in sym (shown-above (a .s .now) (a .at) (a .sum) (a .past) (omega arith) (omega arith) (c .if2 .taken))
 
-add-t5 : tie.Need-add-t5
-add-t5 c = search needs
-
 returns-3 : tie.Need-returns-3
 returns-3 c = let a = c .before .before .args in sym (shown-reference (a .s .now) (a .at) (a .sum) (a .past) (omega arith) (c .if2 .left))
 
 pub reference-spec : {M : Type 1} → statement M
-reference-spec = tie.close (tie.spec returns returns-2 add-t5 returns-3)
+reference-spec = tie.close (tie.spec returns returns-2 (λ c. search needs) returns-3)

@@ -7,15 +7,6 @@ use Rattle.atoms.proofs.First.{first-nil, first-opening, first-closing,
 use Rattle.atoms.proofs.token_at.Statement.{statement}
 use Rattle.atoms.proofs.token_at.Tie as tie
 
-shared-slice-read-b : tie.Need-shared-slice-read-b
-shared-slice-read-b c = search needs
-
-sub-left : tie.Need-sub-left
-sub-left c = search needs
-
-add-t10 : tie.Need-add-t10
-add-t10 c = search needs
-
 returns : tie.Need-returns
 returns c = let a = c .before .before .before .args in sym (first-nil (a .s .now) (a .at) (omega arith) (c .match .keys1))
 
@@ -25,14 +16,8 @@ returns-2 c = let a = c .before .before .before .args in sym (first-opening (a .
 returns-3 : tie.Need-returns-3
 returns-3 c = let a = c .before .before .before .args in sym (first-closing (a .s .now) (a .at) (omega arith) (c .match .keys3))
 
-add-t13 : tie.Need-add-t13
-add-t13 c = search needs
-
 returns-4 : tie.Need-returns-4
 returns-4 c = let a = c .before .before .before .before .before .before .args in sym (short-whole (a .s .now) (a .at) (omega arith) (c .before .before .if1 .left) (c .before .if2 .taken) (c .if3 .taken))
-
-add-t14 : tie.Need-add-t14
-add-t14 c = search needs
 
 returns-5 : tie.Need-returns-5
 returns-5 c = let a = c .before .before .before .before .before .before .before .args in sym (int-whole (a .s .now) (a .at) (omega arith) (c .before .if4 .left) (c .if5 .taken))
@@ -40,42 +25,27 @@ returns-5 c = let a = c .before .before .before .before .before .before .before 
 cast-size : tie.Need-cast-size
 cast-size c = omega (arith, c .before .before .before .before .before .shared-slice-known2 .given (c .before .before .before .before .before .before .before .args .at))
 
-add-t16 : tie.Need-add-t16
-add-t16 c = search needs
-
-add-t17 : tie.Need-add-t17
-add-t17 c = search needs
-
-add-t18 : tie.Need-add-t18
-add-t18 c = search needs
-
 returns-6 : tie.Need-returns-6
 returns-6 c = let a = c .before .before .before .before .before .before .before .before .args in sym (small-whole (a .s .now) (a .at) (omega arith) (c .before .if5 .left) (c .if6 .taken))
-
-any-token-requires : tie.Need-any-token-requires
-any-token-requires c κs = search needs
-
-returns-7 : tie.Need-returns-7
-returns-7 c = search needs
 
 pub token-at-spec : {M : Type 1} → statement M
 token-at-spec =
     tie.close
     (tie.spec
-    shared-slice-read-b
-    sub-left
-    add-t10
+    (λ c. search needs)
+    (λ c. search needs)
+    (λ c. search needs)
     returns
     returns-2
     returns-3
-    add-t13
+    (λ c. search needs)
     returns-4
-    add-t14
+    (λ c. search needs)
     returns-5
     cast-size
-    add-t16
-    add-t17
-    add-t18
+    (λ c. search needs)
+    (λ c. search needs)
+    (λ c. search needs)
     returns-6
-    any-token-requires
-    returns-7)
+    (λ c κs. search needs)
+    (λ c. search needs))

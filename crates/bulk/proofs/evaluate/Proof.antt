@@ -16,18 +16,6 @@ use Rattle.bulk.proofs.Evaluating.{evaluate-refusal, has-read, rows-ref
 use Rattle.bulk.proofs.evaluate.Statement.{statement}
 use Rattle.bulk.proofs.evaluate.Tie as tie
 
-rows-available-requires : tie.Need-rows-available-requires
-rows-available-requires c κs = search needs
-
-check-requires : tie.Need-check-requires
-check-requires c κs = search needs
-
-enum-known-number : tie.Need-enum-known-number
-enum-known-number c = search needs
-
-enum-known-rows : tie.Need-enum-known-rows
-enum-known-rows c = search needs
-
 -- what the first pass told, where it is this
 at-check : (c : tie.After-check) (v : Checked) → c .check .result ≡ v
     → Told (c .before .before .before .before .before .before .before .args .stream .now) (length (c .before .before .before .before .before .before .before .args .table .now) / row-width) v
@@ -46,12 +34,6 @@ evaluate-requires c κs =
     let k = c .before .before .before .before .before .before .before .before .before in
     has-read _ (k .before .before .before .before .before .before .before .args .table .now) _ _ (at-check k _ (c .before .before .before .before .before .before .before .rows .given .1)) _ (c .before .before .before .before .fill .ensures)
 
-enum-known-number-2 : tie.Need-enum-known-number-2
-enum-known-number-2 c = search needs
-
-enum-known-size : tie.Need-enum-known-size
-enum-known-size c = search needs
-
 -- what the evaluation told, where it is this
 told : (c : tie.After-evaluate) (r : Result) → c .evaluate .result ≡ r → let a = c .before .before .before .before .before .before .before .before .before .before .before .before .before .before .before .before .before .args in
     Evaluated (a .stream .now) (a .table .now) (a .workspace .now) (c .evaluate .last .1 .1 .1 .0) (a .output .now) (a .steps) (rows-of (tokens 0 0 (a .stream .now))) r
@@ -63,12 +45,6 @@ told c r e =
 -- a result is in the workspace
 inside : (c : tie.After-size) → c .size .given .0 .0 ≤ length (c .before .before .before .before .evaluate .last .1 .1 .1 .0)
 inside c = told (c .before .before .before .before) _ (c .size .given .1) .0
-
-same-length : tie.Need-same-length
-same-length c = search needs
-
-same-length-2 : tie.Need-same-length-2
-same-length-2 c = search needs
 
 returns : tie.Need-returns
 returns c =
@@ -86,20 +62,11 @@ copy-requires : tie.Need-copy-requires
 copy-requires c κs =
     omega (arith, length-take-le (c .before .before .before .before .size .given .0 .0) (c .before .before .before .before .before .before .before .before .evaluate .last .1 .1 .1 .0) (inside (c .before .before .before .before)), c .before .before .if1 .left)
 
-same-length-3 : tie.Need-same-length-3
-same-length-3 c = search needs
-
 returns-2 : tie.Need-returns-2
 returns-2 c =
     let k = c .before .before .before in
     let a = k .before .before .before .before .before .before .before .args in
     evaluate-refusal (a .stream .now) (a .table .now) _ _ _ _ _ (at-check k _ (c .before .number .given .1))
-
-same-length-4 : tie.Need-same-length-4
-same-length-4 c = search needs
-
-same-length-5 : tie.Need-same-length-5
-same-length-5 c = search needs
 
 returns-3 : tie.Need-returns-3
 returns-3 c =
@@ -107,15 +74,6 @@ returns-3 c =
     let a = v .before .before .before .before .before .before .before .before .before .before .before .before .before .before .before .before .before .args in
     rows-refusal (a .stream .now) (a .table .now) _ (a .workspace .now) (v .evaluate .last .1 .1 .1 .0) (a .output .now) (a .steps) _ (v .before .before .before .before .before .fill .ensures) _ _
     (told v _ (c .before .number2 .given .1))
-
-same-length-6 : tie.Need-same-length-6
-same-length-6 c = search needs
-
-same-length-7 : tie.Need-same-length-7
-same-length-7 c = search needs
-
-same-length-8 : tie.Need-same-length-8
-same-length-8 c = search needs
 
 returns-4 : tie.Need-returns-4
 returns-4 c =
@@ -129,26 +87,26 @@ pub evaluate-spec : {M : Type 1} → statement M
 evaluate-spec =
     tie.close
     (tie.spec
-    rows-available-requires
-    check-requires
-    enum-known-number
-    enum-known-rows
+    (λ c κs. search needs)
+    (λ c κs. search needs)
+    (λ c. search needs)
+    (λ c. search needs)
     fill-requires
     evaluate-requires
-    enum-known-number-2
-    enum-known-size
-    same-length
-    same-length-2
+    (λ c. search needs)
+    (λ c. search needs)
+    (λ c. search needs)
+    (λ c. search needs)
     returns
     slice-reshare-prefix-copy
     slice-aggregate-copy
     copy-requires
-    same-length-3
+    (λ c. search needs)
     returns-2
-    same-length-4
-    same-length-5
+    (λ c. search needs)
+    (λ c. search needs)
     returns-3
-    same-length-6
-    same-length-7
-    same-length-8
+    (λ c. search needs)
+    (λ c. search needs)
+    (λ c. search needs)
     returns-4)

@@ -6,18 +6,6 @@ use Rattle.spec.specs.Calls.{of-stream, of-result}
 use Rattle.bulk.proofs.item.Statement.{statement}
 use Rattle.bulk.proofs.item.Tie as tie
 
-enum-told : tie.Need-enum-told
-enum-told c = search needs
-
-item-of-requires : tie.Need-item-of-requires
-item-of-requires c κs = search needs
-
-enum-told-2 : tie.Need-enum-told-2
-enum-told-2 c = search needs
-
-item-of-requires-2 : tie.Need-item-of-requires-2
-item-of-requires-2 c κs = search needs
-
 returns : tie.Need-returns
 returns c =
     let a = c .before .before .before .before .before .args in
@@ -31,4 +19,4 @@ returns-2 c =
 pub item-spec : {M : Type 1} → statement M
 item-spec =
     tie.close
-    (tie.spec enum-told item-of-requires enum-told-2 item-of-requires-2 returns returns-2)
+    (tie.spec (λ c. search needs) (λ c κs. search needs) (λ c. search needs) (λ c κs. search needs) returns returns-2)

@@ -14,12 +14,6 @@ use Rattle.bulk.proofs.Told.{item-inside}
 use Rattle.bulk.proofs.item_of.Statement.{statement}
 use Rattle.bulk.proofs.item_of.Tie as tie
 
-locate-requires : tie.Need-locate-requires
-locate-requires c κs = search needs
-
-enum-known-start : tie.Need-enum-known-start
-enum-known-start c = search needs
-
 -- the part lies in the buffer
 inside : (c : tie.After-start)
     → (c .start .given .0 .0 ≤ c .start .given .0 .1 .0) × (c .start .given .0 .1 .0 ≤ length (c .before .before .before .before .args .buffer .now))
@@ -36,12 +30,6 @@ part-result-start c = let i = inside (c .before) in search needs
 
 part-result-end : tie.Need-part-result-end
 part-result-end c = let i = inside (c .before) in search needs
-
-enum-told : tie.Need-enum-told
-enum-told c = search needs
-
-slice-aggregate-result : tie.Need-slice-aggregate-result
-slice-aggregate-result c = search needs
 
 -- the bytes of a place in a buffer
 abbrev place-bytes : Place → List ℕ → List ℕ
@@ -74,12 +62,12 @@ pub item-of-spec : {M : Type 1} → statement M
 item-of-spec =
     tie.close
     (tie.spec
-    locate-requires
-    enum-known-start
+    (λ c κs. search needs)
+    (λ c. search needs)
     sub-result
     part-result-start
     part-result-end
-    enum-told
-    slice-aggregate-result
+    (λ c. search needs)
+    (λ c. search needs)
     returns
     returns-2)

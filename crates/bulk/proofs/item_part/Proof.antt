@@ -6,18 +6,6 @@ use Rattle.spec.specs.Calls.{of-stream, of-result}
 use Rattle.bulk.proofs.item_part.Statement.{statement}
 use Rattle.bulk.proofs.item_part.Tie as tie
 
-enum-told : tie.Need-enum-told
-enum-told c = search needs
-
-locate-requires : tie.Need-locate-requires
-locate-requires c κs = search needs
-
-enum-told-2 : tie.Need-enum-told-2
-enum-told-2 c = search needs
-
-locate-requires-2 : tie.Need-locate-requires-2
-locate-requires-2 c κs = search needs
-
 returns : tie.Need-returns
 returns c =
     let a = c .before .before .before .before .before .args in
@@ -30,4 +18,4 @@ returns-2 c =
 
 pub item-part-spec : {M : Type 1} → statement M
 item-part-spec =
-    tie.close (tie.spec enum-told locate-requires enum-told-2 locate-requires-2 returns returns-2)
+    tie.close (tie.spec (λ c. search needs) (λ c κs. search needs) (λ c. search needs) (λ c κs. search needs) returns returns-2)

@@ -14,15 +14,6 @@ use Rattle.bulk.proofs.Told.{Told, told, item-none, item-found}
 use Rattle.bulk.proofs.locate.Statement.{statement}
 use Rattle.bulk.proofs.locate.Tie as tie
 
-check-requires : tie.Need-check-requires
-check-requires c κs = search needs
-
-enum-told : tie.Need-enum-told
-enum-told c = search needs
-
-enum-told-2 : tie.Need-enum-told-2
-enum-told-2 c = search needs
-
 -- what the first pass told, where it is this
 at-check : (c : tie.After-check) (v : Checked) → c .check .result ≡ v
     → Told (c .before .before .args .buffer .now) (length (c .before .before .args .buffer .now)) v
@@ -31,12 +22,6 @@ at-check c v e =
 
 find-requires : tie.Need-find-requires
 find-requires c κs = at-check (c .before .before) _ (c .enum-told2 .given .1) .can
-
-enum-known-start : tie.Need-enum-known-start
-enum-known-start c = search needs
-
-enum-told-3 : tie.Need-enum-told-3
-enum-told-3 c = search needs
 
 -- what was found, where it is this
 at-find : (c : tie.After-find) (r : Found) → c .find .result ≡ r → (b : Buffer) (stream result : List ℕ)
@@ -60,12 +45,12 @@ pub locate-spec : {M : Type 1} → statement M
 locate-spec =
     tie.close
     (tie.spec
-    check-requires
-    enum-told
-    enum-told-2
+    (λ c κs. search needs)
+    (λ c. search needs)
+    (λ c. search needs)
     find-requires
-    enum-known-start
-    enum-told-3
+    (λ c. search needs)
+    (λ c. search needs)
     returns
     returns-2
     returns-3)

@@ -11,18 +11,6 @@ use Rattle.bulk.proofs.Told.{Told, told-table, read-refusal, table-room
 use Rattle.bulk.proofs.read.Statement.{statement}
 use Rattle.bulk.proofs.read.Tie as tie
 
-rows-available-requires : tie.Need-rows-available-requires
-rows-available-requires c κs = search needs
-
-check-requires : tie.Need-check-requires
-check-requires c κs = search needs
-
-enum-known-number : tie.Need-enum-known-number
-enum-known-number c = search needs
-
-enum-known-rows : tie.Need-enum-known-rows
-enum-known-rows c = search needs
-
 -- what the first pass told, where it is this
 at-check : (c : tie.After-check) (v : Checked) → c .check .result ≡ v
     → Told (c .before .before .before .before .before .args .stream .now) (length (c .before .before .before .before .before .args .table .now) / row-width) v
@@ -36,16 +24,10 @@ fill-requires c κs =
     let right = at-check (c .before .before .before .before) _ (c .before .before .rows .given .1) in
     (right .can, table-room _ (c .before .before .before .before .before .before .before .before .before .args .table .now) _ _ right)
 
-same-length : tie.Need-same-length
-same-length c = search needs
-
 returns : tie.Need-returns
 returns c =
     let a = c .before .before .before .before .before .before .before .before .args in
     read-refusal (a .stream .now) (a .table .now) _ _ (at-check (c .before .before .before) _ (c .before .number .given .1))
-
-same-length-2 : tie.Need-same-length-2
-same-length-2 c = search needs
 
 returns-2 : tie.Need-returns-2
 returns-2 c =
@@ -58,12 +40,12 @@ pub read-spec : {M : Type 1} → statement M
 read-spec =
     tie.close
     (tie.spec
-    rows-available-requires
-    check-requires
-    enum-known-number
-    enum-known-rows
+    (λ c κs. search needs)
+    (λ c κs. search needs)
+    (λ c. search needs)
+    (λ c. search needs)
     fill-requires
-    same-length
+    (λ c. search needs)
     returns
-    same-length-2
+    (λ c. search needs)
     returns-2)

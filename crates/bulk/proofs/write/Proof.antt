@@ -13,18 +13,6 @@ use Rattle.bulk.proofs.Told.{Told, told-table, write-refusal, table-roo
 use Rattle.bulk.proofs.write.Statement.{statement}
 use Rattle.bulk.proofs.write.Tie as tie
 
-rows-available-requires : tie.Need-rows-available-requires
-rows-available-requires c κs = search needs
-
-check-requires : tie.Need-check-requires
-check-requires c κs = search needs
-
-enum-known-number : tie.Need-enum-known-number
-enum-known-number c = search needs
-
-enum-known-length : tie.Need-enum-known-length
-enum-known-length c = search needs
-
 -- what the first pass told, where it is this
 at-check : (c : tie.After-check) (v : Checked) → c .check .result ≡ v
     → Told (c .before .before .before .before .before .before .args .stream .now) (length (c .before .before .before .before .before .before .args .table .now) / row-width) v
@@ -38,9 +26,6 @@ fill-requires c κs =
     let right = at-check (c .before .before .before .before) _ (c .before .before .length .given .1) in
     (right .can, table-room _ (c .before .before .before .before .before .before .before .before .before .before .args .table .now) _ _ right)
 
-same-length : tie.Need-same-length
-same-length c = search needs
-
 returns : tie.Need-returns
 returns c =
     let fill = c .before .before .before in
@@ -50,12 +35,6 @@ returns c =
 
 copy-requires : tie.Need-copy-requires
 copy-requires c κs = omega (arith, c .before .if2 .taken, c .before .before .if1 .left)
-
-same-length-2 : tie.Need-same-length-2
-same-length-2 c = search needs
-
-same-length-3 : tie.Need-same-length-3
-same-length-3 c = search needs
 
 returns-2 : tie.Need-returns-2
 returns-2 c =
@@ -73,19 +52,10 @@ emit-requires c κs =
     let right = at-check (fill .before .before .before .before .before) _ (fill .before .before .before .length .given .1) in
     (right .can, omega (arith, right .sized, c .before .before .if1 .left))
 
-same-length-4 : tie.Need-same-length-4
-same-length-4 c = search needs
-
 returns-3 : tie.Need-returns-3
 returns-3 c =
     let a = c .before .before .before .before .before .before .before .before .before .args in
     write-refusal (a .stream .now) (a .table .now) (a .output .now) _ _ (at-check (c .before .before .before) _ (c .before .number .given .1))
-
-same-length-5 : tie.Need-same-length-5
-same-length-5 c = search needs
-
-same-length-6 : tie.Need-same-length-6
-same-length-6 c = search needs
 
 returns-4 : tie.Need-returns-4
 returns-4 c =
@@ -99,20 +69,20 @@ pub write-spec : {M : Type 1} → statement M
 write-spec =
     tie.close
     (tie.spec
-    rows-available-requires
-    check-requires
-    enum-known-number
-    enum-known-length
+    (λ c κs. search needs)
+    (λ c κs. search needs)
+    (λ c. search needs)
+    (λ c. search needs)
     fill-requires
-    same-length
+    (λ c. search needs)
     returns
     copy-requires
-    same-length-2
-    same-length-3
+    (λ c. search needs)
+    (λ c. search needs)
     returns-2
     emit-requires
-    same-length-4
+    (λ c. search needs)
     returns-3
-    same-length-5
-    same-length-6
+    (λ c. search needs)
+    (λ c. search needs)
     returns-4)

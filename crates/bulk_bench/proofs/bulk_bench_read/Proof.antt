@@ -5,17 +5,8 @@ use Rattle.bulk_bench.proofs.Told.{given-is}
 use Rattle.bulk_bench.proofs.bulk_bench_read.Statement.{statement}
 use Rattle.bulk_bench.proofs.bulk_bench_read.Tie as tie
 
-read-requires : tie.Need-read-requires
-read-requires c κs = search needs
-
-given-requires : tie.Need-given-requires
-given-requires c κs = search needs
-
-same-length : tie.Need-same-length
-same-length c = search needs
-
 returns : tie.Need-returns
 returns c = given-is _ _ _ _ _ (c .given .ensures) (c .before .before .before .read .ensures)
 
 pub bulk-bench-read-spec : {M : Type 1} → statement M
-bulk-bench-read-spec = tie.close (tie.spec read-requires given-requires same-length returns)
+bulk-bench-read-spec = tie.close (tie.spec (λ c κs. search needs) (λ c κs. search needs) (λ c. search needs) returns)

@@ -5,21 +5,9 @@ use Rattle.bulk_bench.proofs.Told.{given-is}
 use Rattle.bulk_bench.proofs.bulk_bench_write.Statement.{statement}
 use Rattle.bulk_bench.proofs.bulk_bench_write.Tie as tie
 
-write-requires : tie.Need-write-requires
-write-requires c κs = search needs
-
-given-requires : tie.Need-given-requires
-given-requires c κs = search needs
-
-same-length : tie.Need-same-length
-same-length c = search needs
-
-same-length-2 : tie.Need-same-length-2
-same-length-2 c = search needs
-
 returns : tie.Need-returns
 returns c = given-is _ _ _ _ _ (c .given .ensures) (c .before .before .before .before .before .write .ensures)
 
 pub bulk-bench-write-spec : {M : Type 1} → statement M
 bulk-bench-write-spec =
-    tie.close (tie.spec write-requires given-requires same-length same-length-2 returns)
+    tie.close (tie.spec (λ c κs. search needs) (λ c κs. search needs) (λ c. search needs) (λ c. search needs) returns)

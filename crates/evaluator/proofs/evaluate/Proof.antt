@@ -9,24 +9,12 @@ use Rattle.evaluator.proofs.Evaluations.{answer-unversioned, answer-wro
 use Rattle.evaluator.proofs.evaluate.Statement.{statement}
 use Rattle.evaluator.proofs.evaluate.Tie as tie
 
-is-versioned-requires : tie.Need-is-versioned-requires
-is-versioned-requires c κs = search needs
-
-refused-requires : tie.Need-refused-requires
-refused-requires c κs = search needs
-
 returns : tie.Need-returns
 returns c = λ t out rs es reads fills.
     let a = c .before .before .before .before .before .before .args in
     let named = c .before .before .is-versioned .ensures t rs es reads fills in
     rw (c .refused .ensures)
     (answer-unversioned (a .s .now) t (a .work .now) out (a .steps) rs es reads (rw named at (c .before .if1 .taken)))
-
-has-version-requires : tie.Need-has-version-requires
-has-version-requires c κs = search needs
-
-refused-requires-2 : tie.Need-refused-requires-2
-refused-requires-2 c κs = search needs
 
 returns-2 : tie.Need-returns-2
 returns-2 c = λ t out rs es reads fills.
@@ -36,12 +24,6 @@ returns-2 c = λ t out rs es reads fills.
     rw (c .refused2 .ensures)
     (answer-wrong-version (a .s .now) t (a .work .now) out (a .steps) rs es reads (rw named at (if1 .if1 .left))
     (rw (c .before .before .has-version .ensures) at (c .before .if2 .taken)))
-
-work-size-requires : tie.Need-work-size-requires
-work-size-requires c κs = search needs
-
-slice-relend-prefix-evaluate-all : tie.Need-slice-relend-prefix-evaluate-all
-slice-relend-prefix-evaluate-all c = search needs
 
 slice-aggregate-evaluate-all : tie.Need-slice-aggregate-evaluate-all
 slice-aggregate-evaluate-all c =
@@ -55,9 +37,6 @@ evaluate-all-requires c κs =
     let start = sized .before .before .before .before .before .before .before .before in
     let w = start .args .work .now in
     (start .pre, omega (arith, length-take (sized .work-size .result) w, sized .work-size .ensures))
-
-enum-known-number : tie.Need-enum-known-number
-enum-known-number c = search needs
 
 start-requires : tie.Need-start-requires
 start-requires c κs =
@@ -74,12 +53,6 @@ start-requires c κs =
     rw (told .number .given .1) at (ran .evaluate-all .ensures (has .before) (has .rows) (has .means) (has .is) (has .filled-in)) in
     rw (has .filled-in) (filled-whole (has .rows) (has .before) r (ended .1))
 
-refused-requires-3 : tie.Need-refused-requires-3
-refused-requires-3 c κs = search needs
-
-enum-known-state : tie.Need-enum-known-state
-enum-known-state c = search needs
-
 sub-t18 : tie.Need-sub-t18
 sub-t18 c =
     let told = c .before .before in
@@ -92,9 +65,6 @@ sub-t18 c =
     let ended : Ended (a .steps) part (ran .evaluate-all .last .1 .1 .1 .0) (has .rows) (has .means) (Done (told .state .given .0 .0)) =
     rw (told .state .given .1) at (ran .evaluate-all .ensures (has .before) (has .rows) (has .means) (has .is) (has .filled-in)) in
     ended .fewer
-
-same-length : tie.Need-same-length
-same-length c = search needs
 
 returns-3 : tie.Need-returns-3
 returns-3 c = λ t out rs es reads fills.
@@ -112,9 +82,6 @@ returns-3 c = λ t out rs es reads fills.
     (answer-stopped (a .s .now) t (a .work .now) out (a .steps) rs es reads (rw named at (known .if1 .left))
     (rw (sized .before .before .has-version .ensures) at (sized .before .if2 .left)) (sized .work-size .result) (sized .work-size .ensures) n r
     (c .before .start .result) ended (rw fills at (c .before .start .ensures)))
-
-same-length-2 : tie.Need-same-length-2
-same-length-2 c = search needs
 
 returns-4 : tie.Need-returns-4
 returns-4 c = λ t out rs es reads fills.
@@ -135,22 +102,22 @@ pub evaluate-spec : {M : Type 1} → statement M
 evaluate-spec =
     tie.close
     (tie.spec
-    is-versioned-requires
-    refused-requires
+    (λ c κs. search needs)
+    (λ c κs. search needs)
     returns
-    has-version-requires
-    refused-requires-2
+    (λ c κs. search needs)
+    (λ c κs. search needs)
     returns-2
-    work-size-requires
-    slice-relend-prefix-evaluate-all
+    (λ c κs. search needs)
+    (λ c. search needs)
     slice-aggregate-evaluate-all
     evaluate-all-requires
-    enum-known-number
+    (λ c. search needs)
     start-requires
-    refused-requires-3
-    enum-known-state
+    (λ c κs. search needs)
+    (λ c. search needs)
     sub-t18
-    same-length
+    (λ c. search needs)
     returns-3
-    same-length-2
+    (λ c. search needs)
     returns-4)

@@ -11,9 +11,6 @@ use Rattle.evaluator.proofs.Evaluations.{stream-ready, stream-ended}
 use Rattle.evaluator.proofs.evaluate_all.Statement.{statement}
 use Rattle.evaluator.proofs.evaluate_all.Tie as tie
 
-new-requires : tie.Need-new-requires
-new-requires c κs = search needs
-
 list-requires : tie.Need-list-requires
 list-requires c κs =
     let known = c .before .before .before .before .before .before .before .before in
@@ -30,9 +27,6 @@ list-requires c κs =
           (replicate 64 0) (replicate 64 0) (entries (replicate 256 0) (replicate 256 0) (c .new .result)) (a .steps) 0 0 (c .new .ensures _ _) (known .before .pre .1);
     }
 
-same-length : tie.Need-same-length
-same-length c = search needs
-
 returns : tie.Need-returns
 returns c = λ t rs es reads fills.
     let ran = c .before .before in
@@ -46,4 +40,4 @@ returns c = λ t rs es reads fills.
     (ran .list .ensures .0 (a .rows) 32 (number-all 0 es) (top []) start ready)
 
 pub evaluate-all-spec : {M : Type 1} → statement M
-evaluate-all-spec = tie.close (tie.spec new-requires list-requires same-length returns)
+evaluate-all-spec = tie.close (tie.spec (λ c κs. search needs) list-requires (λ c. search needs) returns)

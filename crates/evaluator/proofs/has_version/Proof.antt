@@ -22,12 +22,6 @@ returns c = let s = c .before .before .args .s .now in same-long (take 6 s) vers
 loop-holds : tie.Need-loop-holds Inv-loop μ-loop
 loop-holds c = (search needs, search needs, same-start (c .before .before .args .s .now) version-bytes 0 0 6)
 
-shared-slice-read-if2 : tie.Need-shared-slice-read-if2 Inv-loop μ-loop
-shared-slice-read-if2 c = search needs
-
-element-copy-out-if2 : tie.Need-element-copy-out-if2 Inv-loop μ-loop
-element-copy-out-if2 c = search needs
-
 returns-2 : tie.Need-returns-2 Inv-loop μ-loop
 returns-2 c =
     let l = c .before .before .before .before in
@@ -35,12 +29,6 @@ returns-2 c =
     same-differs s version-bytes 0 0 6 (l .loop .inv .1) (omega arith) (l .loop .i) (c .before .before .before .loop-test .taken)
     (rw (zero-add (l .loop .i)) (c .if2 .taken))
     ∙ l .loop .inv .2
-
-add-i : tie.Need-add-i Inv-loop μ-loop
-add-i c = search needs
-
-loop-less : tie.Need-loop-less Inv-loop μ-loop
-loop-less c = search needs
 
 loop-again : tie.Need-loop-again Inv-loop μ-loop
 loop-again c =
@@ -69,10 +57,10 @@ has-version-spec =
     μ-loop
     returns
     loop-holds
-    shared-slice-read-if2
-    element-copy-out-if2
+    (λ c. search needs)
+    (λ c. search needs)
     returns-2
-    add-i
-    loop-less
+    (λ c. search needs)
+    (λ c. search needs)
     loop-again
     returns-3)

@@ -6,17 +6,8 @@ use Rattle.reader.proofs.Checking.{too-long}
 use Rattle.reader.proofs.check.Statement.{statement}
 use Rattle.reader.proofs.check.Tie as tie
 
-wrong-requires : tie.Need-wrong-requires
-wrong-requires c κs = search needs
-
 returns : tie.Need-returns
 returns c = c .wrong .ensures ∙ too-long _ _ (c .before .if1 .taken)
 
-check-tokens-requires : tie.Need-check-tokens-requires
-check-tokens-requires c κs = search needs
-
-returns-2 : tie.Need-returns-2
-returns-2 c = search needs
-
 pub check-spec : {M : Type 1} → statement M
-check-spec = tie.close (tie.spec wrong-requires returns check-tokens-requires returns-2)
+check-spec = tie.close (tie.spec (λ c κs. search needs) returns (λ c κs. search needs) (λ c. search needs))

@@ -21,9 +21,6 @@ abbrev μ-loop : tie.MeasureT-loop
 loop-holds : tie.Need-loop-holds Inv-loop μ-loop
 loop-holds c = checking-start _ _ (all-bytes (c .before .args .s .now) (λ i. c .shared-slice-known .given i .fits)) (c .before .pre)
 
-token-at-requires : tie.Need-token-at-requires Inv-loop μ-loop
-token-at-requires c κs = omega arith
-
 -- what is known of the turn where the token is this one
 abbrev TurnAt : tie.At-loop Inv-loop μ-loop → Answer → Type 0
 TurnAt c r =
@@ -44,68 +41,23 @@ at-whole : (c : tie.After-kind Inv-loop μ-loop)
     → TurnAt (c .before .before .before .before) (Whole (c .kind .given .0 .0) (c .kind .given .0 .1 .0) (c .kind .given .0 .1 .1 .0))
 at-whole c = at-token (c .before .before) _ (c .kind .given .1)
 
-enum-told : tie.Need-enum-told Inv-loop μ-loop
-enum-told c = search needs
-
-wrong-requires : tie.Need-wrong-requires Inv-loop μ-loop
-wrong-requires c κs = search needs
-
 returns : tie.Need-returns Inv-loop μ-loop
 returns c = c .wrong .ensures ∙ at-opening (c .before .before) .0 (c .before .if1 .taken)
-
-wrong-requires-2 : tie.Need-wrong-requires-2 Inv-loop μ-loop
-wrong-requires-2 c κs = search needs
 
 returns-2 : tie.Need-returns-2 Inv-loop μ-loop
 returns-2 c = c .wrong2 .ensures ∙ at-opening (c .before .before .before) .1 (c .before .before .if1 .left) (c .before .if2 .taken)
 
-add-depth : tie.Need-add-depth Inv-loop μ-loop
-add-depth c = omega arith
-
-add-rows : tie.Need-add-rows Inv-loop μ-loop
-add-rows c = omega arith
-
-add-at : tie.Need-add-at Inv-loop μ-loop
-add-at c = omega arith
-
-loop-less : tie.Need-loop-less Inv-loop μ-loop
-loop-less c = omega arith
-
 loop-again : tie.Need-loop-again Inv-loop μ-loop
 loop-again c = at-opening (c .before .before) .2 (c .before .if1 .left) (c .if2 .left)
-
-enum-told-2 : tie.Need-enum-told-2 Inv-loop μ-loop
-enum-told-2 c = search needs
-
-wrong-requires-3 : tie.Need-wrong-requires-3 Inv-loop μ-loop
-wrong-requires-3 c κs = search needs
 
 returns-3 : tie.Need-returns-3 Inv-loop μ-loop
 returns-3 c = c .wrong3 .ensures ∙ at-closing (c .before .before) .0 (c .before .if3 .taken)
 
-sub-depth : tie.Need-sub-depth Inv-loop μ-loop
-sub-depth c = omega arith
-
-add-at-2 : tie.Need-add-at-2 Inv-loop μ-loop
-add-at-2 c = omega arith
-
-loop-less-2 : tie.Need-loop-less-2 Inv-loop μ-loop
-loop-less-2 c = omega arith
-
 loop-again-2 : tie.Need-loop-again-2 Inv-loop μ-loop
 loop-again-2 c = at-closing (c .before) .1 (c .if3 .left)
 
-enum-known-kind : tie.Need-enum-known-kind Inv-loop μ-loop
-enum-known-kind c = search needs
-
-wrong-requires-4 : tie.Need-wrong-requires-4 Inv-loop μ-loop
-wrong-requires-4 c κs = search needs
-
 returns-4 : tie.Need-returns-4 Inv-loop μ-loop
 returns-4 c = c .wrong4 .ensures ∙ at-whole (c .before .before .before) .4 (c .before .if4 .taken)
-
-add-rows-2 : tie.Need-add-rows-2 Inv-loop μ-loop
-add-rows-2 c = omega arith
 
 spared-requires : tie.Need-spared-requires Inv-loop μ-loop
 spared-requires c κs = let w = at-whole (c .before .before) in (w .0, w .1)
@@ -119,20 +71,8 @@ loop-less-3 c = let w = at-whole (c .before .before .before) in omega (arith, w 
 loop-again-3 : tie.Need-loop-again-3 Inv-loop μ-loop
 loop-again-3 c = at-whole (c .before .before .before) .5 _ (c .spared .ensures) (c .before .if4 .left)
 
-enum-known-number : tie.Need-enum-known-number Inv-loop μ-loop
-enum-known-number c = search needs
-
-wrong-requires-5 : tie.Need-wrong-requires-5 Inv-loop μ-loop
-wrong-requires-5 c κs = search needs
-
 returns-5 : tie.Need-returns-5 Inv-loop μ-loop
 returns-5 c = c .wrong5 .ensures ∙ at-token (c .before .before .before .before) _ (c .before .before .number .given .1)
-
-sub-ended : tie.Need-sub-ended Inv-loop μ-loop
-sub-ended c = omega arith
-
-ended-requires : tie.Need-ended-requires Inv-loop μ-loop
-ended-requires c κs = search needs
 
 returns-6 : tie.Need-returns-6 Inv-loop μ-loop
 returns-6 c = c .ended .ensures ∙ check-end _ _ _ _ _ _ (c .before .before .loop .inv) (c .before .loop-test .left)
@@ -144,35 +84,35 @@ check-tokens-spec =
     Inv-loop
     μ-loop
     loop-holds
-    token-at-requires
-    enum-told
-    wrong-requires
+    (λ c κs. omega arith)
+    (λ c. search needs)
+    (λ c κs. search needs)
     returns
-    wrong-requires-2
+    (λ c κs. search needs)
     returns-2
-    add-depth
-    add-rows
-    add-at
-    loop-less
+    (λ c. omega arith)
+    (λ c. omega arith)
+    (λ c. omega arith)
+    (λ c. omega arith)
     loop-again
-    enum-told-2
-    wrong-requires-3
+    (λ c. search needs)
+    (λ c κs. search needs)
     returns-3
-    sub-depth
-    add-at-2
-    loop-less-2
+    (λ c. omega arith)
+    (λ c. omega arith)
+    (λ c. omega arith)
     loop-again-2
-    enum-known-kind
-    wrong-requires-4
+    (λ c. search needs)
+    (λ c κs. search needs)
     returns-4
-    add-rows-2
+    (λ c. omega arith)
     spared-requires
     add-saved
     loop-less-3
     loop-again-3
-    enum-known-number
-    wrong-requires-5
+    (λ c. search needs)
+    (λ c κs. search needs)
     returns-5
-    sub-ended
-    ended-requires
+    (λ c. omega arith)
+    (λ c κs. search needs)
     returns-6)

@@ -10,9 +10,6 @@ use Rattle.reader.proofs.Finding.{TopTurn, top-turn}
 use Rattle.reader.proofs.expression_end.Statement.{statement}
 use Rattle.reader.proofs.expression_end.Tie as tie
 
-token-at-requires : tie.Need-token-at-requires
-token-at-requires c κs = search needs
-
 -- what is known where the token is this one
 at-token : (c : tie.After-token-at) (r : Answer) → c .token-at .result ≡ r → TopTurn (c .before .before .args .s .now) (c .before .before .args .at) r
 at-token c r e =
@@ -20,23 +17,8 @@ at-token c r e =
     let stream = all-bytes (start .args .s .now) (λ i. c .before .shared-slice-known .given i .fits) in
     top-turn _ _ stream (start .pre .1) (start .pre .2) r (sym e ∙ c .token-at .ensures)
 
-enum-told : tie.Need-enum-told
-enum-told c = search needs
-
-add-form-end : tie.Need-add-form-end
-add-form-end c = search needs
-
 form-end-requires : tie.Need-form-end-requires
 form-end-requires c κs = (omega arith, omega arith, at-token (c .before .before) Opening (c .enum-told .given .1) .0)
-
-enum-known-end : tie.Need-enum-known-end
-enum-known-end c = search needs
-
-enum-told-2 : tie.Need-enum-told-2
-enum-told-2 c = search needs
-
-enum-told-3 : tie.Need-enum-told-3
-enum-told-3 c = search needs
 
 returns : tie.Need-returns
 returns c = c .form-end .ensures ∙ sym (at-token (c .before .before .before) Opening (c .before .enum-told .given .1) .1)
@@ -54,13 +36,13 @@ pub expression-end-spec : {M : Type 1} → statement M
 expression-end-spec =
     tie.close
     (tie.spec
-    token-at-requires
-    enum-told
-    add-form-end
+    (λ c κs. search needs)
+    (λ c. search needs)
+    (λ c. search needs)
     form-end-requires
-    enum-known-end
-    enum-told-2
-    enum-told-3
+    (λ c. search needs)
+    (λ c. search needs)
+    (λ c. search needs)
     returns
     returns-2
     returns-3

@@ -23,9 +23,6 @@ loop-holds c =
     let start = c .before .before in
     filling-start _ _ _ (all-bytes (start .args .s .now) (λ i. c .before .shared-slice-known .given i .fits)) (start .pre .0) refl (start .pre .1)
 
-token-at-requires : tie.Need-token-at-requires Inv-loop μ-loop
-token-at-requires c κs = omega arith
-
 -- what is known of the turn where the token is this one
 abbrev TurnAt : tie.At-loop Inv-loop μ-loop → Answer → Type 0
 TurnAt c r =
@@ -46,77 +43,26 @@ at-whole : (c : tie.After-kind Inv-loop μ-loop)
     → TurnAt (c .before .before .before .before) (Whole (c .kind .given .0 .0) (c .kind .given .0 .1 .0) (c .kind .given .0 .1 .1 .0))
 at-whole c = at-token (c .before .before) _ (c .kind .given .1)
 
-enum-told : tie.Need-enum-told Inv-loop μ-loop
-enum-told c = search needs
-
-cast-forms : tie.Need-cast-forms Inv-loop μ-loop
-cast-forms c = omega arith
-
-mul-forms : tie.Need-mul-forms Inv-loop μ-loop
-mul-forms c = omega arith
-
 array-write-forms : tie.Need-array-write-forms Inv-loop μ-loop
 array-write-forms c = at-opening c .0
-
-cast-start-row : tie.Need-cast-start-row Inv-loop μ-loop
-cast-start-row c = omega arith
 
 start-row-requires : tie.Need-start-row-requires Inv-loop μ-loop
 start-row-requires c κs = at-opening (c .before) .1
 
-add-depth : tie.Need-add-depth Inv-loop μ-loop
-add-depth c = omega arith
-
-add-rows : tie.Need-add-rows Inv-loop μ-loop
-add-rows c = omega arith
-
-add-at : tie.Need-add-at Inv-loop μ-loop
-add-at c = omega arith
-
-loop-less : tie.Need-loop-less Inv-loop μ-loop
-loop-less c = omega arith
-
 loop-again : tie.Need-loop-again Inv-loop μ-loop
 loop-again c = rw (c .before .before .start-row .ensures) (at-opening (c .before .before .before .before) .2)
-
-enum-told-2 : tie.Need-enum-told-2 Inv-loop μ-loop
-enum-told-2 c = search needs
 
 sub-depth : tie.Need-sub-depth Inv-loop μ-loop
 sub-depth c = at-closing c .0
 
-add-at-2 : tie.Need-add-at-2 Inv-loop μ-loop
-add-at-2 c = omega arith
-
-mul-end-row : tie.Need-mul-end-row Inv-loop μ-loop
-mul-end-row c = omega arith
-
-array-read-end-row : tie.Need-array-read-end-row Inv-loop μ-loop
-array-read-end-row c = omega arith
-
 cast-end-row : tie.Need-cast-end-row Inv-loop μ-loop
 cast-end-row c = omega (arith, at-closing (c .before))
-
-cast-end-row-2 : tie.Need-cast-end-row-2 Inv-loop μ-loop
-cast-end-row-2 c = omega arith
-
-cast-end-row-3 : tie.Need-cast-end-row-3 Inv-loop μ-loop
-cast-end-row-3 c = omega arith
 
 end-row-requires : tie.Need-end-row-requires Inv-loop μ-loop
 end-row-requires c κs = at-closing (c .before) .1
 
-loop-less-2 : tie.Need-loop-less-2 Inv-loop μ-loop
-loop-less-2 c = omega arith
-
 loop-again-2 : tie.Need-loop-again-2 Inv-loop μ-loop
 loop-again-2 c = rw (c .before .before .end-row .ensures) (at-closing (c .before .before .before .before) .2)
-
-enum-known-kind : tie.Need-enum-known-kind Inv-loop μ-loop
-enum-known-kind c = search needs
-
-cast-start-row-2 : tie.Need-cast-start-row-2 Inv-loop μ-loop
-cast-start-row-2 c = omega arith
 
 start-row-requires-2 : tie.Need-start-row-requires-2 Inv-loop μ-loop
 start-row-requires-2 c κs = at-whole (c .before .before) .2
@@ -124,19 +70,10 @@ start-row-requires-2 c κs = at-whole (c .before .before) .2
 cast-end-row-4 : tie.Need-cast-end-row-4 Inv-loop μ-loop
 cast-end-row-4 c = omega (arith, at-whole (c .before .before .before .before .before .before))
 
-add-end-row : tie.Need-add-end-row Inv-loop μ-loop
-add-end-row c = omega arith
-
-cast-end-row-5 : tie.Need-cast-end-row-5 Inv-loop μ-loop
-cast-end-row-5 c = omega arith
-
 end-row-requires-2 : tie.Need-end-row-requires-2 Inv-loop μ-loop
 end-row-requires-2 c κs =
     let start = c .before .before .before in
     rw (start .start-row2 .ensures) (simp length-set (at-whole (start .before .before .before) .2))
-
-add-rows-2 : tie.Need-add-rows-2 Inv-loop μ-loop
-add-rows-2 c = omega arith
 
 loop-less-3 : tie.Need-loop-less-3 Inv-loop μ-loop
 loop-less-3 c = omega (arith, at-whole (c .before .before .before .before .before .before .before .before .before))
@@ -147,17 +84,8 @@ loop-again-3 c =
     let start = end .before .before .before .before in
     rw (end .end-row2 .ensures, start .start-row2 .ensures) (at-whole (start .before .before .before) .3)
 
-enum-told-3 : tie.Need-enum-told-3 Inv-loop μ-loop
-enum-told-3 c = search needs
-
-same-length : tie.Need-same-length Inv-loop μ-loop
-same-length c = search needs
-
 returns : tie.Need-returns Inv-loop μ-loop
 returns c = absurd (at-token (c .before .before) _ (c .enum-told3 .given .1))
-
-same-length-2 : tie.Need-same-length-2 Inv-loop μ-loop
-same-length-2 c = search needs
 
 returns-2 : tie.Need-returns-2 Inv-loop μ-loop
 returns-2 c = filling-end _ _ _ _ _ _ _ (c .before .loop .inv) (c .loop-test .left)
@@ -169,41 +97,41 @@ fill-spec =
     Inv-loop
     μ-loop
     loop-holds
-    token-at-requires
-    enum-told
-    cast-forms
-    mul-forms
+    (λ c κs. omega arith)
+    (λ c. search needs)
+    (λ c. omega arith)
+    (λ c. omega arith)
     array-write-forms
-    cast-start-row
+    (λ c. omega arith)
     start-row-requires
-    add-depth
-    add-rows
-    add-at
-    loop-less
+    (λ c. omega arith)
+    (λ c. omega arith)
+    (λ c. omega arith)
+    (λ c. omega arith)
     loop-again
-    enum-told-2
+    (λ c. search needs)
     sub-depth
-    add-at-2
-    mul-end-row
-    array-read-end-row
+    (λ c. omega arith)
+    (λ c. omega arith)
+    (λ c. omega arith)
     cast-end-row
-    cast-end-row-2
-    cast-end-row-3
+    (λ c. omega arith)
+    (λ c. omega arith)
     end-row-requires
-    loop-less-2
+    (λ c. omega arith)
     loop-again-2
-    enum-known-kind
-    cast-start-row-2
+    (λ c. search needs)
+    (λ c. omega arith)
     start-row-requires-2
     cast-end-row-4
-    add-end-row
-    cast-end-row-5
+    (λ c. omega arith)
+    (λ c. omega arith)
     end-row-requires-2
-    add-rows-2
+    (λ c. omega arith)
     loop-less-3
     loop-again-3
-    enum-told-3
-    same-length
+    (λ c. search needs)
+    (λ c. search needs)
     returns
-    same-length-2
+    (λ c. search needs)
     returns-2)

@@ -30,9 +30,6 @@ at-end c = finding-turn _ _ _ _ (c .before .before .loop .inv) _ (c .before .loo
 returns : tie.Need-returns Inv-loop μ-loop
 returns c = at-end (c .before) .this (c .if1 .taken)
 
-sub-n : tie.Need-sub-n Inv-loop μ-loop
-sub-n c = omega arith
-
 loop-less : tie.Need-loop-less Inv-loop μ-loop
 loop-less c = omega (arith, at-end (c .before) .forward)
 
@@ -51,7 +48,7 @@ find-spec =
     loop-holds
     expression-end-requires
     returns
-    sub-n
+    (λ c. omega arith)
     loop-less
     loop-again
     returns-2)

@@ -8,15 +8,6 @@ use borrow.Author.Tests.{ne-eqb}
 use Rattle.reader.proofs.spared.Statement.{statement}
 use Rattle.reader.proofs.spared.Tie as tie
 
-sub-before : tie.Need-sub-before
-sub-before c = search needs
-
-sub-head-size : tie.Need-sub-head-size
-sub-head-size c = search needs
-
-head-size-requires : tie.Need-head-size-requires
-head-size-requires c κs = search needs
-
 sub-result : tie.Need-sub-result
 sub-result c = let fits = rw (c .before .if1 .taken) at (c .before .before .pre .1) in omega (arith, c .head-size .ensures)
 
@@ -28,4 +19,4 @@ returns-2 c = rw (ne-eqb (c .before .args .kind) 2 (c .if1 .left)) (omega arith)
 
 pub spared-spec : {M : Type 1} → statement M
 spared-spec =
-    tie.close (tie.spec sub-before sub-head-size head-size-requires sub-result returns returns-2)
+    tie.close (tie.spec (λ c. search needs) (λ c. search needs) (λ c κs. search needs) sub-result returns returns-2)

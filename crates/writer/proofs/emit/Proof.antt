@@ -92,9 +92,6 @@ loop-holds c = emitted-none _ _ (c .before .before .pre .0)
 token-at-requires : tie.Need-token-at-requires Inv-loop μ-loop
 token-at-requires c κs = omega (arith, short (c .before))
 
-enum-told : tie.Need-enum-told Inv-loop μ-loop
-enum-told c = search needs
-
 slice-write-out : tie.Need-slice-write-out Inv-loop μ-loop
 slice-write-out c = omega (arith, room (c .before .before .before .before) _ (opened c))
 
@@ -103,19 +100,10 @@ add-to c =
     let l = c .before .before .before .before in
     omega (arith, room l _ (opened c), same l)
 
-add-at : tie.Need-add-at Inv-loop μ-loop
-add-at c = omega arith
-
-loop-less : tie.Need-loop-less Inv-loop μ-loop
-loop-less c = omega arith
-
 loop-again : tie.Need-loop-again Inv-loop μ-loop
 loop-again c =
     let l = c .before .before .before .before in
     kept l _ (opened c) (omega arith) (stored _ _ _ (room l _ (opened c)))
-
-enum-told-2 : tie.Need-enum-told-2 Inv-loop μ-loop
-enum-told-2 c = search needs
 
 slice-write-out-2 : tie.Need-slice-write-out-2 Inv-loop μ-loop
 slice-write-out-2 c = omega (arith, room (c .before .before .before .before) _ (closed c))
@@ -125,19 +113,10 @@ add-to-2 c =
     let l = c .before .before .before .before in
     omega (arith, room l _ (closed c), same l)
 
-add-at-2 : tie.Need-add-at-2 Inv-loop μ-loop
-add-at-2 c = omega arith
-
-loop-less-2 : tie.Need-loop-less-2 Inv-loop μ-loop
-loop-less-2 c = omega arith
-
 loop-again-2 : tie.Need-loop-again-2 Inv-loop μ-loop
 loop-again-2 c =
     let l = c .before .before .before .before in
     kept l _ (closed c) (omega arith) (stored _ _ _ (room l _ (closed c)))
-
-enum-known-kind : tie.Need-enum-known-kind Inv-loop μ-loop
-enum-known-kind c = search needs
 
 sub-put-atom : tie.Need-sub-put-atom Inv-loop μ-loop
 sub-put-atom c = atom-there c .ends
@@ -167,9 +146,6 @@ loop-again-3 c =
     let l = k .before .before .before .before .before in
     kept l _ (w .is) (w .inside) (rw (atom-written k) (c .before .before .put-atom .ensures))
 
-enum-told-3 : tie.Need-enum-told-3 Inv-loop μ-loop
-enum-told-3 c = search needs
-
 same-length : tie.Need-same-length Inv-loop μ-loop
 same-length c = same (c .before .before .before .before)
 
@@ -192,26 +168,26 @@ emit-spec =
     μ-loop
     loop-holds
     token-at-requires
-    enum-told
+    (λ c. search needs)
     slice-write-out
     add-to
-    add-at
-    loop-less
+    (λ c. omega arith)
+    (λ c. omega arith)
     loop-again
-    enum-told-2
+    (λ c. search needs)
     slice-write-out-2
     add-to-2
-    add-at-2
-    loop-less-2
+    (λ c. omega arith)
+    (λ c. omega arith)
     loop-again-2
-    enum-known-kind
+    (λ c. search needs)
     sub-put-atom
     part-put-atom-start
     part-put-atom-end
     put-atom-requires
     loop-less-3
     loop-again-3
-    enum-told-3
+    (λ c. search needs)
     same-length
     returns
     same-length-2

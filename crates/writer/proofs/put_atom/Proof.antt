@@ -39,9 +39,6 @@ put-bytes-requires c κs =
     let room = head-room (c .before .before .before .before .before) in
     omega (arith, c .before .before .before .put-head .ensures .place)
 
-same-length : tie.Need-same-length
-same-length c = search needs
-
 returns : tie.Need-returns
 returns c =
     let a = c .before .before .before .before .before .before .before .before .before .before .before .args in
@@ -54,9 +51,6 @@ put-bytes-requires-2 c κs =
     let a = c .before .before .before .before .args in
     rw (bare (a .kind) (a .body .now) (c .before .if1 .left)) at (c .before .before .before .before .pre .1)
 
-same-length-2 : tie.Need-same-length-2
-same-length-2 c = search needs
-
 returns-2 : tie.Need-returns-2
 returns-2 c =
     let a = c .before .before .before .before .before .before .before .args in
@@ -68,8 +62,8 @@ put-atom-spec =
     (tie.spec
     put-head-requires
     put-bytes-requires
-    same-length
+    (λ c. search needs)
     returns
     put-bytes-requires-2
-    same-length-2
+    (λ c. search needs)
     returns-2)

@@ -5,22 +5,10 @@ use Rattle.evaluator.proofs.Bodies.{body-small, body-generic, one-end}
 use Rattle.evaluator.proofs.arrays.body.Statement.{statement}
 use Rattle.evaluator.proofs.arrays.body.Tie as tie
 
-start-requires : tie.Need-start-requires
-start-requires c κs = search needs
-
-shared-slice-read-if1 : tie.Need-shared-slice-read-if1
-shared-slice-read-if1 c = search needs
-
-add-result : tie.Need-add-result
-add-result c = search needs
-
 returns : tie.Need-returns
 returns c =
     let a = c .before .before .before .before .before .args in
     λ bs leaf. body-small (a .s .now) (a .table .now) (a .row) _ bs (c .before .before .start .ensures) leaf (c .if1 .taken)
-
-add-length-end : tie.Need-add-length-end
-add-length-end c = search needs
 
 length-end-requires : tie.Need-length-end-requires
 length-end-requires c κs =
@@ -41,10 +29,10 @@ pub body-spec : {M : Type 1} → statement M
 body-spec =
     tie.close
     (tie.spec
-    start-requires
-    shared-slice-read-if1
-    add-result
+    (λ c κs. search needs)
+    (λ c. search needs)
+    (λ c. search needs)
     returns
-    add-length-end
+    (λ c. search needs)
     length-end-requires
     returns-2)

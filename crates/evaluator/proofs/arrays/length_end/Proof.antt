@@ -11,9 +11,6 @@ use Rattle.evaluator.proofs.Bodies.{ends-as, Innermost, innermost}
 use Rattle.evaluator.proofs.arrays.length_end.Statement.{statement}
 use Rattle.evaluator.proofs.arrays.length_end.Tie as tie
 
-threes-requires : tie.Need-threes-requires
-threes-requires c κs = search needs
-
 -- what stands behind the bytes 03
 there : (c : tie.After-threes)
     → let a = c .before .before .args in let s = a .s .now in
@@ -80,7 +77,7 @@ pub length-end-spec : {M : Type 1} → statement M
 length-end-spec =
     tie.close
     (tie.spec
-    threes-requires
+    (λ c κs. search needs)
     add-p
     shared-slice-read-b
     cast-b

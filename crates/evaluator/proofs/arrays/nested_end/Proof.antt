@@ -40,12 +40,6 @@ short-number-requires c κs =
     let i = there c in
     (omega arith, omega (arith, i .inside), value-short _ _ (l .k - 1) _ (l .at + l .v) (ends-as (i .is) (ends c)) (omega arith))
 
-sub-k : tie.Need-sub-k Inv-loop μ-loop
-sub-k c = omega arith
-
-loop-less : tie.Need-loop-less Inv-loop μ-loop
-loop-less c = omega arith
-
 loop-again : tie.Need-loop-again Inv-loop μ-loop
 loop-again c =
     let l = c .before .before .loop in
@@ -71,7 +65,7 @@ nested-end-spec =
     loop-holds
     add-end
     short-number-requires
-    sub-k
-    loop-less
+    (λ c. omega arith)
+    (λ c. omega arith)
     loop-again
     returns)

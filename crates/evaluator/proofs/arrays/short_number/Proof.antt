@@ -5,21 +5,6 @@ use Rattle.evaluator.proofs.Bodies.{last-three}
 use Rattle.evaluator.proofs.arrays.short_number.Statement.{statement}
 use Rattle.evaluator.proofs.arrays.short_number.Tie as tie
 
-sub-if1 : tie.Need-sub-if1
-sub-if1 c = search needs
-
-number-requires : tie.Need-number-requires
-number-requires c κs = search needs
-
-returns : tie.Need-returns
-returns c = search needs
-
-sub-number : tie.Need-sub-number
-sub-number c = search needs
-
-number-requires-2 : tie.Need-number-requires-2
-number-requires-2 c κs = search needs
-
 returns-2 : tie.Need-returns-2
 returns-2 c =
     let a = c .before .before .before .args in
@@ -27,4 +12,4 @@ returns-2 c =
     omega (arith, c .number2 .ensures, last-three (a .s .now) (a .from) (a .to) (omega arith) (pre .1) (pre .2))
 
 pub short-number-spec : {M : Type 1} → statement M
-short-number-spec = tie.close (tie.spec sub-if1 number-requires returns sub-number number-requires-2 returns-2)
+short-number-spec = tie.close (tie.spec (λ c. search needs) (λ c κs. search needs) (λ c. search needs) (λ c. search needs) (λ c κs. search needs) returns-2)

@@ -12,12 +12,6 @@ returns c bound run e h b =
     let x = c .before .before .before .before .args in
     eval-none (x .s .now) (x .table .now) (x .row) run h e (b .node) (x .state .steps) (x .state .room) (c .if1 .taken)
 
-sub-t18 : tie.Need-sub-t18
-sub-t18 c = search needs
-
-plan-requires : tie.Need-plan-requires
-plan-requires c κs = search needs
-
 perform-requires : tie.Need-perform-requires
 perform-requires c κs =
     let k = c .before .before .before .before in
@@ -25,9 +19,6 @@ perform-requires c κs =
     let b = k .before .before .before .before .pre .begins in
     let planned = c .before .before .plan .ensures (x .w .now) (x .state .floor) (x .state .top) _ _ (b .node) (b .setting) in
     (entries (x .keys .now) (x .places .now) (x .scope), x .state, _, _, refl, begin-performs b (omega (arith, k .if1 .left)) planned)
-
-same-length : tie.Need-same-length
-same-length c = search needs
 
 returns-2 : tie.Need-returns-2
 returns-2 c bound run e h b =
@@ -39,4 +30,4 @@ returns-2 c bound run e h b =
 
 pub begin-spec : {M : Type 1} → statement M
 begin-spec =
-    tie.close (tie.spec returns sub-t18 plan-requires perform-requires same-length returns-2)
+    tie.close (tie.spec returns (λ c. search needs) (λ c κs. search needs) perform-requires (λ c. search needs) returns-2)

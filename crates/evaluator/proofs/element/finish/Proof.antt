@@ -6,12 +6,6 @@ use Rattle.evaluator.specs.declared.values.Out.the-variants.{Done}
 use Rattle.evaluator.proofs.element.finish.Statement.{statement}
 use Rattle.evaluator.proofs.element.finish.Tie as tie
 
-enum-known-out : tie.Need-enum-known-out
-enum-known-out c = search needs
-
-enum-known-out-2 : tie.Need-enum-known-out-2
-enum-known-out-2 c = search needs
-
 finish-values-requires : tie.Need-finish-values-requires
 finish-values-requires c κs =
     let told = c .before .before in
@@ -23,9 +17,6 @@ finish-values-requires c κs =
 returns : tie.Need-returns
 returns c = rw (c .before .out .given .1) refl
 
-same-length : tie.Need-same-length
-same-length c = search needs
-
 returns-2 : tie.Need-returns-2
 returns-2 c =
     let k = c .before .before in
@@ -34,4 +25,4 @@ returns-2 c =
 pub finish-spec : {M : Type 1} → statement M
 finish-spec =
     tie.close
-    (tie.spec enum-known-out enum-known-out-2 finish-values-requires returns same-length returns-2)
+    (tie.spec (λ c. search needs) (λ c. search needs) finish-values-requires returns (λ c. search needs) returns-2)

@@ -8,33 +8,12 @@ use Rattle.evaluator.proofs.Finishes.{can-define, can-join, no-call, fo
 use Rattle.evaluator.proofs.element.finish_values.Statement.{statement}
 use Rattle.evaluator.proofs.element.finish_values.Tie as tie
 
-enum-told : tie.Need-enum-told
-enum-told c = search needs
-
-wrapped-requires : tie.Need-wrapped-requires
-wrapped-requires c κs = search needs
-
-leaves-requires : tie.Need-leaves-requires
-leaves-requires c κs = search needs
-
-enum-told-2 : tie.Need-enum-told-2
-enum-told-2 c = search needs
-
 joined-requires : tie.Need-joined-requires
 joined-requires c κs =
     let start = c .before .before .before .before in
     let a = start .args in
     let can : CanFinish (a .w .now) (a .start) Concat (Done (a .state)) = rw (c .before .enum-told2 .given .1) at (start .pre) in
     (start .pre .4 .fitting, can-join can)
-
-leaves-requires-2 : tie.Need-leaves-requires-2
-leaves-requires-2 c κs = search needs
-
-enum-known-after : tie.Need-enum-known-after
-enum-known-after c = search needs
-
-kept-requires : tie.Need-kept-requires
-kept-requires c κs = search needs
 
 pack-requires : tie.Need-pack-requires
 pack-requires c κs =
@@ -48,12 +27,6 @@ pack-requires c κs =
     let moved = c .before .before .kept .ensures in
     (omega (arith, some, moved .floor), omega (arith, fits .below, fits .short))
 
-enum-told-3 : tie.Need-enum-told-3
-enum-told-3 c = search needs
-
-same-length : tie.Need-same-length
-same-length c = search needs
-
 returns : tie.Need-returns
 returns c =
     let k = c .before .before .before in
@@ -62,9 +35,6 @@ returns c =
     rw (c .leaves .ensures, told .enum-told .given .1)
     (form-finished (a .w .now) (k .wrapped .last .0) (a .state) (a .start) (a .row) (k .wrapped .result) (k .wrapped .ensures))
 
-same-length-2 : tie.Need-same-length-2
-same-length-2 c = search needs
-
 returns-2 : tie.Need-returns-2
 returns-2 c =
     let k = c .before .before .before in
@@ -72,9 +42,6 @@ returns-2 c =
     let a = told .before .before .before .args in
     rw (c .leaves2 .ensures, told .enum-told2 .given .1)
     (concat-finished (a .w .now) (k .joined .last .0) (a .state) (a .start) (a .row) (k .joined .result) (k .joined .ensures))
-
-same-length-3 : tie.Need-same-length-3
-same-length-3 c = search needs
 
 returns-3 : tie.Need-returns-3
 returns-3 c =
@@ -97,20 +64,20 @@ pub finish-values-spec : {M : Type 1} → statement M
 finish-values-spec =
     tie.close
     (tie.spec
-    enum-told
-    wrapped-requires
-    leaves-requires
-    enum-told-2
+    (λ c. search needs)
+    (λ c κs. search needs)
+    (λ c κs. search needs)
+    (λ c. search needs)
     joined-requires
-    leaves-requires-2
-    enum-known-after
-    kept-requires
+    (λ c κs. search needs)
+    (λ c. search needs)
+    (λ c κs. search needs)
     pack-requires
-    enum-told-3
-    same-length
+    (λ c. search needs)
+    (λ c. search needs)
     returns
-    same-length-2
+    (λ c. search needs)
     returns-2
-    same-length-3
+    (λ c. search needs)
     returns-3
     returns-4)

@@ -14,16 +14,10 @@ use Rattle.evaluator.proofs.element.is_single.Tie as tie
 next-requires : tie.Need-next-requires
 next-requires c κs = c .before .before .pre .1 .form .inside
 
-add-if1 : tie.Need-add-if1
-add-if1 c = search needs
-
 returns : tie.Need-returns
 returns c = λ body at.
     let a = c .before .before .before .before .args in
     sym (code-none (a .s .now) (a .table .now) (a .code) body at (omega arith))
-
-add-next : tie.Need-add-next
-add-next c = search needs
 
 -- the first expression of the code
 first : (c : tie.Else1) → let start = c .before .before .before .before in let a = start .args in
@@ -44,9 +38,6 @@ returns-2 c = λ body at.
     let a = c .before .before .before .before .before .before .args in
     sym (code-many (a .s .now) (a .table .now) (a .code) body at (omega arith) (omega arith))
 
-add-head : tie.Need-add-head
-add-head c = search needs
-
 head-requires : tie.Need-head-requires
 head-requires c κs =
     let f = first (c .before .before) in
@@ -64,11 +55,11 @@ is-single-spec =
     tie.close
     (tie.spec
     next-requires
-    add-if1
+    (λ c. search needs)
     returns
-    add-next
+    (λ c. search needs)
     next-requires-2
     returns-2
-    add-head
+    (λ c. search needs)
     head-requires
     returns-3)

@@ -4,12 +4,6 @@ use mathlib.Core.Path.{refl}
 use Rattle.evaluator.proofs.element.leaves.Statement.{statement}
 use Rattle.evaluator.proofs.element.leaves.Tie as tie
 
-enum-known-out : tie.Need-enum-known-out
-enum-known-out c = search needs
-
-enum-known-out-2 : tie.Need-enum-known-out-2
-enum-known-out-2 c = search needs
-
 returns : tie.Need-returns
 returns c = rw (c .before .out .given .1) refl
 
@@ -17,4 +11,4 @@ returns-2 : tie.Need-returns-2
 returns-2 c = rw (c .before .out2 .given .1) refl
 
 pub leaves-spec : {M : Type 1} → statement M
-leaves-spec = tie.close (tie.spec enum-known-out enum-known-out-2 returns returns-2)
+leaves-spec = tie.close (tie.spec (λ c. search needs) (λ c. search needs) returns returns-2)

@@ -8,35 +8,17 @@ use Rattle.evaluator.proofs.Begins.{fits-stepped, own-leaf, again-stand
 use Rattle.evaluator.proofs.element.perform.Statement.{statement}
 use Rattle.evaluator.proofs.element.perform.Tie as tie
 
-enum-known-task : tie.Need-enum-known-task
-enum-known-task c = search needs
-
-enum-told : tie.Need-enum-told
-enum-told c = search needs
-
 own-requires : tie.Need-own-requires
 own-requires c κs =
     let k = c .before .before .before .before .before .before .pre in
     let o = own-leaf (rw (c .before .enum-told .given .1) at (k .5)) in
     (rw (k .4) (fits-stepped (k .5)), (o .0, o .1))
 
-leaves-requires : tie.Need-leaves-requires
-leaves-requires c κs = search needs
-
-enum-known-task-2 : tie.Need-enum-known-task-2
-enum-known-task-2 c = search needs
-
 again-requires : tie.Need-again-requires
 again-requires c κs =
     let k = c .before .before .before .before .before .before .before .pre in
     let o = again-stands (rw (c .before .before .task2 .given .1) at (k .5)) in
     (rw (k .4) (fits-stepped (k .5)), (o .1 .order, o .1 .inside))
-
-leaves-requires-2 : tie.Need-leaves-requires-2
-leaves-requires-2 c κs = search needs
-
-enum-known-task-3 : tie.Need-enum-known-task-3
-enum-known-task-3 c = search needs
 
 associate-requires : tie.Need-associate-requires
 associate-requires c κs =
@@ -45,12 +27,6 @@ associate-requires c κs =
     let a = ns-associates p in
     let few = p .fewer (a .marker) (a .name) (a .id) (a .plan-is) in
     (rw (k .4) (fits-stepped (k .5)), (rw (k .4) few, (a .marker, a .name, a .id, a .reference, a .id-at)))
-
-leaves-requires-3 : tie.Need-leaves-requires-3
-leaves-requires-3 c κs = search needs
-
-enum-known-task-4 : tie.Need-enum-known-task-4
-enum-known-task-4 c = search needs
 
 -- a function's key and row
 small : (c : tie.After-known-told4) → let told = c .before .task4 .given .0 in (told .0 < function-bit) × (told .1 .0 < 65536)
@@ -62,17 +38,8 @@ add-t31 c = omega (arith, small c .0)
 cast-t32 : tie.Need-cast-t32
 cast-t32 c = omega (arith, small c .1)
 
-enum-known-task-5 : tie.Need-enum-known-task-5
-enum-known-task-5 c = search needs
-
-inside-requires : tie.Need-inside-requires
-inside-requires c κs = search needs
-
 returns : tie.Need-returns
 returns c sc st run e h is p = refuse-begun run (rw (c .before .task .given .1) at p)
-
-same-length : tie.Need-same-length
-same-length c = search needs
 
 returns-2 : tie.Need-returns-2
 returns-2 c sc st run e h is p =
@@ -80,18 +47,12 @@ returns-2 c sc st run e h is p =
     let own = c .before .before .before .own in
     rw (c .leaves .ensures) (leave-begun run (only (atom (o .0))) (own .last .1 .1 .0) (own .result) p (o .2) (rw is at (own .ensures (o .0) (o .1))))
 
-same-length-2 : tie.Need-same-length-2
-same-length-2 c = search needs
-
 returns-3 : tie.Need-returns-3
 returns-3 c sc st run e h is p =
     let o = again-stands (rw (c .before .before .before .before .before .before .task2 .given .1) at p) in
     let again = c .before .before .before .again in
     let shallow = p .shallow (o .0) (o .2) in
     rw (c .leaves2 .ensures) (leave-begun run (o .0) (again .last .0) (again .result) p (o .2) (rw is at (again .ensures (o .0) (o .1) shallow)))
-
-same-length-3 : tie.Need-same-length-3
-same-length-3 c = search needs
 
 returns-4 : tie.Need-returns-4
 returns-4 c sc st run e h is p =
@@ -113,27 +74,27 @@ pub perform-spec : {M : Type 1} → statement M
 perform-spec =
     tie.close
     (tie.spec
-    enum-known-task
-    enum-told
+    (λ c. search needs)
+    (λ c. search needs)
     own-requires
-    leaves-requires
-    enum-known-task-2
+    (λ c κs. search needs)
+    (λ c. search needs)
     again-requires
-    leaves-requires-2
-    enum-known-task-3
+    (λ c κs. search needs)
+    (λ c. search needs)
     associate-requires
-    leaves-requires-3
-    enum-known-task-4
+    (λ c κs. search needs)
+    (λ c. search needs)
     add-t31
     cast-t32
-    enum-known-task-5
-    inside-requires
+    (λ c. search needs)
+    (λ c κs. search needs)
     returns
-    same-length
+    (λ c. search needs)
     returns-2
-    same-length-2
+    (λ c. search needs)
     returns-3
-    same-length-3
+    (λ c. search needs)
     returns-4
     returns-5
     returns-6)

@@ -6,18 +6,6 @@ use Rattle.evaluator.specs.declared.values.Out.the-variants.{Done}
 use Rattle.evaluator.proofs.element.returned.Statement.{statement}
 use Rattle.evaluator.proofs.element.returned.Tie as tie
 
-enum-known-out : tie.Need-enum-known-out
-enum-known-out c = search needs
-
-refused-requires : tie.Need-refused-requires
-refused-requires c κs = search needs
-
-enum-known-out-2 : tie.Need-enum-known-out-2
-enum-known-out-2 c = search needs
-
-is-single-requires : tie.Need-is-single-requires
-is-single-requires c κs = search needs
-
 -- the values of the code
 ran : (c : tie.After-known-told2) → let a = c .before .before .before .before .before .before .args in
     CanReturn (a .w .now) (a .start) (a .from) (Done (c .before .out2 .given .0 .0))
@@ -27,9 +15,6 @@ lowered-requires : tie.Need-lowered-requires
 lowered-requires c κs =
     let r = ran (c .before .before .before) .1 in
     (r .fitting, (r .order, r .stand .order))
-
-same-length : tie.Need-same-length
-same-length c = search needs
 
 returns : tie.Need-returns
 returns c =
@@ -47,9 +32,6 @@ wrapped-requires c κs =
 returns-2 : tie.Need-returns-2
 returns-2 c = rw (c .before .before .out .given .1) (c .refused .ensures)
 
-same-length-2 : tie.Need-same-length-2
-same-length-2 c = search needs
-
 returns-3 : tie.Need-returns-3
 returns-3 c =
     let k = c .before .before in
@@ -62,14 +44,14 @@ pub returned-spec : {M : Type 1} → statement M
 returned-spec =
     tie.close
     (tie.spec
-    enum-known-out
-    refused-requires
-    enum-known-out-2
-    is-single-requires
+    (λ c. search needs)
+    (λ c κs. search needs)
+    (λ c. search needs)
+    (λ c κs. search needs)
     lowered-requires
-    same-length
+    (λ c. search needs)
     returns
     wrapped-requires
     returns-2
-    same-length-2
+    (λ c. search needs)
     returns-3)

@@ -13,31 +13,16 @@ use Rattle.evaluator.proofs.forms.array_at.Tie as tie
 returns : tie.Need-returns
 returns c = let a = c .before .before .args in rw (le-ltb (a .at) (length (a .w .now)) (c .if1 .taken))
 
-any-token-requires : tie.Need-any-token-requires
-any-token-requires c κs = search needs
-
 -- what stands there if the token is this one
 at-token : (c : tie.After-any-token) (r : Token) → c .any-token .result ≡ r → let a = c .before .before .before .args in array-of r ≡ array-at (a .w .now) (a .at)
 at-token c r e =
     let a = c .before .before .before .args in
     rw (lt-ltb (a .at) (length (a .w .now)) (c .before .if1 .left)) (ap array-of (sym e ∙ c .any-token .ensures))
 
-enum-told : tie.Need-enum-told
-enum-told c = search needs
-
-enum-told-2 : tie.Need-enum-told-2
-enum-told-2 c = search needs
-
-enum-known-kind : tie.Need-enum-known-kind
-enum-known-kind c = search needs
-
 returns-2 : tie.Need-returns-2
 returns-2 c =
     let k = c .before .before in
     rw (eq-eqb (k .kind .given .0 .0) 2 (c .if2 .taken)) at (at-token (k .before .before) _ (k .kind .given .1))
-
-enum-told-3 : tie.Need-enum-told-3
-enum-told-3 c = search needs
 
 returns-3 : tie.Need-returns-3
 returns-3 c = at-token (c .before .before) Opening (c .enum-told .given .1)
@@ -58,12 +43,12 @@ array-at-spec =
     tie.close
     (tie.spec
     returns
-    any-token-requires
-    enum-told
-    enum-told-2
-    enum-known-kind
+    (λ c κs. search needs)
+    (λ c. search needs)
+    (λ c. search needs)
+    (λ c. search needs)
     returns-2
-    enum-told-3
+    (λ c. search needs)
     returns-3
     returns-4
     returns-5

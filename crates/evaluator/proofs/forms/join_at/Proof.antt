@@ -11,18 +11,6 @@ use Rattle.evaluator.proofs.Made.{join-length, join-unkept, join-kept}
 use Rattle.evaluator.proofs.forms.join_at.Statement.{statement}
 use Rattle.evaluator.proofs.forms.join_at.Tie as tie
 
-sub-k : tie.Need-sub-k
-sub-k c = search needs
-
-sub-k-2 : tie.Need-sub-k-2
-sub-k-2 c = search needs
-
-add-k : tie.Need-add-k
-add-k c = search needs
-
-head-size-requires : tie.Need-head-size-requires
-head-size-requires c κs = search needs
-
 add-n : tie.Need-add-n
 add-n c =
     let a = c .before .before .args in
@@ -32,9 +20,6 @@ add-n c =
 sized : (c : tie.After-head-size) → let a = c .before .before .args in let k : ℕ = join-length (a .a) (a .b) (a .c) (a .d) in
     c .head-size .result + k ≡ length (array-head k) + k
 sized c = omega (arith, c .head-size .ensures)
-
-refused-requires : tie.Need-refused-requires
-refused-requires c κs = search needs
 
 returns : tie.Need-returns
 returns c =
@@ -49,33 +34,6 @@ put-head-requires c κs =
     let h = c .before .before .before in
     let a = h .before .before .args in
     omega (arith, h .head-size .ensures, head-bounds (join-length (a .a) (a .b) (a .c) (a .d)))
-
-move-bytes-requires : tie.Need-move-bytes-requires
-move-bytes-requires c κs = search needs
-
-sub-move-bytes : tie.Need-sub-move-bytes
-sub-move-bytes c = search needs
-
-add-move-bytes : tie.Need-add-move-bytes
-add-move-bytes c = search needs
-
-move-bytes-requires-2 : tie.Need-move-bytes-requires-2
-move-bytes-requires-2 c κs = search needs
-
-add-move-bytes-2 : tie.Need-add-move-bytes-2
-add-move-bytes-2 c = search needs
-
-move-bytes-requires-3 : tie.Need-move-bytes-requires-3
-move-bytes-requires-3 c κs = search needs
-
-add-charged : tie.Need-add-charged
-add-charged c = search needs
-
-charged-requires : tie.Need-charged-requires
-charged-requires c κs = search needs
-
-same-length : tie.Need-same-length
-same-length c = search needs
 
 returns-2 : tie.Need-returns-2
 returns-2 c =
@@ -94,21 +52,21 @@ pub join-at-spec : {M : Type 1} → statement M
 join-at-spec =
     tie.close
     (tie.spec
-    sub-k
-    sub-k-2
-    add-k
-    head-size-requires
+    (λ c. search needs)
+    (λ c. search needs)
+    (λ c. search needs)
+    (λ c κs. search needs)
     add-n
-    refused-requires
+    (λ c κs. search needs)
     returns
     put-head-requires
-    move-bytes-requires
-    sub-move-bytes
-    add-move-bytes
-    move-bytes-requires-2
-    add-move-bytes-2
-    move-bytes-requires-3
-    add-charged
-    charged-requires
-    same-length
+    (λ c κs. search needs)
+    (λ c. search needs)
+    (λ c. search needs)
+    (λ c κs. search needs)
+    (λ c. search needs)
+    (λ c κs. search needs)
+    (λ c. search needs)
+    (λ c κs. search needs)
+    (λ c. search needs)
     returns-2)

@@ -10,30 +10,6 @@ use Rattle.evaluator.proofs.Made.{first-other, first-array, first-insid
 use Rattle.evaluator.proofs.forms.joined.Statement.{statement}
 use Rattle.evaluator.proofs.forms.joined.Tie as tie
 
-array-at-requires : tie.Need-array-at-requires
-array-at-requires c κs = search needs
-
-enum-told : tie.Need-enum-told
-enum-told c = search needs
-
-refused-requires : tie.Need-refused-requires
-refused-requires c κs = search needs
-
-enum-known-a : tie.Need-enum-known-a
-enum-known-a c = search needs
-
-array-at-requires-2 : tie.Need-array-at-requires-2
-array-at-requires-2 c κs = search needs
-
-enum-told-2 : tie.Need-enum-told-2
-enum-told-2 c = search needs
-
-refused-requires-2 : tie.Need-refused-requires-2
-refused-requires-2 c κs = search needs
-
-enum-known-c : tie.Need-enum-known-c
-enum-known-c c = search needs
-
 -- the arrays that were found
 told-first : (c : tie.After-a) → let s = c .before .before .before .before .before .args in
     Array (c .a .given .0 .0) (c .a .given .0 .1 .0) ≡ array-at (s .w .now) (s .start)
@@ -53,25 +29,16 @@ join-at-requires c κs =
     let two = second-array (v .2) (v .3) (told-first f) (told-second k) in
     ((pre .0, v .2 .order), (one .order, first-inside (v .2) (v .3) (told-first f), two .order, omega (arith, two .end)))
 
-same-length : tie.Need-same-length
-same-length c = search needs
-
 returns : tie.Need-returns
 returns c a b there fits =
     let told = sym (c .before .enum-told .given .1) ∙ c .before .before .before .array-at .ensures in
     rw (c .refused .ensures) (no-arrays (λ bs cs is is′. first-other there fits told bs is))
-
-same-length-2 : tie.Need-same-length-2
-same-length-2 c = search needs
 
 returns-2 : tie.Need-returns-2
 returns-2 c a b there fits =
     let f = c .before .before .before .before .before .before in
     let told = sym (c .before .enum-told2 .given .1) ∙ c .before .before .before .array-at2 .ensures in
     rw (c .refused2 .ensures) (no-arrays (λ bs cs is is′. second-other there fits (told-first f) told cs is′))
-
-same-length-3 : tie.Need-same-length-3
-same-length-3 c = search needs
 
 returns-3 : tie.Need-returns-3
 returns-3 c a b there fits =
@@ -86,18 +53,18 @@ pub joined-spec : {M : Type 1} → statement M
 joined-spec =
     tie.close
     (tie.spec
-    array-at-requires
-    enum-told
-    refused-requires
-    enum-known-a
-    array-at-requires-2
-    enum-told-2
-    refused-requires-2
-    enum-known-c
+    (λ c κs. search needs)
+    (λ c. search needs)
+    (λ c κs. search needs)
+    (λ c. search needs)
+    (λ c κs. search needs)
+    (λ c. search needs)
+    (λ c κs. search needs)
+    (λ c. search needs)
     join-at-requires
-    same-length
+    (λ c. search needs)
     returns
-    same-length-2
+    (λ c. search needs)
     returns-2
-    same-length-3
+    (λ c. search needs)
     returns-3)

@@ -8,18 +8,6 @@ use Rattle.evaluator.specs.Entries.{pack}
 use Rattle.evaluator.proofs.forms.put_place.Statement.{statement}
 use Rattle.evaluator.proofs.forms.put_place.Tie as tie
 
-pack-requires : tie.Need-pack-requires
-pack-requires c κs = search needs
-
-mul-args : tie.Need-mul-args
-mul-args c = search needs
-
-slice-write-args : tie.Need-slice-write-args
-slice-write-args c = search needs
-
-same-length : tie.Need-same-length
-same-length c = search needs
-
 returns : tie.Need-returns
 returns c = rw (c .pack .ensures)
 
@@ -29,4 +17,4 @@ returns-2 c =
     sym (set-out (a .args .now) (a .n) (pack (a .from) (a .to)) (omega arith))
 
 pub put-place-spec : {M : Type 1} → statement M
-put-place-spec = tie.close (tie.spec pack-requires mul-args slice-write-args same-length returns returns-2)
+put-place-spec = tie.close (tie.spec (λ c κs. search needs) (λ c. search needs) (λ c. search needs) (λ c. search needs) returns returns-2)

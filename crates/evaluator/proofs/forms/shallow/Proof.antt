@@ -40,50 +40,23 @@ at-token : (c : tie.After-token-at Inv-loop μ-loop) (r : Answer) → c .token-a
     → NestingTurn (c .before .before .before .before .args .values .now) (c .before .before .loop .at) (c .before .before .loop .depth) r
 at-token c r e = nesting-turn _ _ _ (c .before .before .loop .inv) (left (c .before)) r (sym e ∙ c .token-at .ensures)
 
-enum-told : tie.Need-enum-told Inv-loop μ-loop
-enum-told c = search needs
-
 returns : tie.Need-returns Inv-loop μ-loop
 returns c = at-token (c .before .before .before) Opening (c .before .enum-told .given .1) .0 (omega (arith, c .if1 .taken))
-
-add-depth : tie.Need-add-depth Inv-loop μ-loop
-add-depth c = omega arith
-
-add-at : tie.Need-add-at Inv-loop μ-loop
-add-at c = omega arith
-
-loop-less : tie.Need-loop-less Inv-loop μ-loop
-loop-less c = omega arith
 
 loop-again : tie.Need-loop-again Inv-loop μ-loop
 loop-again c = at-token (c .before .before .before) Opening (c .before .enum-told .given .1) .1 (c .if1 .left)
 
-enum-told-2 : tie.Need-enum-told-2 Inv-loop μ-loop
-enum-told-2 c = search needs
-
 sub-depth : tie.Need-sub-depth Inv-loop μ-loop
 sub-depth c = omega (arith, at-token (c .before .before) Closing (c .enum-told2 .given .1) .0)
 
-add-at-2 : tie.Need-add-at-2 Inv-loop μ-loop
-add-at-2 c = omega arith
-
-loop-less-2 : tie.Need-loop-less-2 Inv-loop μ-loop
-loop-less-2 c = omega arith
-
 loop-again-2 : tie.Need-loop-again-2 Inv-loop μ-loop
 loop-again-2 c = at-token (c .before .before) Closing (c .enum-told2 .given .1) .1
-
-enum-known-end : tie.Need-enum-known-end Inv-loop μ-loop
-enum-known-end c = search needs
 
 loop-less-3 : tie.Need-loop-less-3 Inv-loop μ-loop
 loop-less-3 c = omega (arith, at-token (c .before .before .before) _ (c .before .end .given .1) .0)
 
 loop-again-3 : tie.Need-loop-again-3 Inv-loop μ-loop
 loop-again-3 c = at-token (c .before .before .before) _ (c .before .end .given .1) .1
-
-enum-told-3 : tie.Need-enum-told-3 Inv-loop μ-loop
-enum-told-3 c = search needs
 
 returns-2 : tie.Need-returns-2 Inv-loop μ-loop
 returns-2 c = absurd (at-token (c .before .before) _ (c .enum-told3 .given .1))
@@ -101,20 +74,20 @@ shallow-spec =
     sub-loop
     add-loop
     token-at-requires
-    enum-told
+    (λ c. search needs)
     returns
-    add-depth
-    add-at
-    loop-less
+    (λ c. omega arith)
+    (λ c. omega arith)
+    (λ c. omega arith)
     loop-again
-    enum-told-2
+    (λ c. search needs)
     sub-depth
-    add-at-2
-    loop-less-2
+    (λ c. omega arith)
+    (λ c. omega arith)
     loop-again-2
-    enum-known-end
+    (λ c. search needs)
     loop-less-3
     loop-again-3
-    enum-told-3
+    (λ c. search needs)
     returns-2
     returns-3)

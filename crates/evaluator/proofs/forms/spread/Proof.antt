@@ -29,17 +29,11 @@ at-end c =
     let l = c .before .before .before in
     spreading-turn _ _ _ _ _ (l .loop .inv) _ (c .before .expression-end .ensures) (λ h. omega (arith, c .put-place-arg .given)) (c .before .before .loop-test .taken)
 
-add-put-place : tie.Need-add-put-place Inv-loop μ-loop
-add-put-place c = omega arith
-
 add-put-place-2 : tie.Need-add-put-place-2 Inv-loop μ-loop
 add-put-place-2 c = omega (arith, at-end c .inside)
 
 put-place-requires : tie.Need-put-place-requires Inv-loop μ-loop
 put-place-requires c κs = omega (arith, at-end c .forward, at-end c .inside, c .put-place-arg .given)
-
-add-n : tie.Need-add-n Inv-loop μ-loop
-add-n c = omega arith
 
 loop-less : tie.Need-loop-less Inv-loop μ-loop
 loop-less c = omega (arith, at-end (c .before) .forward)
@@ -59,10 +53,10 @@ spread-spec =
     μ-loop
     loop-holds
     expression-end-requires
-    add-put-place
+    (λ c. omega arith)
     add-put-place-2
     put-place-requires
-    add-n
+    (λ c. omega arith)
     loop-less
     loop-again
     returns)

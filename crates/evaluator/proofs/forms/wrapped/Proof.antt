@@ -17,15 +17,6 @@ use Rattle.evaluator.proofs.Made.{form-deep, form-unkept, form-kept}
 use Rattle.evaluator.proofs.forms.wrapped.Statement.{statement}
 use Rattle.evaluator.proofs.forms.wrapped.Tie as tie
 
-sub-shallow : tie.Need-sub-shallow
-sub-shallow c = search needs
-
-part-shallow-start : tie.Need-part-shallow-start
-part-shallow-start c = search needs
-
-part-shallow-end : tie.Need-part-shallow-end
-part-shallow-end c = search needs
-
 shallow-requires : tie.Need-shallow-requires
 shallow-requires c κs =
     let k = c .before .before .before in
@@ -44,29 +35,11 @@ told-depth c vs there fits =
     let a = c .before .before .before .before .args in
     c .shallow .ensures vs (sym (slice-take (a .from) (a .state .top) (a .w .now)) ∙ there .bytes) fits
 
-refused-requires : tie.Need-refused-requires
-refused-requires c κs = search needs
-
-same-length : tie.Need-same-length
-same-length c = search needs
-
 returns : tie.Need-returns
 returns c vs there fits =
     let k = c .before .before in
     let told = told-depth k vs there fits in
     rw (c .refused .ensures) (refl, form-deep _ there (sym told ∙ not-true _ (c .before .if1 .taken)))
-
-sub-n : tie.Need-sub-n
-sub-n c = search needs
-
-add-n : tie.Need-add-n
-add-n c = search needs
-
-refused-requires-2 : tie.Need-refused-requires-2
-refused-requires-2 c κs = search needs
-
-same-length-2 : tie.Need-same-length-2
-same-length-2 c = search needs
 
 returns-2 : tie.Need-returns-2
 returns-2 c vs there fits =
@@ -74,34 +47,10 @@ returns-2 c vs there fits =
     let told = told-depth (k .before) vs there fits in
     rw (c .refused2 .ensures) (refl, form-unkept _ there (sym told ∙ not-false _ (k .if1 .left)) (c .before .if2 .taken))
 
-add-move-bytes : tie.Need-add-move-bytes
-add-move-bytes c = search needs
-
-move-bytes-requires : tie.Need-move-bytes-requires
-move-bytes-requires c κs = search needs
-
-slice-write-w : tie.Need-slice-write-w
-slice-write-w c = search needs
-
-add-w : tie.Need-add-w
-add-w c = search needs
-
-sub-w : tie.Need-sub-w
-sub-w c = search needs
-
 slice-write-w-2 : tie.Need-slice-write-w-2
 slice-write-w-2 c =
     let moved = c .before .before .move-bytes in
     simp length-set (omega (arith, moved .kept .0))
-
-add-charged : tie.Need-add-charged
-add-charged c = search needs
-
-charged-requires : tie.Need-charged-requires
-charged-requires c κs = search needs
-
-same-length-3 : tie.Need-same-length-3
-same-length-3 c = search needs
 
 returns-3 : tie.Need-returns-3
 returns-3 c vs there fits =
@@ -116,25 +65,25 @@ pub wrapped-spec : {M : Type 1} → statement M
 wrapped-spec =
     tie.close
     (tie.spec
-    sub-shallow
-    part-shallow-start
-    part-shallow-end
+    (λ c. search needs)
+    (λ c. search needs)
+    (λ c. search needs)
     shallow-requires
-    refused-requires
-    same-length
+    (λ c κs. search needs)
+    (λ c. search needs)
     returns
-    sub-n
-    add-n
-    refused-requires-2
-    same-length-2
+    (λ c. search needs)
+    (λ c. search needs)
+    (λ c κs. search needs)
+    (λ c. search needs)
     returns-2
-    add-move-bytes
-    move-bytes-requires
-    slice-write-w
-    add-w
-    sub-w
+    (λ c. search needs)
+    (λ c κs. search needs)
+    (λ c. search needs)
+    (λ c. search needs)
+    (λ c. search needs)
     slice-write-w-2
-    add-charged
-    charged-requires
-    same-length-3
+    (λ c. search needs)
+    (λ c κs. search needs)
+    (λ c. search needs)
     returns-3)

@@ -23,29 +23,14 @@ same c =
     ap (λ (l : List ℕ). length l) (inv .1)
     ∙ moved-length (a .w .now) (a .from) (a .from + c .loop .i) (a .at) (omega (arith, pre, inv .0)) (omega (arith, pre, inv .0))
 
-sub-n : tie.Need-sub-n Inv-loop μ-loop
-sub-n c = search needs
-
 loop-holds : tie.Need-loop-holds Inv-loop μ-loop
 loop-holds c = let a = c .args in (omega arith, sym (moved-none (a .w .now) (a .from) (a .from + 0) (a .at) (omega arith)))
-
-add-w : tie.Need-add-w Inv-loop μ-loop
-add-w c = search needs
 
 slice-read-w : tie.Need-slice-read-w Inv-loop μ-loop
 slice-read-w c = omega (arith, same (c .before .before))
 
-add-w-2 : tie.Need-add-w-2 Inv-loop μ-loop
-add-w-2 c = search needs
-
 slice-write-w : tie.Need-slice-write-w Inv-loop μ-loop
 slice-write-w c = omega (arith, same (c .before .before))
-
-add-i : tie.Need-add-i Inv-loop μ-loop
-add-i c = search needs
-
-loop-less : tie.Need-loop-less Inv-loop μ-loop
-loop-less c = search needs
 
 loop-again : tie.Need-loop-again Inv-loop μ-loop
 loop-again c =
@@ -70,14 +55,14 @@ move-down-spec =
     (tie.spec
     Inv-loop
     μ-loop
-    sub-n
+    (λ c. search needs)
     loop-holds
-    add-w
+    (λ c. search needs)
     slice-read-w
-    add-w-2
+    (λ c. search needs)
     slice-write-w
-    add-i
-    loop-less
+    (λ c. search needs)
+    (λ c. search needs)
     loop-again
     same-length
     returns)

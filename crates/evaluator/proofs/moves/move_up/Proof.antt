@@ -24,32 +24,17 @@ same c =
     ap (λ (l : List ℕ). length l) (inv .1)
     ∙ moved-length (a .w .now) (a .from + i) (a .to) (a .at + i) (omega (arith, pre, inv .0)) (omega (arith, pre, inv .0))
 
-sub-i : tie.Need-sub-i Inv-loop μ-loop
-sub-i c = search needs
-
 loop-holds : tie.Need-loop-holds Inv-loop μ-loop
 loop-holds c =
     let a = c .args in
     let n : ℕ = a .to - a .from in
     (omega arith, sym (moved-none (a .w .now) (a .from + n) (a .to) (a .at + n) (omega arith)))
 
-sub-i-2 : tie.Need-sub-i-2 Inv-loop μ-loop
-sub-i-2 c = search needs
-
-add-w : tie.Need-add-w Inv-loop μ-loop
-add-w c = search needs
-
 slice-read-w : tie.Need-slice-read-w Inv-loop μ-loop
 slice-read-w c = omega (arith, same (c .before .before))
 
-add-w-2 : tie.Need-add-w-2 Inv-loop μ-loop
-add-w-2 c = search needs
-
 slice-write-w : tie.Need-slice-write-w Inv-loop μ-loop
 slice-write-w c = omega (arith, same (c .before .before))
-
-loop-less : tie.Need-loop-less Inv-loop μ-loop
-loop-less c = search needs
 
 loop-again : tie.Need-loop-again Inv-loop μ-loop
 loop-again c =
@@ -76,14 +61,14 @@ move-up-spec =
     (tie.spec
     Inv-loop
     μ-loop
-    sub-i
+    (λ c. search needs)
     loop-holds
-    sub-i-2
-    add-w
+    (λ c. search needs)
+    (λ c. search needs)
     slice-read-w
-    add-w-2
+    (λ c. search needs)
     slice-write-w
-    loop-less
+    (λ c. search needs)
     loop-again
     same-length
     returns)

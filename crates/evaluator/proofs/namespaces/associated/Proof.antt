@@ -39,23 +39,11 @@ latest c h s t ks n e =
 loop-holds : tie.Need-loop-holds Inv-loop μ-loop
 loop-holds c = (search needs, λ s t ks n e. left-all s t (c .args .names .now) (marks (c .args .marker)) ks (c .args .count) n e)
 
-sub-i : tie.Need-sub-i Inv-loop μ-loop
-sub-i c = search needs
-
-mul-if1 : tie.Need-mul-if1 Inv-loop μ-loop
-mul-if1 c = search needs
-
-element-copy-out-if1 : tie.Need-element-copy-out-if1 Inv-loop μ-loop
-element-copy-out-if1 c = search needs
-
 returns : tie.Need-returns Inv-loop μ-loop
 returns c s t ks n e =
     let l = c .before .before .before in
     let found = latest l (c .before .before .loop-test .taken) s t ks n e in
     found .passes (eq-eqb (found .is .marker) (l .before .args .marker) (sym (found .marked) ∙ c .if1 .taken))
-
-loop-less : tie.Need-loop-less Inv-loop μ-loop
-loop-less c = search needs
 
 loop-again : tie.Need-loop-again Inv-loop μ-loop
 loop-again c =
@@ -79,10 +67,10 @@ associated-spec =
     Inv-loop
     μ-loop
     loop-holds
-    sub-i
-    mul-if1
-    element-copy-out-if1
+    (λ c. search needs)
+    (λ c. search needs)
+    (λ c. search needs)
     returns
-    loop-less
+    (λ c. search needs)
     loop-again
     returns-2)

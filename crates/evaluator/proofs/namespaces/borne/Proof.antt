@@ -64,12 +64,6 @@ returns c es n =
     let l = c .before .before .before in
     first l (c .before .before .loop-test .taken) es n .passes (sym (tested (c .before) es n) ∙ c .if1 .taken)
 
-add-r : tie.Need-add-r Inv-loop μ-loop
-add-r c = search needs
-
-loop-less : tie.Need-loop-less Inv-loop μ-loop
-loop-less c = search needs
-
 loop-again : tie.Need-loop-again Inv-loop μ-loop
 loop-again c es n =
     let l = c .before .before .before in
@@ -90,7 +84,7 @@ borne-spec =
     loop-holds
     bears-requires
     returns
-    add-r
-    loop-less
+    (λ c. search needs)
+    (λ c. search needs)
     loop-again
     returns-2)

@@ -12,23 +12,11 @@ use Rattle.evaluator.proofs.Named.{same-long, array-bytes}
 use Rattle.evaluator.proofs.namespaces.same_array.Statement.{statement}
 use Rattle.evaluator.proofs.namespaces.same_array.Tie as tie
 
-body-requires : tie.Need-body-requires
-body-requires c κs = search needs
-
-body-requires-2 : tie.Need-body-requires-2
-body-requires-2 c κs = search needs
-
-end-requires : tie.Need-end-requires
-end-requires c κs = search needs
-
 sub-n : tie.Need-sub-n
 sub-n c =
     let begun = c .before .before in
     let start = begun .before .before .before in
     omega (arith, c .end .ensures, begun .body .ensures (start .pre .0) (start .pre .2))
-
-end-requires-2 : tie.Need-end-requires-2
-end-requires-2 c κs = search needs
 
 sub-if1 : tie.Need-sub-if1
 sub-if1 c =
@@ -89,11 +77,11 @@ pub same-array-spec : {M : Type 1} → statement M
 same-array-spec =
     tie.close
     (tie.spec
-    body-requires
-    body-requires-2
-    end-requires
+    (λ c κs. search needs)
+    (λ c κs. search needs)
+    (λ c κs. search needs)
     sub-n
-    end-requires-2
+    (λ c κs. search needs)
     sub-if1
     returns
     same-bytes-requires

@@ -52,18 +52,6 @@ loop-holds c =
     let args = c .before .before .args in
     (search needs, λ ks bs n e leaf. left-all (args .s .now) (args .table .now) (args .names .now) (has bs) ks (args .count) n e)
 
-sub-i : tie.Need-sub-i Inv-loop μ-loop
-sub-i c = search needs
-
-mul-other : tie.Need-mul-other Inv-loop μ-loop
-mul-other c = search needs
-
-element-copy-out-other : tie.Need-element-copy-out-other Inv-loop μ-loop
-element-copy-out-other c = search needs
-
-cast-other : tie.Need-cast-other Inv-loop μ-loop
-cast-other c = search needs
-
 same-array-requires : tie.Need-same-array-requires Inv-loop μ-loop
 same-array-requires c κs =
     let l = c .before .before in
@@ -78,9 +66,6 @@ returns c ks bs n e leaf =
     let l = c .before .before .before .before in
     let found = latest l (c .before .before .before .loop-test .taken) ks bs n e leaf in
     found .passes (sym (c .before .same-array .ensures (found .is .id) bs (found .id-at) leaf) ∙ c .if1 .taken)
-
-loop-less : tie.Need-loop-less Inv-loop μ-loop
-loop-less c = search needs
 
 loop-again : tie.Need-loop-again Inv-loop μ-loop
 loop-again c =
@@ -103,12 +88,12 @@ used-spec =
     Inv-loop
     μ-loop
     loop-holds
-    sub-i
-    mul-other
-    element-copy-out-other
-    cast-other
+    (λ c. search needs)
+    (λ c. search needs)
+    (λ c. search needs)
+    (λ c. search needs)
     same-array-requires
     returns
-    loop-less
+    (λ c. search needs)
     loop-again
     returns-2)

@@ -10,12 +10,6 @@ use Rattle.evaluator.proofs.Rules.{refused, planned-as, written-small, 
 use Rattle.evaluator.proofs.plan.arg.Statement.{statement}
 use Rattle.evaluator.proofs.plan.arg.Tie as tie
 
-written-requires : tie.Need-written-requires
-written-requires c κs = search needs
-
-refuse-requires : tie.Need-refuse-requires
-refuse-requires c κs = search needs
-
 returns : tie.Need-returns
 returns c = λ w floor top q sc es xs h l.
     refused 11 (c .refuse .ensures)
@@ -31,16 +25,10 @@ module _ (c : tie.Else1) where
       written-small (c .before .written .result) (λ n. plan-arg n xs) (expect-one es λ a. expect-int a λ n. plan-arg n xs) (omega arith)
       (c .before .written .ensures q es (λ n. plan-arg n xs) h)
 
-refuse-requires-2 : tie.Need-refuse-requires-2
-refuse-requires-2 c κs = search needs
-
 returns-2 : tie.Need-returns-2
 returns-2 c = λ w floor top q sc es xs h l.
     refused 15 (c .refuse2 .ensures)
     (number (c .before .before .before) q es xs h ∙ arg-outside w _ _ top xs _ l (c .before .if2 .taken))
-
-refuse-requires-3 : tie.Need-refuse-requires-3
-refuse-requires-3 c κs = search needs
 
 returns-3 : tie.Need-returns-3
 returns-3 c = λ w floor top q sc es xs h l.
@@ -48,18 +36,6 @@ returns-3 c = λ w floor top q sc es xs h l.
     let g = code-given w (a .args .now) (a .code) top xs l (c .before .before .before .if2 .left) in
     refused 15 (c .refuse3 .ensures)
     (number (c .before .before .before .before .before) q es xs h ∙ arg-none w (a .args .now) (a .code) xs g _ (omega (arith, c .before .if3 .taken)))
-
-mul-place : tie.Need-mul-place
-mul-place c = search needs
-
-element-copy-out-place : tie.Need-element-copy-out-place
-element-copy-out-place c = search needs
-
-packed-from-requires : tie.Need-packed-from-requires
-packed-from-requires c κs = search needs
-
-packed-to-requires : tie.Need-packed-to-requires
-packed-to-requires c κs = search needs
 
 returns-4 : tie.Need-returns-4
 returns-4 c = λ w floor top q sc es xs h l.
@@ -74,15 +50,15 @@ pub arg-spec : {M : Type 1} → statement M
 arg-spec =
     tie.close
     (tie.spec
-    written-requires
-    refuse-requires
+    (λ c κs. search needs)
+    (λ c κs. search needs)
     returns
-    refuse-requires-2
+    (λ c κs. search needs)
     returns-2
-    refuse-requires-3
+    (λ c κs. search needs)
     returns-3
-    mul-place
-    element-copy-out-place
-    packed-from-requires
-    packed-to-requires
+    (λ c. search needs)
+    (λ c. search needs)
+    (λ c κs. search needs)
+    (λ c κs. search needs)
     returns-4)

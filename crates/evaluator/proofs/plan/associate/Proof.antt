@@ -18,12 +18,6 @@ use Rattle.evaluator.proofs.Rules.{refused, TopAt, is-top, array-size, 
 use Rattle.evaluator.proofs.plan.associate.Statement.{statement}
 use Rattle.evaluator.proofs.plan.associate.Tie as tie
 
-end-requires : tie.Need-end-requires
-end-requires c κs = search needs
-
-body-requires : tie.Need-body-requires
-body-requires c κs = search needs
-
 -- the array's size
 module _ (c : tie.After-body) where
   abbrev s : List ℕ
@@ -53,17 +47,11 @@ module _ (c : tie.After-body) where
 sub-size : tie.Need-sub-size
 sub-size c = let given = c .before .before .before .before .pre .1 .0 in sized c (given .0) (given .1) .0
 
-refuse-requires : tie.Need-refuse-requires
-refuse-requires c κs = search needs
-
 returns : tie.Need-returns
 returns c = λ w floor m n sc bs head es h reference leaf after later placed names counted.
     let o = c .before .before in
     refused 11 (c .refuse .ensures)
     (ns-empty (s o) (t o) (row o) m n bs (named o) (id o) head h (place o h placed) (omega (arith, sized o bs leaf .1, c .before .if1 .taken)))
-
-refuse-requires-2 : tie.Need-refuse-requires-2
-refuse-requires-2 c κs = search needs
 
 returns-2 : tie.Need-returns-2
 returns-2 c = λ w floor m n sc bs head es h reference leaf after later placed names counted.
@@ -71,9 +59,6 @@ returns-2 c = λ w floor m n sc bs head es h reference leaf after later placed n
     let size = sized o bs leaf .1 in
     refused 11 (c .refuse2 .ensures)
     (ns-long (s o) (t o) (row o) m n bs (named o) (id o) head h (place o h placed) (omega (arith, size, c .before .before .if1 .left)) (omega (arith, size, c .before .if2 .taken)))
-
-key-requires : tie.Need-key-requires
-key-requires c κs = search needs
 
 -- the reference's marker, and an array of a fitting size
 module _ (c : tie.After-key) where
@@ -89,9 +74,6 @@ module _ (c : tie.After-key) where
   few-bytes : (bs : List ℕ) → LeafAt (s o) (t o) (id o) (array bs) → length bs ≤ 64
   few-bytes bs l = omega (arith, sized o bs l .1, c .before .if2 .left)
 
-refuse-requires-3 : tie.Need-refuse-requires-3
-refuse-requires-3 c κs = search needs
-
 returns-3 : tie.Need-returns-3
 returns-3 c = λ w floor m n sc bs head es h reference leaf after later placed names counted.
     let k = c .before .before in
@@ -99,9 +81,6 @@ returns-3 c = λ w floor m n sc bs head es h reference leaf after later placed n
     refused 14 (c .refuse3 .ensures)
     (ns-core (s o) (t o) (row o) m n bs (named o) (id o) head h (place o h placed) (some-bytes k bs leaf) (few-bytes k bs leaf)
     (sym (marker k m n reference) ∙ c .before .if3 .taken))
-
-borne-requires : tie.Need-borne-requires
-borne-requires c κs = search needs
 
 -- a marker that is not the core's, and whether it is borne
 module _ (c : tie.After-borne) where
@@ -115,9 +94,6 @@ module _ (c : tie.After-borne) where
       → some (eqb m) (markers-all before) ≡ c .borne .result
   borne m n l before at = ap (λ (j : ℕ). some (eqb j) (markers-all before)) (sym (marker k m n l)) ∙ sym (c .borne .ensures before at)
 
-refuse-requires-4 : tie.Need-refuse-requires-4
-refuse-requires-4 c κs = search needs
-
 returns-4 : tie.Need-returns-4
 returns-4 c = λ w floor m n sc bs head es h reference leaf after later placed names counted.
     let b = c .before .before in
@@ -127,12 +103,6 @@ returns-4 c = λ w floor m n sc bs head es h reference leaf after later placed n
     refused 14 (c .refuse4 .ensures)
     (ns-borne (s o) (t o) (row o) m n bs (named o) (id o) head h top (some-bytes k bs leaf) (few-bytes k bs leaf) (other b m n reference)
     (borne b m n reference (top .before) (top .at) ∙ c .before .if4 .taken))
-
-used-requires : tie.Need-used-requires
-used-requires c κs = search needs
-
-refuse-requires-5 : tie.Need-refuse-requires-5
-refuse-requires-5 c κs = search needs
 
 returns-5 : tie.Need-returns-5
 returns-5 c = λ w floor m n sc bs head es h reference leaf after later placed names counted.
@@ -144,9 +114,6 @@ returns-5 c = λ w floor m n sc bs head es h reference leaf after later placed n
     (ns-used (s o) (t o) (row o) m n bs (named o) (id o) head h top (some-bytes k bs leaf) (few-bytes k bs leaf) (other b m n reference)
     (borne b m n reference (top .before) (top .at) ∙ c .before .before .before .if4 .left)
     (sym (c .before .before .used .ensures (h .namespaces) bs names counted leaf) ∙ c .before .if5 .taken))
-
-refuse-requires-6 : tie.Need-refuse-requires-6
-refuse-requires-6 c κs = search needs
 
 returns-6 : tie.Need-returns-6
 returns-6 c = λ w floor m n sc bs head es h reference leaf after later placed names counted.
@@ -197,23 +164,23 @@ pub associate-spec : {M : Type 1} → statement M
 associate-spec =
     tie.close
     (tie.spec
-    end-requires
-    body-requires
+    (λ c κs. search needs)
+    (λ c κs. search needs)
     sub-size
-    refuse-requires
+    (λ c κs. search needs)
     returns
-    refuse-requires-2
+    (λ c κs. search needs)
     returns-2
-    key-requires
-    refuse-requires-3
+    (λ c κs. search needs)
+    (λ c κs. search needs)
     returns-3
-    borne-requires
-    refuse-requires-4
+    (λ c κs. search needs)
+    (λ c κs. search needs)
     returns-4
-    used-requires
-    refuse-requires-5
+    (λ c κs. search needs)
+    (λ c κs. search needs)
     returns-5
-    refuse-requires-6
+    (λ c κs. search needs)
     returns-6
     mul-t13
     cast-t16

@@ -12,12 +12,6 @@ use Rattle.evaluator.proofs.Rules.{refused, TwoAt, two-at, concat-none,
 use Rattle.evaluator.proofs.plan.concat.Statement.{statement}
 use Rattle.evaluator.proofs.plan.concat.Tie as tie
 
-parts-of-requires : tie.Need-parts-of-requires
-parts-of-requires c κs = search needs
-
-refuse-requires : tie.Need-refuse-requires
-refuse-requires c κs = search needs
-
 returns : tie.Need-returns
 returns c = λ w floor q sc es h.
     refused 11 (c .refuse .ensures) (concat-none es (λ e. c .before .if1 .taken (ap (λ (x : Parts). x .count) (c .before .before .before .parts-of .ensures q es h) ∙ e)))
@@ -45,9 +39,6 @@ module _ (c : tie.Else1) where
 head-requires : tie.Need-head-requires
 head-requires c κs = let g = some-two c in (g .first, g .one)
 
-refuse-requires-2 : tie.Need-refuse-requires-2
-refuse-requires-2 c κs = search needs
-
 returns-2 : tie.Need-returns-2
 returns-2 c = λ w floor q sc es h.
     let o = c .before .before .before in
@@ -55,9 +46,6 @@ returns-2 c = λ w floor q sc es h.
 
 head-requires-2 : tie.Need-head-requires-2
 head-requires-2 c κs = let g = some-two (c .before .before) in (g .second, g .two)
-
-refuse-requires-3 : tie.Need-refuse-requires-3
-refuse-requires-3 c κs = search needs
 
 returns-3 : tie.Need-returns-3
 returns-3 c = λ w floor q sc es h.
@@ -74,13 +62,13 @@ pub concat-spec : {M : Type 1} → statement M
 concat-spec =
     tie.close
     (tie.spec
-    parts-of-requires
-    refuse-requires
+    (λ c κs. search needs)
+    (λ c κs. search needs)
     returns
     head-requires
-    refuse-requires-2
+    (λ c κs. search needs)
     returns-2
     head-requires-2
-    refuse-requires-3
+    (λ c κs. search needs)
     returns-3
     returns-4)

@@ -6,24 +6,6 @@ use Rattle.evaluator.proofs.Rules.{refused, planned-as, is-top, is-elem
 use Rattle.evaluator.proofs.plan.define.Statement.{statement}
 use Rattle.evaluator.proofs.plan.define.Tie as tie
 
-enum-told : tie.Need-enum-told
-enum-told c = search needs
-
-refuse-requires : tie.Need-refuse-requires
-refuse-requires c κs = search needs
-
-enum-told-2 : tie.Need-enum-told-2
-enum-told-2 c = search needs
-
-definition-requires : tie.Need-definition-requires
-definition-requires c κs = search needs
-
-enum-told-3 : tie.Need-enum-told-3
-enum-told-3 c = search needs
-
-definition-requires-2 : tie.Need-definition-requires-2
-definition-requires-2 c κs = search needs
-
 returns : tie.Need-returns
 returns c = λ w floor q sc es h at placed names counted seen visible.
     let a = c .before .before .before .before .before .args in
@@ -48,12 +30,12 @@ pub define-spec : {M : Type 1} → statement M
 define-spec =
     tie.close
     (tie.spec
-    enum-told
-    refuse-requires
-    enum-told-2
-    definition-requires
-    enum-told-3
-    definition-requires-2
+    (λ c. search needs)
+    (λ c κs. search needs)
+    (λ c. search needs)
+    (λ c κs. search needs)
+    (λ c. search needs)
+    (λ c κs. search needs)
     returns
     returns-2
     returns-3)

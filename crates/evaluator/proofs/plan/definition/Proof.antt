@@ -16,12 +16,6 @@ use Rattle.evaluator.proofs.Rules.{refused, TwoAt, two-at, definition-c
 use Rattle.evaluator.proofs.plan.definition.Statement.{statement}
 use Rattle.evaluator.proofs.plan.definition.Tie as tie
 
-parts-of-requires : tie.Need-parts-of-requires
-parts-of-requires c κs = search needs
-
-refuse-requires : tie.Need-refuse-requires
-refuse-requires c κs = search needs
-
 returns : tie.Need-returns
 returns c = λ w floor q sc es h at names counted seen visible.
     refused 11 (c .refuse .ensures)
@@ -53,9 +47,6 @@ module _ (c : tie.Else1) where
 kind-requires : tie.Need-kind-requires
 kind-requires c κs = let g = some-two c in node-whole (s c) (t c) (p c .second) (g .first) (g .one) .0
 
-refuse-requires-2 : tie.Need-refuse-requires-2
-refuse-requires-2 c κs = search needs
-
 returns-2 : tie.Need-returns-2
 returns-2 c = λ w floor q sc es h at names counted seen visible.
     let o = c .before .before .before in
@@ -73,9 +64,6 @@ module _ (c : tie.Else2) where
 head-requires : tie.Need-head-requires
 head-requires c κs = let g = some-two (o c) in (g .second, g .two)
 
-refuse-requires-3 : tie.Need-refuse-requires-3
-refuse-requires-3 c κs = search needs
-
 returns-3 : tie.Need-returns-3
 returns-3 c = λ w floor q sc es h at names counted seen visible.
     let e = c .before .before .before in
@@ -90,9 +78,6 @@ key-requires c κs =
     let r = reference e _ (some-two (o e)) in
     (r .marker, r .name, r .here)
 
-refuse-requires-4 : tie.Need-refuse-requires-4
-refuse-requires-4 c κs = search needs
-
 returns-4 : tie.Need-returns-4
 returns-4 c = λ w floor q sc es h at names counted seen visible.
     let e = c .before .before .before .before .before in
@@ -101,12 +86,6 @@ returns-4 c = λ w floor q sc es h at names counted seen visible.
     refused 14 (c .refuse4 .ensures)
     (definition-core (s o) (t o) (bytes o) (row o) (p o) es g (reference e es g) h _ (c .before .before .before .before .head .ensures) (c .before .before .before .if3 .left)
     _ (c .before .before .key .ensures) (c .before .if4 .taken))
-
-associated-requires : tie.Need-associated-requires
-associated-requires c κs = search needs
-
-refuse-requires-5 : tie.Need-refuse-requires-5
-refuse-requires-5 c κs = search needs
 
 returns-5 : tie.Need-returns-5
 returns-5 c = λ w floor q sc es h at names counted seen visible.
@@ -117,9 +96,6 @@ returns-5 c = λ w floor q sc es h at names counted seen visible.
     (definition-unknown (s o) (t o) (bytes o) (row o) (p o) es g (reference e es g) h _ (c .before .before .before .before .before .before .head .ensures) (c .before .before .before .before .before .if3 .left)
     _ (c .before .before .before .before .key .ensures) (c .before .before .before .if4 .left)
     (sym (c .before .before .associated .ensures (s o) (t o) (h .namespaces) names counted) ∙ not-true (c .before .before .associated .result) (c .before .if5 .taken)))
-
-refuse-requires-6 : tie.Need-refuse-requires-6
-refuse-requires-6 c κs = search needs
 
 returns-6 : tie.Need-returns-6
 returns-6 c = λ w floor q sc es h at names counted seen visible.
@@ -155,22 +131,22 @@ pub definition-spec : {M : Type 1} → statement M
 definition-spec =
     tie.close
     (tie.spec
-    parts-of-requires
-    refuse-requires
+    (λ c κs. search needs)
+    (λ c κs. search needs)
     returns
     kind-requires
-    refuse-requires-2
+    (λ c κs. search needs)
     returns-2
     head-requires
-    refuse-requires-3
+    (λ c κs. search needs)
     returns-3
     key-requires
-    refuse-requires-4
+    (λ c κs. search needs)
     returns-4
-    associated-requires
-    refuse-requires-5
+    (λ c κs. search needs)
+    (λ c κs. search needs)
     returns-5
-    refuse-requires-6
+    (λ c κs. search needs)
     returns-6
     returns-7
     returns-8)

@@ -29,27 +29,6 @@ module _ (c : tie.After-look-up) where
       let found : find (key-of m n) sc ≡ f = ap (λ (k : ℕ). find k sc) (sym key) ∙ sym (c .look-up .ensures) ∙ is in
       head-planned s t w floor sc (c .before .args .row) q q′ (ref m n) fs at (rw found at (answers s t w floor m n fits sc ds sh))
 
-look-up-requires : tie.Need-look-up-requires
-look-up-requires c κs = search needs
-
-enum-known-code : tie.Need-enum-known-code
-enum-known-code c = search needs
-
-add-t10 : tie.Need-add-t10
-add-t10 c = search needs
-
-enum-told : tie.Need-enum-told
-enum-told c = search needs
-
-data-requires : tie.Need-data-requires
-data-requires c κs = search needs
-
-enum-told-2 : tie.Need-enum-told-2
-enum-told-2 c = search needs
-
-data-requires-2 : tie.Need-data-requires-2
-data-requires-2 c κs = search needs
-
 returns : tie.Need-returns
 returns c = done (c .before .before .before) _ (c .before .code .given .1)
 
@@ -63,13 +42,13 @@ pub named-spec : {M : Type 1} → statement M
 named-spec =
     tie.close
     (tie.spec
-    look-up-requires
-    enum-known-code
-    add-t10
-    enum-told
-    data-requires
-    enum-told-2
-    data-requires-2
+    (λ c κs. search needs)
+    (λ c. search needs)
+    (λ c. search needs)
+    (λ c. search needs)
+    (λ c κs. search needs)
+    (λ c. search needs)
+    (λ c κs. search needs)
     returns
     returns-2
     returns-3)

@@ -16,21 +16,6 @@ use Rattle.evaluator.proofs.Rules.{refused, planned-as, TwoAt, two-at, 
 use Rattle.evaluator.proofs.plan.ns.Statement.{statement}
 use Rattle.evaluator.proofs.plan.ns.Tie as tie
 
-enum-told : tie.Need-enum-told
-enum-told c = search needs
-
-refuse-requires : tie.Need-refuse-requires
-refuse-requires c κs = search needs
-
-enum-told-2 : tie.Need-enum-told-2
-enum-told-2 c = search needs
-
-refuse-requires-2 : tie.Need-refuse-requires-2
-refuse-requires-2 c κs = search needs
-
-enum-told-3 : tie.Need-enum-told-3
-enum-told-3 c = search needs
-
 -- the top level
 module _ (c : tie.After-enum-told3) where
   abbrev s : List ℕ
@@ -47,12 +32,6 @@ module _ (c : tie.After-enum-told3) where
 
   at-top : (p : Place) → Placed s t row stands p → TopAt s t row p
   at-top p h = is-top s t row stands p h (c .enum-told3 .given .1)
-
-parts-of-requires : tie.Need-parts-of-requires
-parts-of-requires c κs = search needs
-
-refuse-requires-3 : tie.Need-refuse-requires-3
-refuse-requires-3 c κs = search needs
 
 returns : tie.Need-returns
 returns c = λ w floor q sc es h at word placed names counted.
@@ -78,9 +57,6 @@ module _ (c : tie.Else1) where
 kind-requires : tie.Need-kind-requires
 kind-requires c κs = let g = some-two c in node-whole (s (o c)) (t (o c)) (p c .second) (g .first) (g .one) .0
 
-refuse-requires-4 : tie.Need-refuse-requires-4
-refuse-requires-4 c κs = search needs
-
 returns-2 : tie.Need-returns-2
 returns-2 c = λ w floor q sc es h at word placed names counted.
     let e = c .before .before .before in
@@ -98,9 +74,6 @@ module _ (c : tie.Else2) where
 
 kind-requires-2 : tie.Need-kind-requires-2
 kind-requires-2 c κs = let g = some-two (e c) in node-whole (s (o (e c))) (t (o (e c))) (p (e c) .third) (g .second) (g .two) .0
-
-refuse-requires-5 : tie.Need-refuse-requires-5
-refuse-requires-5 c κs = search needs
 
 returns-3 : tie.Need-returns-3
 returns-3 c = λ w floor q sc es h at word placed names counted.
@@ -160,19 +133,19 @@ pub ns-spec : {M : Type 1} → statement M
 ns-spec =
     tie.close
     (tie.spec
-    enum-told
-    refuse-requires
-    enum-told-2
-    refuse-requires-2
-    enum-told-3
-    parts-of-requires
-    refuse-requires-3
+    (λ c. search needs)
+    (λ c κs. search needs)
+    (λ c. search needs)
+    (λ c κs. search needs)
+    (λ c. search needs)
+    (λ c κs. search needs)
+    (λ c κs. search needs)
     returns
     kind-requires
-    refuse-requires-4
+    (λ c κs. search needs)
     returns-2
     kind-requires-2
-    refuse-requires-5
+    (λ c κs. search needs)
     returns-3
     associate-requires
     returns-4

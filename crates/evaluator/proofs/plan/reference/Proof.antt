@@ -46,15 +46,6 @@ module _ (c : tie.After-look-up) where
       (reference-planned (a .s .now) (a .table .now) w floor sc (a .row) (ref m n) empty at
       (rw found at (answers (a .s .now) (a .table .now) w floor m n fit sc ds sh)))
 
-key-requires : tie.Need-key-requires
-key-requires c κs = search needs
-
-is-function-requires : tie.Need-is-function-requires
-is-function-requires c κs = search needs
-
-refuse-requires : tie.Need-refuse-requires
-refuse-requires c κs = search needs
-
 returns : tie.Need-returns
 returns c = λ w floor m n ds at sh.
     let k = c .before .before .before in
@@ -70,18 +61,6 @@ look-up-requires c κs =
     let fit = fits k (at .0) (at .1) (at .2) in
     (start .pre .1, omega (arith, k .key .ensures (at .0) (at .1) (at .2), key-small (at .0) (at .1) (fit .1) (fit .2)))
 
-enum-known-from : tie.Need-enum-known-from
-enum-known-from c = search needs
-
-enum-told : tie.Need-enum-told
-enum-told c = search needs
-
-refuse-requires-2 : tie.Need-refuse-requires-2
-refuse-requires-2 c κs = search needs
-
-enum-told-2 : tie.Need-enum-told-2
-enum-told-2 c = search needs
-
 returns-2 : tie.Need-returns-2
 returns-2 c = done (c .before .before .before) _ (c .before .from .given .1)
 
@@ -95,15 +74,15 @@ pub reference-spec : {M : Type 1} → statement M
 reference-spec =
     tie.close
     (tie.spec
-    key-requires
-    is-function-requires
-    refuse-requires
+    (λ c κs. search needs)
+    (λ c κs. search needs)
+    (λ c κs. search needs)
     returns
     look-up-requires
-    enum-known-from
-    enum-told
-    refuse-requires-2
-    enum-told-2
+    (λ c. search needs)
+    (λ c. search needs)
+    (λ c κs. search needs)
+    (λ c. search needs)
     returns-2
     returns-3
     returns-4)

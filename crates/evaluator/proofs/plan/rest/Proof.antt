@@ -10,12 +10,6 @@ use Rattle.evaluator.proofs.Rules.{refused, planned-as, written-small, 
 use Rattle.evaluator.proofs.plan.rest.Statement.{statement}
 use Rattle.evaluator.proofs.plan.rest.Tie as tie
 
-written-requires : tie.Need-written-requires
-written-requires c κs = search needs
-
-refuse-requires : tie.Need-refuse-requires
-refuse-requires c κs = search needs
-
 returns : tie.Need-returns
 returns c = λ w floor top q sc es xs h l.
     refused 11 (c .refuse .ensures)
@@ -31,16 +25,10 @@ module _ (c : tie.Else1) where
       written-small (c .before .written .result) (λ n. plan-rest n xs) (expect-one es λ a. expect-int a λ n. plan-rest n xs) (omega arith)
       (c .before .written .ensures q es (λ n. plan-rest n xs) h)
 
-refuse-requires-2 : tie.Need-refuse-requires-2
-refuse-requires-2 c κs = search needs
-
 returns-2 : tie.Need-returns-2
 returns-2 c = λ w floor top q sc es xs h l.
     refused 15 (c .refuse2 .ensures)
     (number (c .before .before .before) q es xs h ∙ rest-outside w _ _ top xs _ l (c .before .if2 .taken))
-
-refuse-requires-3 : tie.Need-refuse-requires-3
-refuse-requires-3 c κs = search needs
 
 returns-3 : tie.Need-returns-3
 returns-3 c = λ w floor top q sc es xs h l.
@@ -56,15 +44,6 @@ returns-4 c = λ w floor top q sc es xs h l.
     planned-as (number (c .before .before .before .before .before .before) q es xs h)
     (rest-all w (a .args .now) (a .code) xs g _ (a .s .now) (a .table .now) floor sc (a .row) es (c .if4 .taken))
 
-mul-packed-from : tie.Need-mul-packed-from
-mul-packed-from c = search needs
-
-element-copy-out-packed-from : tie.Need-element-copy-out-packed-from
-element-copy-out-packed-from c = search needs
-
-packed-from-requires : tie.Need-packed-from-requires
-packed-from-requires c κs = search needs
-
 returns-5 : tie.Need-returns-5
 returns-5 c = λ w floor top q sc es xs h l.
     let a = c .before .before .before .before .before .before .before .before .before .before .before .before .args in
@@ -78,15 +57,15 @@ pub rest-spec : {M : Type 1} → statement M
 rest-spec =
     tie.close
     (tie.spec
-    written-requires
-    refuse-requires
+    (λ c κs. search needs)
+    (λ c κs. search needs)
     returns
-    refuse-requires-2
+    (λ c κs. search needs)
     returns-2
-    refuse-requires-3
+    (λ c κs. search needs)
     returns-3
     returns-4
-    mul-packed-from
-    element-copy-out-packed-from
-    packed-from-requires
+    (λ c. search needs)
+    (λ c. search needs)
+    (λ c κs. search needs)
     returns-5)

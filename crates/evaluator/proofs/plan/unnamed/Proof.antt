@@ -32,9 +32,6 @@ returns c = λ w floor q sc es ds at none sh few.
     rw (c .data .ensures, other-empty (a .s .now) (a .table .now) (a .row) q es ds at (omega arith))
     (data-planned (a .s .now) (a .table .now) w floor sc (a .row) q es at)
 
-add-head : tie.Need-add-head
-add-head c = search needs
-
 -- the first element
 first : (c : tie.Else1) → let start = c .before .before .before .before in
     MoreAt (start .args .s .now) (start .args .table .now) (start .args .row + 1) (next (start .args .table .now) (start .args .row)) (start .pre .elements)
@@ -59,17 +56,11 @@ returns-2 c = λ w floor q sc es ds at none sh few.
     let plans = other-plain (a .s .now) (a .table .now) (a .row) q es ds at (omega arith) bytes (head .result) (head .ensures) none (λ z. omega arith) in
     rw (c .data2 .ensures, plans) (data-planned (a .s .now) (a .table .now) w floor sc (a .row) q es at)
 
-add-next : tie.Need-add-next
-add-next c = search needs
-
 next-requires-2 : tie.Need-next-requires-2
 next-requires-2 c κs =
     let a = c .before .before .before .before .before .before .args in
     let f = first (c .before .before) in
     node-whole (a .s .now) (a .table .now) (a .row + 1) (f .head) (f .node) .0
-
-add-t9 : tie.Need-add-t9
-add-t9 c = search needs
 
 returns-3 : tie.Need-returns-3
 returns-3 c = λ w floor q sc es ds at none sh few.
@@ -88,11 +79,11 @@ unnamed-spec =
     add-if1
     data-requires
     returns
-    add-head
+    (λ c. search needs)
     head-requires
     data-requires-2
     returns-2
-    add-next
+    (λ c. search needs)
     next-requires-2
-    add-t9
+    (λ c. search needs)
     returns-3)

@@ -13,9 +13,6 @@ use Rattle.evaluator.proofs.Rules.{not-one, OneAt, one-at, int-at, writ
 use Rattle.evaluator.proofs.plan.written.Statement.{statement}
 use Rattle.evaluator.proofs.plan.written.Tie as tie
 
-parts-of-requires : tie.Need-parts-of-requires
-parts-of-requires c κs = search needs
-
 returns : tie.Need-returns
 returns c = λ q es f h.
     not-one es (λ a. expect-int a f) (λ e. c .if1 .taken (ap (λ (x : Parts). x .count) (c .before .before .parts-of .ensures q es h) ∙ e))
@@ -59,4 +56,4 @@ returns-3 c = λ q es f h.
 
 pub written-spec : {M : Type 1} → statement M
 written-spec =
-    tie.close (tie.spec parts-of-requires returns kind-requires returns-2 small-requires returns-3)
+    tie.close (tie.spec (λ c κs. search needs) returns kind-requires returns-2 small-requires returns-3)

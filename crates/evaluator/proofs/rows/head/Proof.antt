@@ -34,9 +34,6 @@ returns-2 c = λ e h.
     let a = c .before .before .before .before .before .before .args in
     sym (head-of-none (a .s .now) (a .table .now) (a .row) e h (omega arith) (omega arith))
 
-add-kind : tie.Need-add-kind
-add-kind c = search needs
-
 kind-requires-2 : tie.Need-kind-requires-2
 kind-requires-2 c κs =
     let start = c .before .before .before .before .before .before in
@@ -48,9 +45,6 @@ returns-3 : tie.Need-returns-3
 returns-3 c = λ e h.
     let a = c .before .before .before .before .before .before .before .before .args in
     sym (head-of-other (a .s .now) (a .table .now) (a .row) e h (omega arith) (omega arith) (λ z. omega arith))
-
-add-key : tie.Need-add-key
-add-key c = search needs
 
 key-requires : tie.Need-key-requires
 key-requires c κs =
@@ -73,9 +67,9 @@ head-spec =
     next-requires
     add-if2
     returns-2
-    add-kind
+    (λ c. search needs)
     kind-requires-2
     returns-3
-    add-key
+    (λ c. search needs)
     key-requires
     returns-4)

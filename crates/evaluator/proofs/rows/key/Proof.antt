@@ -9,23 +9,8 @@ use Rattle.evaluator.proofs.Keys.{RefAt, ref-read}
 use Rattle.evaluator.proofs.rows.key.Statement.{statement}
 use Rattle.evaluator.proofs.rows.key.Tie as tie
 
-start-requires : tie.Need-start-requires
-start-requires c κs = search needs
-
-end-requires : tie.Need-end-requires
-end-requires c κs = search needs
-
-sub-name : tie.Need-sub-name
-sub-name c = search needs
-
-shared-slice-read-name : tie.Need-shared-slice-read-name
-shared-slice-read-name c = search needs
-
 cast-name : tie.Need-cast-name
 cast-name c = omega (arith, c .shared-slice-known3 .given (c .before .end .result - 1))
-
-shared-slice-read-first : tie.Need-shared-slice-read-first
-shared-slice-read-first c = search needs
 
 cast-first : tie.Need-cast-first
 cast-first c = omega (arith, c .shared-slice-known4 .given (c .before .before .before .start .result))
@@ -57,26 +42,11 @@ add-result c =
 returns : tie.Need-returns
 returns c = λ m n l. let r = reads (c .before) m n l in omega (arith, r .name, r .short (c .if1 .taken))
 
-sub-full : tie.Need-sub-full
-sub-full c = search needs
-
 sub-full-2 : tie.Need-sub-full-2
 sub-full-2 c = omega (arith, asked (c .before) .long (c .if1 .left))
 
-cast-full : tie.Need-cast-full
-cast-full c = search needs
-
-mul-result-2 : tie.Need-mul-result-2
-mul-result-2 c = search needs
-
-add-result-2 : tie.Need-add-result-2
-add-result-2 c = search needs
-
 sub-result : tie.Need-sub-result
 sub-result c = omega (arith, asked (c .before) .long (c .if1 .left))
-
-shared-slice-read-result : tie.Need-shared-slice-read-result
-shared-slice-read-result c = search needs
 
 cast-result : tie.Need-cast-result
 cast-result c = omega (arith, c .shared-slice-known5 .given (c .before .before .before .before .end .result - 2))
@@ -108,23 +78,23 @@ pub key-spec : {M : Type 1} → statement M
 key-spec =
     tie.close
     (tie.spec
-    start-requires
-    end-requires
-    sub-name
-    shared-slice-read-name
+    (λ c κs. search needs)
+    (λ c κs. search needs)
+    (λ c. search needs)
+    (λ c. search needs)
     cast-name
-    shared-slice-read-first
+    (λ c. search needs)
     cast-first
     mul-result
     add-result
     returns
-    sub-full
+    (λ c. search needs)
     sub-full-2
-    cast-full
-    mul-result-2
-    add-result-2
+    (λ c. search needs)
+    (λ c. search needs)
+    (λ c. search needs)
     sub-result
-    shared-slice-read-result
+    (λ c. search needs)
     cast-result
     add-result-3
     mul-result-3

@@ -44,9 +44,6 @@ third c =
     some-next (a .s .now) (a .table .now) (c .before .before .before .next2 .result) (c .before .before .before .before .before .next .result) (c .before .next3 .result)
     (second (c .before .before)) (omega arith) (c .before .next3 .ensures)
 
-found-requires : tie.Need-found-requires
-found-requires c κs = search needs
-
 returns : tie.Need-returns
 returns c = λ k es h.
     let a = c .before .before .before .before .before .args in
@@ -60,9 +57,6 @@ next-requires-2 : tie.Need-next-requires-2
 next-requires-2 c κs =
     let a = c .before .before .before .before .args in
     some-inside (a .s .now) (a .table .now) (a .row + 1) (c .before .next .result) (first c) (omega arith)
-
-found-requires-2 : tie.Need-found-requires-2
-found-requires-2 c κs = search needs
 
 returns-2 : tie.Need-returns-2
 returns-2 c = λ k es h.
@@ -79,9 +73,6 @@ next-requires-3 c κs =
     let a = c .before .before .before .before .before .before .args in
     some-inside (a .s .now) (a .table .now) (c .before .next2 .result) (c .before .before .before .next .result) (second c) (omega arith)
 
-found-requires-3 : tie.Need-found-requires-3
-found-requires-3 c κs = search needs
-
 returns-3 : tie.Need-returns-3
 returns-3 c = λ k es h.
     let a = c .before .before .before .before .before .before .before .before .before .args in
@@ -97,9 +88,6 @@ next-requires-4 c κs =
     let a = c .before .before .before .before .before .before .before .before .args in
     some-inside (a .s .now) (a .table .now) (c .before .next3 .result) (c .before .before .before .before .before .next .result) (third c) (omega arith)
 
-found-requires-4 : tie.Need-found-requires-4
-found-requires-4 c κs = search needs
-
 returns-4 : tie.Need-returns-4
 returns-4 c = λ k es h.
     let a = c .before .before .before .before .before .before .before .before .before .before .before .args in
@@ -110,9 +98,6 @@ returns-4 c = λ k es h.
     let u = c .before .before .next4 .result in
     let parts = form-parts (a .s .now) t (a .row) past p q u k es h (c .before .before .before .before .before .before .before .before .next .ensures) (c .before .before .before .before .before .before .next2 .ensures) (c .before .before .before .before .next3 .ensures) (c .before .before .next4 .ensures) in
     c .found4 .ensures ∙ sym (rw (lt-leb past (a .row + 1) (omega arith), lt-leb past p (omega arith), lt-leb past q (omega arith), le-leb past u (omega arith)) at parts)
-
-found-requires-5 : tie.Need-found-requires-5
-found-requires-5 c κs = search needs
 
 returns-5 : tie.Need-returns-5
 returns-5 c = λ k es h.
@@ -131,16 +116,16 @@ parts-of-spec =
     (tie.spec
     next-requires
     add-first
-    found-requires
+    (λ c κs. search needs)
     returns
     next-requires-2
-    found-requires-2
+    (λ c κs. search needs)
     returns-2
     next-requires-3
-    found-requires-3
+    (λ c κs. search needs)
     returns-3
     next-requires-4
-    found-requires-4
+    (λ c κs. search needs)
     returns-4
-    found-requires-5
+    (λ c κs. search needs)
     returns-5)

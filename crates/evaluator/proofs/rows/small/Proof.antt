@@ -11,12 +11,6 @@ use Rattle.evaluator.proofs.Keys.{int-read}
 use Rattle.evaluator.proofs.rows.small.Statement.{statement}
 use Rattle.evaluator.proofs.rows.small.Tie as tie
 
-start-requires : tie.Need-start-requires
-start-requires c κs = search needs
-
-shared-slice-read-result : tie.Need-shared-slice-read-result
-shared-slice-read-result c = search needs
-
 -- the byte that is read
 byte : (c : tie.After-shared-slice-known3) (v : ℕ)
     → LeafAt (c .before .before .before .before .args .s .now) (c .before .before .before .before .args .table .now) (c .before .before .before .before .args .row) (int v)
@@ -33,4 +27,4 @@ returns : tie.Need-returns
 returns c = λ v l. omega (arith, byte c v l)
 
 pub small-spec : {M : Type 1} → statement M
-small-spec = tie.close (tie.spec start-requires shared-slice-read-result sub-result cast-result returns)
+small-spec = tie.close (tie.spec (λ c κs. search needs) (λ c. search needs) sub-result cast-result returns)

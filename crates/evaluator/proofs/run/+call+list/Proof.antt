@@ -270,15 +270,6 @@ module _ (t : ℕ) where
         enter-fewer : steps-of out < start turn .args .state .steps
         enter-fewer = let b = begun y _ told in omega (arith, inner-fewer y (b .0) (b .1) (b .2), met-steps _ _ _ _ _ st′ _ out enter-met)
 
-  list-enum-known-done : list-lts.Need-enum-known-done list-calls (list-at t) list.Post list-Inv-loop list-μ-loop
-  list-enum-known-done c = search needs
-
-  list-enum-known-inner : list-lts.Need-enum-known-inner list-calls (list-at t) list.Post list-Inv-loop list-μ-loop
-  list-enum-known-inner c = search needs
-
-  list-stands-in-requires : list-lts.Need-stands-in-requires list-calls (list-at t) list.Post list-Inv-loop list-μ-loop
-  list-stands-in-requires c κs = search needs
-
   list-list-requires : list-lts.Need-list-requires list-calls (list-at t) list.Post list-Inv-loop list-μ-loop
   list-list-requires c κs =
       let k = c .before .before .before .before .before .before .before .before in
@@ -293,9 +284,6 @@ module _ (t : ℕ) where
       let k = c .before .before .before .before .before .before .before .before .before .before .before .before in
       can-finish k (some (turn k)) _ _ _ (c .before .before .before .before .before .before .before .before .before .before .inner .given .1) (c .before .before .before .before .stands-in .result) (c .before .before .before .before .stands-in .ensures)
       (c .before .before .before .list .last .1 .1 .0) (c .before .before .before .list .last .1 .1 .1 .0) (c .before .before .before .list .result) (c .before .before .before .list .ensures .0)
-
-  list-enum-known-inner-2 : list-lts.Need-enum-known-inner-2 list-calls (list-at t) list.Post list-Inv-loop list-μ-loop
-  list-enum-known-inner-2 c = search needs
 
   list-list-requires-2 : list-lts.Need-list-requires-2 list-calls (list-at t) list.Post list-Inv-loop list-μ-loop
   list-list-requires-2 c κs =
@@ -352,12 +340,6 @@ module _ (t : ℕ) where
       left-as : (left : Answer) → c .match .left ≡ left → Leaving (turn (c .before)) y (c .match .w) (c .match .names) left
       left-as left e = subst (λ (x : Answer). Leaving (turn (c .before)) y (c .match .w) (c .match .names) x) e left-by-one
 
-  list-enum-known-left : list-lts.Need-enum-known-left list-calls (list-at t) list.Post list-Inv-loop list-μ-loop
-  list-enum-known-left c = search needs
-
-  list-refused-requires : list-lts.Need-refused-requires list-calls (list-at t) list.Post list-Inv-loop list-μ-loop
-  list-refused-requires c κs = search needs
-
   list-same-length : list-lts.Need-same-length list-calls (list-at t) list.Post list-Inv-loop list-μ-loop
   list-same-length c = same-length-left (c .before .before .before .before) ∙ turn (c .before .before .before .before .before) .before .loop .inv .3
 
@@ -372,9 +354,6 @@ module _ (t : ℕ) where
             (going-ceased _ _ _ _ _ _ _ _ (going (turn k) y) (on (turn k)) _ _ (left-as j y _ (c .before .before .left .given .1))),
         kept-start j,
       )
-
-  list-enum-known-left-2 : list-lts.Need-enum-known-left-2 list-calls (list-at t) list.Post list-Inv-loop list-μ-loop
-  list-enum-known-left-2 c = search needs
 
   list-loop-less : list-lts.Need-loop-less list-calls (list-at t) list.Post list-Inv-loop list-μ-loop
   list-loop-less c = nearer (c .before .before .before .before .before .before .before .before .before .before .before)
@@ -391,9 +370,6 @@ module _ (t : ℕ) where
         kept-start j,
         l .inv .5,
       )
-
-  list-enum-known-left-3 : list-lts.Need-enum-known-left-3 list-calls (list-at t) list.Post list-Inv-loop list-μ-loop
-  list-enum-known-left-3 c = search needs
 
   list-add-requires : list-lts.Need-add-requires list-calls (list-at t) list.Post list-Inv-loop list-μ-loop
   list-add-requires c κs =
@@ -419,9 +395,6 @@ module _ (t : ℕ) where
         omega (arith, more .1, l .inv .5),
       )
 
-  list-over-requires : list-lts.Need-over-requires list-calls (list-at t) list.Post list-Inv-loop list-μ-loop
-  list-over-requires c κs = search needs
-
   list-same-length-2 : list-lts.Need-same-length-2 list-calls (list-at t) list.Post list-Inv-loop list-μ-loop
   list-same-length-2 c = c .before .before .loop .inv .3
 
@@ -441,12 +414,6 @@ module _ (t : ℕ) where
 
   abbrev call-calls : call-lts.Claims
   call-calls = (spread-reads.Asked, spread-reads.Learnt, back-to-reads.Asked, back-to-reads.Learnt, next-reads.Asked, next-reads.Learnt, list-below t, list.Post, returned-reads.Asked, returned-reads.Learnt, leaves-reads.Asked, leaves-reads.Learnt)
-
-  call-enum-known-out : call-lts.Need-enum-known-out call-calls (call-at t) call.Post
-  call-enum-known-out c = search needs
-
-  call-enum-known-out-2 : call-lts.Need-enum-known-out-2 call-calls (call-at t) call.Post
-  call-enum-known-out-2 c = search needs
 
   -- where the arguments were evaluated
   module _ (c : call-lts.After-known-told2 call-calls (call-at t) call.Post) where
@@ -541,16 +508,10 @@ module _ (t : ℕ) where
       let z = calls-some (k n) in
       ((y .body, z .at), call-can-return z (first (k n) .args .row) (n .before .before .before .before .before .before .before .before .before .before .before .before .before .if1 .left) (c .before .before .before .list .last .1 .1 .0) (c .before .before .before .list .last .1 .1 .1 .0) (c .before .before .before .list .result) (c .before .before .before .list .ensures .0 _ _ _ _ _ (body-ready n z)))
 
-  call-leaves-requires : call-lts.Need-leaves-requires call-calls (call-at t) call.Post
-  call-leaves-requires c κs = search needs
-
   call-returns-2 : call-lts.Need-returns-2 call-calls (call-at t) call.Post
   call-returns-2 c =
       let a = c .before .before .before .before .before .before .args in
       subst (λ (x : Out). Called (a .s .now) (a .table .now) (a .w .now) (a .w .now) (a .names .now) (a .names .now) (entries (a .keys .now) (a .places .now) (a .scope)) (a .visible) (a .depth) (a .code) (a .start) (a .row) (Stopped (c .before .out .given .0 .0) (c .before .out .given .0 .1 .0)) x) (sym (c .before .out .given .1)) refl
-
-  call-same-length : call-lts.Need-same-length call-calls (call-at t) call.Post
-  call-same-length c = search needs
 
   call-returns-3 : call-lts.Need-returns-3 call-calls (call-at t) call.Post
   call-returns-3 c =
@@ -564,5 +525,5 @@ module _ (t : ℕ) where
 
 pub +call+list-spec : {M : Type 1} → statement M
 +call+list-spec = close μ-call μ-list
-    (λ t. call-lts.spec (call-calls t) (call-at t) call.Post (call-enum-known-out t) (call-enum-known-out-2 t) (call-returns-1 t) (call-sub-spread t) (call-part-spread-start t) (call-part-spread-end t) (call-spread-requires t) (call-add-list t) (call-back-to-requires t) (call-add-list-2 t) (call-next-requires t) (call-list-requires t) (call-returned-requires t) (call-leaves-requires t) (call-returns-2 t) (call-same-length t) (call-returns-3 t))
-    λ t. list-lts.spec (list-calls t) (list-at t) list.Post list-Inv-loop list-μ-loop (list-loop-holds t) (list-next-requires t) (list-begin-requires t) (list-enum-known-done t) (list-enum-known-inner t) (list-stands-in-requires t) (list-list-requires t) (list-finish-requires t) (list-enum-known-inner-2 t) (list-list-requires-2 t) (list-call-requires t) (list-enum-known-left t) (list-refused-requires t) (list-same-length t) (list-returns t) (list-enum-known-left-2 t) (list-loop-less t) (list-loop-again t) (list-enum-known-left-3 t) (list-add-requires t) (list-loop-less-2 t) (list-loop-again-2 t) (list-over-requires t) (list-same-length-2 t) (list-returns-2 t)
+    (λ t. call-lts.spec (call-calls t) (call-at t) call.Post (λ c. search needs) (λ c. search needs) (call-returns-1 t) (call-sub-spread t) (call-part-spread-start t) (call-part-spread-end t) (call-spread-requires t) (call-add-list t) (call-back-to-requires t) (call-add-list-2 t) (call-next-requires t) (call-list-requires t) (call-returned-requires t) (λ c κs. search needs) (call-returns-2 t) (λ c. search needs) (call-returns-3 t))
+    λ t. list-lts.spec (list-calls t) (list-at t) list.Post list-Inv-loop list-μ-loop (list-loop-holds t) (list-next-requires t) (list-begin-requires t) (λ c. search needs) (λ c. search needs) (λ c κs. search needs) (list-list-requires t) (list-finish-requires t) (λ c. search needs) (list-list-requires-2 t) (list-call-requires t) (λ c. search needs) (λ c κs. search needs) (list-same-length t) (list-returns t) (λ c. search needs) (list-loop-less t) (list-loop-again t) (λ c. search needs) (list-add-requires t) (list-loop-less-2 t) (list-loop-again-2 t) (λ c κs. search needs) (list-same-length-2 t) (list-returns-2 t)

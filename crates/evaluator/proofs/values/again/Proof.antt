@@ -6,26 +6,8 @@ use Rattle.evaluator.proofs.Completing.{complete-moved, incomplete-move
 use Rattle.evaluator.proofs.values.again.Statement.{statement}
 use Rattle.evaluator.proofs.values.again.Tie as tie
 
-sub-n : tie.Need-sub-n
-sub-n c = search needs
-
-refused-requires : tie.Need-refused-requires
-refused-requires c κs = search needs
-
 returns : tie.Need-returns
 returns c vs there shallow = rw (c .refused .ensures) (refl, incomplete-moved shallow there (c .before .if1 .taken))
-
-move-bytes-requires : tie.Need-move-bytes-requires
-move-bytes-requires c κs = search needs
-
-add-charged : tie.Need-add-charged
-add-charged c = search needs
-
-charged-requires : tie.Need-charged-requires
-charged-requires c κs = search needs
-
-same-length : tie.Need-same-length
-same-length c = search needs
 
 returns-2 : tie.Need-returns-2
 returns-2 c vs there shallow =
@@ -37,11 +19,11 @@ pub again-spec : {M : Type 1} → statement M
 again-spec =
     tie.close
     (tie.spec
-    sub-n
-    refused-requires
+    (λ c. search needs)
+    (λ c κs. search needs)
     returns
-    move-bytes-requires
-    add-charged
-    charged-requires
-    same-length
+    (λ c κs. search needs)
+    (λ c. search needs)
+    (λ c κs. search needs)
+    (λ c. search needs)
     returns-2)

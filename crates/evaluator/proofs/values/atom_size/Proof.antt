@@ -6,9 +6,6 @@ use Rattle.laws.proofs.Atoms.{head-bounds}
 use Rattle.evaluator.proofs.values.atom_size.Statement.{statement}
 use Rattle.evaluator.proofs.values.atom_size.Tie as tie
 
-head-size-requires : tie.Need-head-size-requires
-head-size-requires c κs = search needs
-
 add-result : tie.Need-add-result
 add-result c = omega (arith, c .head-size .ensures, head-bounds (c .before .before .args .n) .1)
 
@@ -19,4 +16,4 @@ returns-2 : tie.Need-returns-2
 returns-2 c = rw (ne-eqb (c .before .args .kind) 2 (c .if1 .left)) (omega arith)
 
 pub atom-size-spec : {M : Type 1} → statement M
-atom-size-spec = tie.close (tie.spec head-size-requires add-result returns returns-2)
+atom-size-spec = tie.close (tie.spec (λ c κs. search needs) add-result returns returns-2)

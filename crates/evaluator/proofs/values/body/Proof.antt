@@ -27,9 +27,6 @@ module _ {s t : List ℕ} {r from : ℕ} where
   of-other (int v) l h is = is
   of-other (ref m n) l h is = is
 
-kind-requires : tie.Need-kind-requires
-kind-requires c κs = search needs
-
 body-requires : tie.Need-body-requires
 body-requires c κs =
     let leaf = c .before .before .before .before .pre .1 in
@@ -40,12 +37,9 @@ returns : tie.Need-returns
 returns c a leaf =
     of-array a leaf (leaf-kind leaf ∙ sym (c .before .before .kind .ensures) ∙ c .before .if1 .taken) (c .body .ensures)
 
-start-requires : tie.Need-start-requires
-start-requires c κs = search needs
-
 returns-2 : tie.Need-returns-2
 returns-2 c a leaf =
     of-other a leaf (λ h. c .before .if1 .left (c .before .before .kind .ensures ∙ sym (leaf-kind leaf) ∙ h)) (c .start .ensures)
 
 pub body-spec : {M : Type 1} → statement M
-body-spec = tie.close (tie.spec kind-requires body-requires returns start-requires returns-2)
+body-spec = tie.close (tie.spec (λ c κs. search needs) body-requires returns (λ c κs. search needs) returns-2)

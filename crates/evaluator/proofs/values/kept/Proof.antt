@@ -4,18 +4,6 @@ use Rattle.evaluator.proofs.Completing.{defined}
 use Rattle.evaluator.proofs.values.kept.Statement.{statement}
 use Rattle.evaluator.proofs.values.kept.Tie as tie
 
-sub-floor : tie.Need-sub-floor
-sub-floor c = search needs
-
-sub-floor-2 : tie.Need-sub-floor-2
-sub-floor-2 c = search needs
-
-move-bytes-requires : tie.Need-move-bytes-requires
-move-bytes-requires c κs = search needs
-
-same-length : tie.Need-same-length
-same-length c = search needs
-
 returns : tie.Need-returns
 returns c =
     let k = c .before .before in
@@ -23,4 +11,4 @@ returns c =
     defined (k .before .before .before .before .args .start) (pre .0) (pre .1) (k .move-bytes .ensures)
 
 pub kept-spec : {M : Type 1} → statement M
-kept-spec = tie.close (tie.spec sub-floor sub-floor-2 move-bytes-requires same-length returns)
+kept-spec = tie.close (tie.spec (λ c. search needs) (λ c. search needs) (λ c κs. search needs) (λ c. search needs) returns)

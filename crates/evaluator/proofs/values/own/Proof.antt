@@ -21,23 +21,8 @@ module _ (c : tie.After-end) where
 given : (c : tie.After-end) → Found c (c .before .before .before .before .before .before .pre .1 .0)
 given c = let pre = c .before .before .before .before .before .before .pre .1 in found c (pre .0) (pre .1)
 
-kind-requires : tie.Need-kind-requires
-kind-requires c κs = search needs
-
-body-requires : tie.Need-body-requires
-body-requires c κs = search needs
-
-end-requires : tie.Need-end-requires
-end-requires c κs = search needs
-
 sub-atom-size : tie.Need-sub-atom-size
 sub-atom-size c = given c .order
-
-atom-size-requires : tie.Need-atom-size-requires
-atom-size-requires c κs = search needs
-
-refused-requires : tie.Need-refused-requires
-refused-requires c κs = search needs
 
 returns : tie.Need-returns
 returns c a leaf =
@@ -50,24 +35,12 @@ sub-put-atom c = given (c .before .before .before) .order
 part-put-atom-start : tie.Need-part-put-atom-start
 part-put-atom-start c = given (c .before .before .before) .order
 
-part-put-atom-end : tie.Need-part-put-atom-end
-part-put-atom-end c = search needs
-
 put-atom-requires : tie.Need-put-atom-requires
 put-atom-requires c κs =
     let o = given (c .before .before .before .before .before) in
     let pre = c .before .before .before .before .before .before .before .before .before .before .before .pre .0 in
     let n = c .before .before .before .before .atom-size .ensures in
     rw (o .is) (omega (arith, o .size, n, pre .paid, pre .below, pre .short), omega (arith, o .size, n, pre .paid, pre .below))
-
-add-charged : tie.Need-add-charged
-add-charged c = search needs
-
-charged-requires : tie.Need-charged-requires
-charged-requires c κs = search needs
-
-same-length : tie.Need-same-length
-same-length c = search needs
 
 returns-2 : tie.Need-returns-2
 returns-2 c a leaf =
@@ -86,18 +59,18 @@ pub own-spec : {M : Type 1} → statement M
 own-spec =
     tie.close
     (tie.spec
-    kind-requires
-    body-requires
-    end-requires
+    (λ c κs. search needs)
+    (λ c κs. search needs)
+    (λ c κs. search needs)
     sub-atom-size
-    atom-size-requires
-    refused-requires
+    (λ c κs. search needs)
+    (λ c κs. search needs)
     returns
     sub-put-atom
     part-put-atom-start
-    part-put-atom-end
+    (λ c. search needs)
     put-atom-requires
-    add-charged
-    charged-requires
-    same-length
+    (λ c. search needs)
+    (λ c κs. search needs)
+    (λ c. search needs)
     returns-2)

@@ -88,41 +88,8 @@ named-room c =
     let p = named c in
     (omega (arith, room k .0, size, p .place), put-length (omega (arith, room k .0, size)) p)
 
-add-start : tie.Need-add-start
-add-start c = search needs
-
-start-requires : tie.Need-start-requires
-start-requires c κs = search needs
-
-add-end : tie.Need-add-end
-add-end c = search needs
-
-end-requires : tie.Need-end-requires
-end-requires c κs = search needs
-
-add-body : tie.Need-add-body
-add-body c = search needs
-
-body-requires : tie.Need-body-requires
-body-requires c κs = search needs
-
-add-end-2 : tie.Need-add-end-2
-add-end-2 c = search needs
-
-end-requires-2 : tie.Need-end-requires-2
-end-requires-2 c κs = search needs
-
-sub-n : tie.Need-sub-n
-sub-n c = search needs
-
-add-n : tie.Need-add-n
-add-n c = search needs
-
 sub-atom-size : tie.Need-sub-atom-size
 sub-atom-size c = given-id c .order
-
-atom-size-requires : tie.Need-atom-size-requires
-atom-size-requires c κs = search needs
 
 add-n-2 : tie.Need-add-n-2
 add-n-2 c =
@@ -130,9 +97,6 @@ add-n-2 c =
     let a = given-ref e in
     let head = head-bounds (e .end2 .result - e .before .body .result) .1 in
     omega (arith, a .inside, a .short, given-id e .inside, c .atom-size .ensures, head)
-
-refused-requires : tie.Need-refused-requires
-refused-requires c κs = search needs
 
 returns : tie.Need-returns
 returns c m n id leaf leaf′ =
@@ -150,32 +114,11 @@ returns c m n id leaf leaf′ =
           (c .before .if1 .taken),
     )
 
-slice-write-w : tie.Need-slice-write-w
-slice-write-w c = search needs
-
-add-w : tie.Need-add-w
-add-w c = search needs
-
 slice-write-w-2 : tie.Need-slice-write-w-2
 slice-write-w-2 c = simp length-set (omega (arith, room c .0))
 
-add-w-2 : tie.Need-add-w-2
-add-w-2 c = search needs
-
 slice-write-w-3 : tie.Need-slice-write-w-3
 slice-write-w-3 c = simp length-set (omega (arith, room c .0))
-
-sub-put-atom : tie.Need-sub-put-atom
-sub-put-atom c = search needs
-
-part-put-atom-start : tie.Need-part-put-atom-start
-part-put-atom-start c = search needs
-
-part-put-atom-end : tie.Need-part-put-atom-end
-part-put-atom-end c = search needs
-
-add-put-atom : tie.Need-add-put-atom
-add-put-atom c = search needs
 
 put-atom-requires : tie.Need-put-atom-requires
 put-atom-requires c κs =
@@ -188,9 +131,6 @@ sub-put-atom-2 c = given-id (c .before .before .before .before .before .before .
 part-put-atom-start-2 : tie.Need-part-put-atom-start-2
 part-put-atom-start-2 c = given-id (c .before .before .before .before .before .before .before .before) .order
 
-part-put-atom-end-2 : tie.Need-part-put-atom-end-2
-part-put-atom-end-2 c = search needs
-
 put-atom-requires-2 : tie.Need-put-atom-requires-2
 put-atom-requires-2 c κs =
     let k = c .before .before .before .before .before .before .before in
@@ -202,12 +142,6 @@ put-atom-requires-2 c κs =
 
 slice-write-w-4 : tie.Need-slice-write-w-4
 slice-write-w-4 c = omega (arith, named-room (c .before .before))
-
-add-charged : tie.Need-add-charged
-add-charged c = search needs
-
-charged-requires : tie.Need-charged-requires
-charged-requires c κs = search needs
 
 same-length : tie.Need-same-length
 same-length c = simp length-set (named-room (c .before .before .before) .1)
@@ -236,37 +170,37 @@ pub own-ns-spec : {M : Type 1} → statement M
 own-ns-spec =
     tie.close
     (tie.spec
-    add-start
-    start-requires
-    add-end
-    end-requires
-    add-body
-    body-requires
-    add-end-2
-    end-requires-2
-    sub-n
-    add-n
+    (λ c. search needs)
+    (λ c κs. search needs)
+    (λ c. search needs)
+    (λ c κs. search needs)
+    (λ c. search needs)
+    (λ c κs. search needs)
+    (λ c. search needs)
+    (λ c κs. search needs)
+    (λ c. search needs)
+    (λ c. search needs)
     sub-atom-size
-    atom-size-requires
+    (λ c κs. search needs)
     add-n-2
-    refused-requires
+    (λ c κs. search needs)
     returns
-    slice-write-w
-    add-w
+    (λ c. search needs)
+    (λ c. search needs)
     slice-write-w-2
-    add-w-2
+    (λ c. search needs)
     slice-write-w-3
-    sub-put-atom
-    part-put-atom-start
-    part-put-atom-end
-    add-put-atom
+    (λ c. search needs)
+    (λ c. search needs)
+    (λ c. search needs)
+    (λ c. search needs)
     put-atom-requires
     sub-put-atom-2
     part-put-atom-start-2
-    part-put-atom-end-2
+    (λ c. search needs)
     put-atom-requires-2
     slice-write-w-4
-    add-charged
-    charged-requires
+    (λ c. search needs)
+    (λ c κs. search needs)
     same-length
     returns-2)

@@ -6,15 +6,6 @@ use Rattle.evaluator.proofs.Entries.{entries-added}
 use Rattle.evaluator.proofs.scope.Scope.add.Statement.{statement}
 use Rattle.evaluator.proofs.scope.Scope.add.Tie as tie
 
-put-requires : tie.Need-put-requires
-put-requires c κs = search needs
-
-put-requires-2 : tie.Need-put-requires-2
-put-requires-2 c κs = search needs
-
-add-t12 : tie.Need-add-t12
-add-t12 c = search needs
-
 returns : tie.Need-returns
 returns c =
     let k = c .before .before in
@@ -24,4 +15,4 @@ returns c =
     (rw (k .put .ensures, c .put2 .ensures) (entries-added (a .keys .now) (a .places .now) (a .self .len) (a .key) (a .place) (omega (arith, ks)) (omega (arith, ps))), refl)
 
 pub add-spec : {M : Type 1} → statement M
-add-spec = tie.close (tie.spec put-requires put-requires-2 add-t12 returns)
+add-spec = tie.close (tie.spec (λ c κs. search needs) (λ c κs. search needs) (λ c. search needs) returns)

@@ -34,24 +34,6 @@ module _ (c : tie.At-loop Inv-loop μ-loop) where
       let a = c .before .args in
       is ∙ ap (find key) (sym (entries-latest (a .keys .now) (a .places .now) (c .loop .i) h)) ∙ c .loop .inv .1
 
-loop-holds : tie.Need-loop-holds Inv-loop μ-loop
-loop-holds c = search needs
-
-sub-i : tie.Need-sub-i Inv-loop μ-loop
-sub-i c = search needs
-
-mul-k : tie.Need-mul-k Inv-loop μ-loop
-mul-k c = search needs
-
-element-copy-out-k : tie.Need-element-copy-out-k Inv-loop μ-loop
-element-copy-out-k c = search needs
-
-mul-p : tie.Need-mul-p Inv-loop μ-loop
-mul-p c = search needs
-
-element-copy-out-p : tie.Need-element-copy-out-p Inv-loop μ-loop
-element-copy-out-p c = search needs
-
 packed-from-requires : tie.Need-packed-from-requires Inv-loop μ-loop
 packed-from-requires c κs = tt
 
@@ -65,15 +47,6 @@ returns c =
     let is = find-value (key l) (latest l) (behind l) (k .if1 .taken) in
     rw (c .before .packed-from .ensures, c .packed-to .ensures) (found l (k .before .before .loop-test .taken) is)
 
-add-if2 : tie.Need-add-if2 Inv-loop μ-loop
-add-if2 c = search needs
-
-mul-code-row : tie.Need-mul-code-row Inv-loop μ-loop
-mul-code-row c = search needs
-
-element-copy-out-code-row : tie.Need-element-copy-out-code-row Inv-loop μ-loop
-element-copy-out-code-row c = search needs
-
 code-row-requires : tie.Need-code-row-requires Inv-loop μ-loop
 code-row-requires c κs = tt
 
@@ -84,9 +57,6 @@ returns-2 c =
     let a = l .before .args in
     let is = find-function (key l) (latest l) (behind l) (k .if2 .taken) in
     rw (c .code-row .ensures) (rw (entries-length (a .keys .now) (a .places .now) (l .loop .i - 1)) at (found l (k .before .before .before .loop-test .taken) is))
-
-loop-less : tie.Need-loop-less Inv-loop μ-loop
-loop-less c = search needs
 
 loop-again : tie.Need-loop-again Inv-loop μ-loop
 loop-again c =
@@ -106,20 +76,20 @@ look-up-spec =
     (tie.spec
     Inv-loop
     μ-loop
-    loop-holds
-    sub-i
-    mul-k
-    element-copy-out-k
-    mul-p
-    element-copy-out-p
+    (λ c. search needs)
+    (λ c. search needs)
+    (λ c. search needs)
+    (λ c. search needs)
+    (λ c. search needs)
+    (λ c. search needs)
     packed-from-requires
     packed-to-requires
     returns
-    add-if2
-    mul-code-row
-    element-copy-out-code-row
+    (λ c. search needs)
+    (λ c. search needs)
+    (λ c. search needs)
     code-row-requires
     returns-2
-    loop-less
+    (λ c. search needs)
     loop-again
     returns-3)
