@@ -11,7 +11,7 @@ pub struct Format {
     pub list: fn(usize, &mut Vec<u8>),
 }
 
-#[cfg(msgpack)]
+#[cfg(any(msgpack, msgpuck, mpack))]
 pub const MSGPACK: Format = Format {
     nil: 0xC0,
     number: |number, out| match number {

@@ -1,5 +1,5 @@
 //! The benchmark: what the library's calls take, beside the second program, a plain copy and,
-//! where they are installed, msgpack-c and libcbor.
+//! where they are installed, msgpack-c, libcbor, msgpuck and libmpack.
 
 mod documents;
 #[path = "../second/evaluate.rs"]

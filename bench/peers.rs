@@ -1,4 +1,4 @@
-//! msgpack-c and libcbor, as far as they are installed, by `msgpack.c` and `cbor.c`.
+//! msgpack-c, libcbor, msgpuck and libmpack, as far as they are installed, each by its C file.
 
 use crate::documents::Format;
 
@@ -8,28 +8,40 @@ pub struct Peer {
     pub name: &'static str,
     pub format: Format,
     decode: OfDocument,
+    /// None if nothing is built that could be encoded.
+    encoding: Option<Encoding>,
+}
+
+pub struct Encoding {
     keep: OfDocument,
     encode: unsafe extern "C" fn() -> usize,
     forget: unsafe extern "C" fn(),
 }
 
+#[cfg(msgpack)]
 extern "C" {
-    #[cfg(msgpack)]
     fn msgpack_decode(document: *const u8, size: usize) -> i32;
-    #[cfg(msgpack)]
     fn msgpack_keep(document: *const u8, size: usize) -> i32;
-    #[cfg(msgpack)]
     fn msgpack_encode() -> usize;
-    #[cfg(msgpack)]
     fn msgpack_forget();
-    #[cfg(cbor)]
+}
+
+#[cfg(cbor)]
+extern "C" {
     fn libcbor_decode(document: *const u8, size: usize) -> i32;
-    #[cfg(cbor)]
     fn libcbor_keep(document: *const u8, size: usize) -> i32;
-    #[cfg(cbor)]
     fn libcbor_encode() -> usize;
-    #[cfg(cbor)]
     fn libcbor_forget();
+}
+
+#[cfg(msgpuck)]
+extern "C" {
+    fn msgpuck_check(document: *const u8, size: usize) -> i32;
+}
+
+#[cfg(mpack)]
+extern "C" {
+    fn libmpack_tokens(document: *const u8, size: usize) -> i32;
 }
 
 pub const ALL: &[Peer] = &[
@@ -38,23 +50,41 @@ pub const ALL: &[Peer] = &[
         name: "msgpack-c",
         format: crate::documents::MSGPACK,
         decode: msgpack_decode,
-        keep: msgpack_keep,
-        encode: msgpack_encode,
-        forget: msgpack_forget,
+        encoding: Some(Encoding {
+            keep: msgpack_keep,
+            encode: msgpack_encode,
+            forget: msgpack_forget,
+        }),
     },
     #[cfg(cbor)]
     Peer {
         name: "libcbor",
         format: crate::documents::CBOR,
         decode: libcbor_decode,
-        keep: libcbor_keep,
-        encode: libcbor_encode,
-        forget: libcbor_forget,
+        encoding: Some(Encoding {
+            keep: libcbor_keep,
+            encode: libcbor_encode,
+            forget: libcbor_forget,
+        }),
+    },
+    #[cfg(msgpuck)]
+    Peer {
+        name: "msgpuck",
+        format: crate::documents::MSGPACK,
+        decode: msgpuck_check,
+        encoding: None,
+    },
+    #[cfg(mpack)]
+    Peer {
+        name: "libmpack",
+        format: crate::documents::MSGPACK,
+        decode: libmpack_tokens,
+        encoding: None,
     },
 ];
 
 impl Peer {
-    /// Decodes a document and frees it. Whether it was whole.
+    /// Decodes a document and frees what it built. Whether the document was whole.
     pub fn decode(&self, document: &[u8]) -> bool {
         // The document is valid for its length.
         unsafe { (self.decode)(document.as_ptr(), document.len()) == 1 }
@@ -62,14 +92,15 @@ impl Peer {
 
     /// Decodes a document and keeps it. A peer keeps one at a time.
     pub fn keep(&'static self, document: &[u8]) -> Option<Kept> {
+        let encoding = self.encoding.as_ref()?;
         // As above.
-        let kept = unsafe { (self.keep)(document.as_ptr(), document.len()) == 1 };
-        kept.then_some(Kept(self))
+        let kept = unsafe { (encoding.keep)(document.as_ptr(), document.len()) == 1 };
+        kept.then_some(Kept(encoding))
     }
 }
 
 /// A document that was decoded, to be encoded again and again.
-pub struct Kept(&'static Peer);
+pub struct Kept(&'static Encoding);
 
 impl Kept {
     /// Gives the length.

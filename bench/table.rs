@@ -7,8 +7,9 @@ use crate::timing::ROUNDS;
 pub fn print_head() {
     println!(
         "Nanoseconds, the least of {ROUNDS} rounds. A unit is a row for Read and Write, a step for Evaluate, an item\n\
-         for msgpack-c and libcbor, of which Read stands beside decoding and Write beside encoding. The library's\n\
-         buffers are lent once and not cleared between calls; the second program allocates as it goes.\n"
+         for the peers. Read stands beside decoding by msgpack-c and libcbor, msgpuck's check and libmpack's tokenizer,\n\
+         which build nothing; Write beside encoding. The library's buffers are lent once and not cleared between calls;\n\
+         the second program allocates as it goes.\n"
     );
     let peers: String = peers::ALL
         .iter()
