@@ -5,6 +5,12 @@ ghost use lib.ListN.{length, take, drop};
 ghost use Rattle.spec.specs.Reading.{taken, and-then, take-bytes, natural, length-expr, marker, name, as-array};
 ghost use Rattle.atoms.specs.Tokens.{token-at, shown, shown-atom, measured, leading-threes, plain, around};
 
+// No stream that is read has more bytes.
+pub const STREAM_LIMIT: usize = 65536;
+
+// A number of bytes above the limit is told as the next one: no stream has as many.
+const TOO_MANY: usize = STREAM_LIMIT + 1;
+
 pub enum Token {
     Opening,
     Closing,
@@ -13,13 +19,13 @@ pub enum Token {
     Bad { number: u32, place: usize },
 }
 
-// A length expression's number, 65,537 if it is larger, and where the expression ends.
+// A length expression's number, held at `TOO_MANY`, and where the expression ends.
 enum Length {
     Is { value: usize, end: usize },
     Wrong { number: u32, place: usize },
 }
 
-// The big-endian number of the bytes from `from` up to `to`, 65,537 if it is larger.
+// The big-endian number of the bytes from `from` up to `to`, held at `TOO_MANY`.
 pub fn number(s: &[u8], from: usize, to: usize) -> usize
     requires { ⌜ (from ≤ to) × (to ≤ length (now s)) ⌝ }
     ensures { λ r. ⌜ r ≡ min (natural 0 (take (to - from) (drop from (now (s .entry))))) 65537 ⌝ }
@@ -28,8 +34,8 @@ pub fn number(s: &[u8], from: usize, to: usize) -> usize
     let mut i = from;
     while i < to {
         v = v * 256 + (s[i] as usize);
-        if v > 65537 {
-            v = 65537;
+        if v > TOO_MANY {
+            v = TOO_MANY;
         }
         i += 1;
     }

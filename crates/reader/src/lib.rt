@@ -112,7 +112,7 @@ fn check_tokens(s: &[u8], room: usize) -> Checked
 pub fn check(s: &[u8], room: usize) -> Checked
     ensures { λ r. ⌜ r ≡ checked (read (now (s .entry)) room) ⌝ }
 {
-    if 65536 < s.len() {
+    if atoms::STREAM_LIMIT < s.len() {
         return wrong(1, 0);
     }
     check_tokens(s, room)
