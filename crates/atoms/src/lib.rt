@@ -16,13 +16,13 @@ pub enum Token {
     Closing,
     // An atom of that kind. `body` is where an array's bytes begin; any other atom is all body.
     Whole { kind: u32, body: usize, end: usize },
-    Bad { number: u32, place: usize },
+    Bad(u32, usize),
 }
 
 // A length expression's number, held at `TOO_MANY`, and where the expression ends.
 enum Length {
     Is { value: usize, end: usize },
-    Wrong { number: u32, place: usize },
+    Wrong(u32, usize),
 }
 
 // The big-endian number of the bytes from `from` up to `to`, held at `TOO_MANY`.
@@ -66,18 +66,12 @@ fn plain_length(s: &[u8], at: usize) -> Length
     ensures { λ r. ⌜ r ≡ measured (length (now (s .entry))) (plain (drop at (now (s .entry)))) ⌝ }
 {
     if at == s.len() {
-        return Length::Wrong {
-            number: 2,
-            place: at,
-        };
+        return Length::Wrong(2, at);
     }
     let b = s[at] as usize;
     let body = at + 1;
     if b < 0x80 {
-        return Length::Wrong {
-            number: 5,
-            place: at,
-        };
+        return Length::Wrong(5, at);
     }
     if b < 0xC0 {
         return Length::Is {
@@ -87,10 +81,7 @@ fn plain_length(s: &[u8], at: usize) -> Length
     }
     let n = b - 0xC0;
     if s.len() - body < n {
-        return Length::Wrong {
-            number: 2,
-            place: s.len(),
-        };
+        return Length::Wrong(2, s.len());
     }
     let end = body + n;
     Length::Is {
@@ -109,10 +100,7 @@ fn nested_length(s: &[u8], value: usize, from: usize, depth: usize) -> Length
     let mut k = depth;
     while 0 < k {
         if s.len() - at < v {
-            return Length::Wrong {
-                number: 2,
-                place: s.len(),
-            };
+            return Length::Wrong(2, s.len());
         }
         let end = at + v;
         v = number(s, at, end);
@@ -129,13 +117,10 @@ fn length_at(s: &[u8], at: usize) -> Length
 {
     let depth = threes(s, at);
     if depth == 8 {
-        return Length::Wrong {
-            number: 6,
-            place: at + 7,
-        };
+        return Length::Wrong(6, at + 7);
     }
     match plain_length(s, at + depth) {
-        Length::Wrong { number, place } => Length::Wrong { number, place },
+        Length::Wrong(number, place) => Length::Wrong(number, place),
         Length::Is { value, end } => nested_length(s, value, end, depth),
     }
 }
@@ -148,7 +133,7 @@ fn any_array(s: &[u8], at: usize) -> Token
         (and-then (and-then (length-expr 7 (drop (suc at) (now (s .entry)))) take-bytes) as-array) ⌝ }
 {
     match length_at(s, at + 1) {
-        Length::Wrong { number, place } => Token::Bad { number, place },
+        Length::Wrong(number, place) => Token::Bad(number, place),
         Length::Is { value, end } => bytes_at(s, end, value),
     }
 }
@@ -178,10 +163,7 @@ fn bytes_at(s: &[u8], body: usize, size: usize) -> Token
     ensures { λ r. ⌜ ((p : ℕ) → r ≡ shown-atom p (length (now (s .entry))) (and-then (take-bytes size (drop body (now (s .entry)))) as-array)) ⌝ }
 {
     if s.len() - body < size {
-        return Token::Bad {
-            number: 2,
-            place: s.len(),
-        };
+        return Token::Bad(2, s.len());
     }
     Token::Whole {
         kind: 2,
@@ -196,16 +178,10 @@ fn reference(s: &[u8], at: usize, sum: usize, past: usize) -> Token
     ensures { λ r. ⌜ r ≡ shown-atom at (length (now (s .entry))) (name (drop at (now (s .entry))) sum (drop past (now (s .entry)))) ⌝ }
 {
     if past == s.len() {
-        return Token::Bad {
-            number: 2,
-            place: past,
-        };
+        return Token::Bad(2, past);
     }
     if 65535 < sum {
-        return Token::Bad {
-            number: 7,
-            place: at,
-        };
+        return Token::Bad(7, at);
     }
     Token::Whole {
         kind: 4,
@@ -229,10 +205,7 @@ fn long_reference(s: &[u8], at: usize) -> Token
             return reference(s, at, sum, p);
         }
     }
-    Token::Bad {
-        number: 2,
-        place: p,
-    }
+    Token::Bad(2, p)
 }
 
 // The token at a place of a stream, whichever it is.
@@ -250,10 +223,7 @@ pub fn any_token(s: &[u8], at: usize) -> Token
         0x01 => Token::Opening,
         0x02 => Token::Closing,
         0x03 => array_at(s, at),
-        0x04..=0x0F => Token::Bad {
-            number: 4,
-            place: at,
-        },
+        0x04..=0x0F => Token::Bad(4, at),
         0x10..=0x7E => reference(s, at, b as usize, at + 1),
         0x7F => long_reference(s, at),
         0x80..=0xBF => Token::Whole {

@@ -46,10 +46,7 @@ fn shallow(values: &[u8]) -> bool
             } => {
                 at = end;
             }
-            Token::Bad {
-                number: _,
-                place: _,
-            } => {
+            Token::Bad(_, _) => {
                 return false;
             }
         }
@@ -102,10 +99,7 @@ fn array_at(w: &[u8], at: usize) -> Bytes
             }
             Bytes::Other
         }
-        Token::Bad {
-            number: _,
-            place: _,
-        } => Bytes::Other,
+        Token::Bad(_, _) => Bytes::Other,
     }
 }
 

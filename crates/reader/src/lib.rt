@@ -100,7 +100,7 @@ fn check_tokens(s: &[u8], room: usize) -> Checked
                 saved += spared(kind, at, body, end);
                 at = end;
             }
-            Token::Bad { number, place } => {
+            Token::Bad(number, place) => {
                 return wrong(number, place);
             }
         }
@@ -165,10 +165,7 @@ pub fn fill(s: &[u8], table: &mut [u32])
                 rows += 1;
                 at = end;
             }
-            Token::Bad {
-                number: _,
-                place: _,
-            } => {
+            Token::Bad(_, _) => {
                 return;
             }
         }
@@ -202,10 +199,7 @@ fn form_end(s: &[u8], start: usize) -> usize
             } => {
                 at = end;
             }
-            Token::Bad {
-                number: _,
-                place: _,
-            } => {
+            Token::Bad(_, _) => {
                 return at;
             }
         }
@@ -226,10 +220,7 @@ pub fn expression_end(s: &[u8], at: usize) -> usize
             end,
         } => end,
         Token::Closing => at,
-        Token::Bad {
-            number: _,
-            place: _,
-        } => at,
+        Token::Bad(_, _) => at,
     }
 }
 

@@ -71,10 +71,7 @@ pub fn emit(s: &[u8], out: &mut [u8])
                 to = put_atom(kind, &s[body..end], out, to);
                 at = end;
             }
-            Token::Bad {
-                number: _,
-                place: _,
-            } => {
+            Token::Bad(_, _) => {
                 return;
             }
         }
