@@ -11,6 +11,21 @@ pub const STREAM_LIMIT: usize = 65536;
 // A number of bytes above the limit is told as the next one: no stream has as many.
 const TOO_MANY: usize = STREAM_LIMIT + 1;
 
+// A row's first number.
+pub struct Kind;
+
+impl Kind {
+    pub const NIL: u32 = 0;
+
+    pub const FORM: u32 = 1;
+
+    pub const ARRAY: u32 = 2;
+
+    pub const INT: u32 = 3;
+
+    pub const REFERENCE: u32 = 4;
+}
+
 pub enum Token {
     Opening,
     Closing,
@@ -166,7 +181,7 @@ fn bytes_at(s: &[u8], body: usize, size: usize) -> Token
         return Token::Bad(2, s.len());
     }
     Token::Whole {
-        kind: 2,
+        kind: Kind::ARRAY,
         body,
         end: body + size,
     }
@@ -184,7 +199,7 @@ fn reference(s: &[u8], at: usize, sum: usize, past: usize) -> Token
         return Token::Bad(7, at);
     }
     Token::Whole {
-        kind: 4,
+        kind: Kind::REFERENCE,
         body: at,
         end: past + 1,
     }
@@ -216,7 +231,7 @@ pub fn any_token(s: &[u8], at: usize) -> Token
     let b = s[at];
     match b {
         0x00 => Token::Whole {
-            kind: 0,
+            kind: Kind::NIL,
             body: at,
             end: at + 1,
         },
@@ -227,7 +242,7 @@ pub fn any_token(s: &[u8], at: usize) -> Token
         0x10..=0x7E => reference(s, at, b as usize, at + 1),
         0x7F => long_reference(s, at),
         0x80..=0xBF => Token::Whole {
-            kind: 3,
+            kind: Kind::INT,
             body: at,
             end: at + 1,
         },
@@ -246,7 +261,7 @@ pub fn token_at(s: &[u8], at: usize) -> Token
     match b {
         0x00 => {
             return Token::Whole {
-                kind: 0,
+                kind: Kind::NIL,
                 body: at,
                 end: at + 1,
             };
@@ -260,7 +275,7 @@ pub fn token_at(s: &[u8], at: usize) -> Token
         0x10..=0x7E => {
             if 1 < left {
                 return Token::Whole {
-                    kind: 4,
+                    kind: Kind::REFERENCE,
                     body: at,
                     end: at + 2,
                 };
@@ -268,7 +283,7 @@ pub fn token_at(s: &[u8], at: usize) -> Token
         }
         0x80..=0xBF => {
             return Token::Whole {
-                kind: 3,
+                kind: Kind::INT,
                 body: at,
                 end: at + 1,
             };
@@ -277,7 +292,7 @@ pub fn token_at(s: &[u8], at: usize) -> Token
             let size = (b - 0xC0) as usize;
             if size < left {
                 return Token::Whole {
-                    kind: 2,
+                    kind: Kind::ARRAY,
                     body: at + 1,
                     end: at + 1 + size,
                 };

@@ -4,6 +4,7 @@ use crate::scope;
 use crate::values;
 use crate::values::Out;
 use crate::values::State;
+use atoms::Kind;
 use atoms::Token;
 ghost use mathlib.Core.Path.{_≡_};
 ghost use mathlib.Core.List.{List, _++_};
@@ -91,7 +92,7 @@ fn array_at(w: &[u8], at: usize) -> Bytes
         Token::Opening => Bytes::Other,
         Token::Closing => Bytes::Other,
         Token::Whole { kind, body, end } => {
-            if kind == 2 {
+            if kind == Kind::ARRAY {
                 return Bytes::Array {
                     from: body,
                     to: end,

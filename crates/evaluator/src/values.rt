@@ -3,6 +3,7 @@
 use crate::arrays;
 use crate::moves;
 use crate::rows;
+use atoms::Kind;
 ghost use mathlib.Core.Path.{_≡_};
 ghost use mathlib.Core.List.{List};
 ghost use Prim.Native.Nat.{ℕ, _+_, _-_, _≤_};
@@ -54,7 +55,7 @@ fn body(s: &[u8], table: &[u32], row: usize) -> usize
     requires { ⌜ ((a : Atom) × LeafAt (now s) (now table) row a) ⌝ }
     ensures { λ r. ⌜ ((a : Atom) → LeafAt (now (s .entry)) (now (table .entry)) row a → r ≡ if-array a (λ bs. cell (now (table .entry)) row 2 - length bs) (cell (now (table .entry)) row 1)) ⌝ }
 {
-    if rows::kind(table, row) == 2 {
+    if rows::kind(table, row) == Kind::ARRAY {
         return arrays::body(s, table, row);
     }
     rows::start(table, row)
@@ -65,7 +66,7 @@ fn atom_size(kind: u32, n: usize) -> usize
     requires { ⌜ n ≤ 65536 ⌝ }
     ensures { λ r. ⌜ r ≡ length (atom-head kind n) + n ⌝ }
 {
-    if kind == 2 {
+    if kind == Kind::ARRAY {
         return reader::head_size(n) + n;
     }
     n

@@ -1,5 +1,6 @@
 // Two passes over a stream: the first checks it and counts, the second writes its rows. And the search for an item.
 // Document 01: "Read", "Table", "Item".
+use atoms::Kind;
 use atoms::Token;
 ghost use mathlib.Core.Path.{_≡_};
 ghost use Prim.Native.Nat.{_+_, _-_, _*_, _≤_, _<_};
@@ -41,7 +42,7 @@ fn spared(kind: u32, at: usize, body: usize, end: usize) -> usize
     ensures { λ r. ⌜ r ≡ body - at - length (atom-head kind (end - body)) ⌝ }
 {
     let before = body - at;
-    if kind == 2 {
+    if kind == Kind::ARRAY {
         return before - head_size(end - body);
     }
     before
@@ -149,7 +150,7 @@ pub fn fill(s: &[u8], table: &mut [u32])
         match atoms::token_at(s, at) {
             Token::Opening => {
                 forms[depth] = rows as u32;
-                start_row(table, rows, 1, at as u32);
+                start_row(table, rows, Kind::FORM, at as u32);
                 depth += 1;
                 rows += 1;
                 at += 1;

@@ -1,4 +1,5 @@
 // The canonical stream: of each token of a stream in turn, its canonical bytes. Document 01: "Canonical".
+use atoms::Kind;
 use atoms::Token;
 ghost use Prim.Native.Nat.{_+_, _≤_, _<_};
 ghost use mathlib.Core.Path.{_≡_};
@@ -40,7 +41,7 @@ pub fn put_atom(kind: u32, body: &[u8], out: &mut [u8], to: usize) -> usize
     requires { ⌜ to + length (with-head kind (now body)) ≤ length (now out) ⌝ }
     ensures { λ r. ⌜ Put (now (out .entry)) to (with-head kind (now (body .entry))) (now (out .exit)) r ⌝ }
 {
-    if kind == 2 {
+    if kind == Kind::ARRAY {
         let past = put_head(body.len(), out, to);
         return put_bytes(body, out, past);
     }
