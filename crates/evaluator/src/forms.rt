@@ -121,7 +121,7 @@ fn join_at(
 {
     let k = (b - a) + (d - c);
     let top = state.top;
-    let n = reader::head_size(k) + k;
+    let n = writer::atom_size(Kind::ARRAY, k);
     if state.room < n {
         return values::refused(17, row);
     }

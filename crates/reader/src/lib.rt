@@ -6,11 +6,10 @@ ghost use mathlib.Core.Path.{_≡_};
 ghost use Prim.Native.Nat.{_+_, _-_, _*_, _≤_, _<_};
 ghost use lib.ListN.{length, drop, getD};
 ghost use lib.Dec.{eqb};
-ghost use Rattle.spec.specs.Expr.{if_then_else_, array-head};
+ghost use Rattle.spec.specs.Expr.{if_then_else_};
 ghost use Rattle.spec.specs.Reading.{tokens, ends, rows-of, row-width, read};
 ghost use Rattle.spec.specs.Calls.{filled, row-at, Buffer, item};
 ghost use Rattle.laws.specs.Demands.{meaning-of, CanRead};
-ghost use Rattle.atoms.specs.Tokens.{atom-head};
 ghost use Rattle.reader.specs.declared.Checked.the-variants.{Right, Wrong};
 ghost use Rattle.reader.specs.Passes.{checked, row-started, row-ended, RightFrom, found-part};
 
@@ -21,31 +20,6 @@ pub enum Checked {
     // How many rows the stream has, and the length of its canonical bytes.
     Right { rows: usize, length: usize },
     Wrong { number: u32, place: usize },
-}
-
-// How many bytes an array's head takes.
-pub fn head_size(n: usize) -> usize
-    ensures { λ r. ⌜ r ≡ length (array-head n) ⌝ }
-{
-    if n < 64 {
-        return 1;
-    }
-    if n < 256 {
-        return 3;
-    }
-    4
-}
-
-// How many bytes fewer an atom has as it is written canonically.
-fn spared(kind: u32, at: usize, body: usize, end: usize) -> usize
-    requires { ⌜ (body ≤ end) × (at + length (atom-head kind (end - body)) ≤ body) ⌝ }
-    ensures { λ r. ⌜ r ≡ body - at - length (atom-head kind (end - body)) ⌝ }
-{
-    let before = body - at;
-    if kind == Kind::ARRAY {
-        return before - head_size(end - body);
-    }
-    before
 }
 
 fn wrong(number: u32, place: usize) -> Checked
@@ -98,7 +72,7 @@ fn check_tokens(s: &[u8], room: usize) -> Checked
                     return wrong(8, at);
                 }
                 rows += 1;
-                saved += spared(kind, at, body, end);
+                saved += (end - at) - writer::atom_size(kind, end - body);
                 at = end;
             }
             Token::Bad(number, place) => {
