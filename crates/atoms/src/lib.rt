@@ -5,21 +5,42 @@ ghost use lib.ListN.{length, take, drop};
 ghost use Rattle.spec.specs.Reading.{taken, and-then, take-bytes, natural, length-expr, marker, name, as-array};
 ghost use Rattle.atoms.specs.Tokens.{token-at, shown, shown-atom, measured, leading-threes, plain, around};
 
+// No stream that is read has more bytes.
+pub const STREAM_LIMIT: usize = 65536;
+
+// A number of bytes above the limit is told as the next one: no stream has as many.
+const TOO_MANY: usize = STREAM_LIMIT + 1;
+
+// A row's first number.
+pub struct Kind;
+
+impl Kind {
+    pub const NIL: u32 = 0;
+
+    pub const FORM: u32 = 1;
+
+    pub const ARRAY: u32 = 2;
+
+    pub const INT: u32 = 3;
+
+    pub const REFERENCE: u32 = 4;
+}
+
 pub enum Token {
     Opening,
     Closing,
     // An atom of that kind. `body` is where an array's bytes begin; any other atom is all body.
     Whole { kind: u32, body: usize, end: usize },
-    Bad { number: u32, place: usize },
+    Bad(u32, usize),
 }
 
-// A length expression's number, 65,537 if it is larger, and where the expression ends.
+// A length expression's number, held at `TOO_MANY`, and where the expression ends.
 enum Length {
     Is { value: usize, end: usize },
-    Wrong { number: u32, place: usize },
+    Wrong(u32, usize),
 }
 
-// The big-endian number of the bytes from `from` up to `to`, 65,537 if it is larger.
+// The big-endian number of the bytes from `from` up to `to`, held at `TOO_MANY`.
 pub fn number(s: &[u8], from: usize, to: usize) -> usize
     requires { ⌜ (from ≤ to) × (to ≤ length (now s)) ⌝ }
     ensures { λ r. ⌜ r ≡ min (natural 0 (take (to - from) (drop from (now (s .entry))))) 65537 ⌝ }
@@ -28,8 +49,8 @@ pub fn number(s: &[u8], from: usize, to: usize) -> usize
     let mut i = from;
     while i < to {
         v = v * 256 + (s[i] as usize);
-        if v > 65537 {
-            v = 65537;
+        if v > TOO_MANY {
+            v = TOO_MANY;
         }
         i += 1;
     }
@@ -60,18 +81,12 @@ fn plain_length(s: &[u8], at: usize) -> Length
     ensures { λ r. ⌜ r ≡ measured (length (now (s .entry))) (plain (drop at (now (s .entry)))) ⌝ }
 {
     if at == s.len() {
-        return Length::Wrong {
-            number: 2,
-            place: at,
-        };
+        return Length::Wrong(2, at);
     }
     let b = s[at] as usize;
     let body = at + 1;
     if b < 0x80 {
-        return Length::Wrong {
-            number: 5,
-            place: at,
-        };
+        return Length::Wrong(5, at);
     }
     if b < 0xC0 {
         return Length::Is {
@@ -81,10 +96,7 @@ fn plain_length(s: &[u8], at: usize) -> Length
     }
     let n = b - 0xC0;
     if s.len() - body < n {
-        return Length::Wrong {
-            number: 2,
-            place: s.len(),
-        };
+        return Length::Wrong(2, s.len());
     }
     let end = body + n;
     Length::Is {
@@ -103,10 +115,7 @@ fn nested_length(s: &[u8], value: usize, from: usize, depth: usize) -> Length
     let mut k = depth;
     while 0 < k {
         if s.len() - at < v {
-            return Length::Wrong {
-                number: 2,
-                place: s.len(),
-            };
+            return Length::Wrong(2, s.len());
         }
         let end = at + v;
         v = number(s, at, end);
@@ -123,13 +132,10 @@ fn length_at(s: &[u8], at: usize) -> Length
 {
     let depth = threes(s, at);
     if depth == 8 {
-        return Length::Wrong {
-            number: 6,
-            place: at + 7,
-        };
+        return Length::Wrong(6, at + 7);
     }
     match plain_length(s, at + depth) {
-        Length::Wrong { number, place } => Length::Wrong { number, place },
+        Length::Wrong(number, place) => Length::Wrong(number, place),
         Length::Is { value, end } => nested_length(s, value, end, depth),
     }
 }
@@ -142,7 +148,7 @@ fn any_array(s: &[u8], at: usize) -> Token
         (and-then (and-then (length-expr 7 (drop (suc at) (now (s .entry)))) take-bytes) as-array) ⌝ }
 {
     match length_at(s, at + 1) {
-        Length::Wrong { number, place } => Token::Bad { number, place },
+        Length::Wrong(number, place) => Token::Bad(number, place),
         Length::Is { value, end } => bytes_at(s, end, value),
     }
 }
@@ -172,13 +178,10 @@ fn bytes_at(s: &[u8], body: usize, size: usize) -> Token
     ensures { λ r. ⌜ ((p : ℕ) → r ≡ shown-atom p (length (now (s .entry))) (and-then (take-bytes size (drop body (now (s .entry)))) as-array)) ⌝ }
 {
     if s.len() - body < size {
-        return Token::Bad {
-            number: 2,
-            place: s.len(),
-        };
+        return Token::Bad(2, s.len());
     }
     Token::Whole {
-        kind: 2,
+        kind: Kind::ARRAY,
         body,
         end: body + size,
     }
@@ -190,19 +193,13 @@ fn reference(s: &[u8], at: usize, sum: usize, past: usize) -> Token
     ensures { λ r. ⌜ r ≡ shown-atom at (length (now (s .entry))) (name (drop at (now (s .entry))) sum (drop past (now (s .entry)))) ⌝ }
 {
     if past == s.len() {
-        return Token::Bad {
-            number: 2,
-            place: past,
-        };
+        return Token::Bad(2, past);
     }
     if 65535 < sum {
-        return Token::Bad {
-            number: 7,
-            place: at,
-        };
+        return Token::Bad(7, at);
     }
     Token::Whole {
-        kind: 4,
+        kind: Kind::REFERENCE,
         body: at,
         end: past + 1,
     }
@@ -223,10 +220,7 @@ fn long_reference(s: &[u8], at: usize) -> Token
             return reference(s, at, sum, p);
         }
     }
-    Token::Bad {
-        number: 2,
-        place: p,
-    }
+    Token::Bad(2, p)
 }
 
 // The token at a place of a stream, whichever it is.
@@ -237,21 +231,18 @@ pub fn any_token(s: &[u8], at: usize) -> Token
     let b = s[at];
     match b {
         0x00 => Token::Whole {
-            kind: 0,
+            kind: Kind::NIL,
             body: at,
             end: at + 1,
         },
         0x01 => Token::Opening,
         0x02 => Token::Closing,
         0x03 => array_at(s, at),
-        0x04..=0x0F => Token::Bad {
-            number: 4,
-            place: at,
-        },
+        0x04..=0x0F => Token::Bad(4, at),
         0x10..=0x7E => reference(s, at, b as usize, at + 1),
         0x7F => long_reference(s, at),
         0x80..=0xBF => Token::Whole {
-            kind: 3,
+            kind: Kind::INT,
             body: at,
             end: at + 1,
         },
@@ -270,7 +261,7 @@ pub fn token_at(s: &[u8], at: usize) -> Token
     match b {
         0x00 => {
             return Token::Whole {
-                kind: 0,
+                kind: Kind::NIL,
                 body: at,
                 end: at + 1,
             };
@@ -284,7 +275,7 @@ pub fn token_at(s: &[u8], at: usize) -> Token
         0x10..=0x7E => {
             if 1 < left {
                 return Token::Whole {
-                    kind: 4,
+                    kind: Kind::REFERENCE,
                     body: at,
                     end: at + 2,
                 };
@@ -292,7 +283,7 @@ pub fn token_at(s: &[u8], at: usize) -> Token
         }
         0x80..=0xBF => {
             return Token::Whole {
-                kind: 3,
+                kind: Kind::INT,
                 body: at,
                 end: at + 1,
             };
@@ -301,7 +292,7 @@ pub fn token_at(s: &[u8], at: usize) -> Token
             let size = (b - 0xC0) as usize;
             if size < left {
                 return Token::Whole {
-                    kind: 2,
+                    kind: Kind::ARRAY,
                     body: at + 1,
                     end: at + 1 + size,
                 };

@@ -4,6 +4,7 @@ use crate::scope;
 use crate::values;
 use crate::values::Out;
 use crate::values::State;
+use atoms::Kind;
 use atoms::Token;
 ghost use mathlib.Core.Path.{_≡_};
 ghost use mathlib.Core.List.{List, _++_};
@@ -46,10 +47,7 @@ fn shallow(values: &[u8]) -> bool
             } => {
                 at = end;
             }
-            Token::Bad {
-                number: _,
-                place: _,
-            } => {
+            Token::Bad(_, _) => {
                 return false;
             }
         }
@@ -94,7 +92,7 @@ fn array_at(w: &[u8], at: usize) -> Bytes
         Token::Opening => Bytes::Other,
         Token::Closing => Bytes::Other,
         Token::Whole { kind, body, end } => {
-            if kind == 2 {
+            if kind == Kind::ARRAY {
                 return Bytes::Array {
                     from: body,
                     to: end,
@@ -102,10 +100,7 @@ fn array_at(w: &[u8], at: usize) -> Bytes
             }
             Bytes::Other
         }
-        Token::Bad {
-            number: _,
-            place: _,
-        } => Bytes::Other,
+        Token::Bad(_, _) => Bytes::Other,
     }
 }
 
@@ -126,7 +121,7 @@ fn join_at(
 {
     let k = (b - a) + (d - c);
     let top = state.top;
-    let n = reader::head_size(k) + k;
+    let n = writer::atom_size(Kind::ARRAY, k);
     if state.room < n {
         return values::refused(17, row);
     }

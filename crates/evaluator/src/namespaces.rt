@@ -1,6 +1,7 @@
 // The namespaces that are associated: of each its marker, and the row of its id. Document 01: `( ns ref id )`.
 use crate::arrays;
 use crate::rows;
+use atoms::Kind;
 ghost use mathlib.Core.Path.{_≡_};
 ghost use mathlib.Core.List.{List};
 ghost use mathlib.Core.Bool.{false};
@@ -81,7 +82,7 @@ fn bears(s: &[u8], table: &[u32], row: usize, marker: u32) -> bool
     requires { ⌜ ((e : Node) × NodeAt (now s) (now table) row e) ⌝ }
     ensures { λ r. ⌜ ((a : Atom) → LeafAt (now (s .entry)) (now (table .entry)) row a → r ≡ if-ref a (λ m n. eqb m marker) false) × (cell (now (table .entry)) row 0 ≡ 1 → r ≡ false) ⌝ }
 {
-    if rows::kind(table, row) != 4 {
+    if rows::kind(table, row) != Kind::REFERENCE {
         return false;
     }
     rows::key(s, table, row) / 256 == marker

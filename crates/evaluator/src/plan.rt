@@ -7,6 +7,7 @@ use crate::rows::Core;
 use crate::scope;
 use crate::scope::Found;
 use crate::scope::Scope;
+use atoms::Kind;
 ghost use mathlib.Core.Path.{_≡_};
 ghost use mathlib.Core.List.{List};
 ghost use Prim.Native.Nat.{ℕ, _+_, _≤_, _<_};
@@ -153,10 +154,10 @@ fn ns(s: &[u8], table: &[u32], names: &[u32; 64], count: usize, stands: Stands, 
             if p.count != 3 {
                 return refuse(11);
             }
-            if rows::kind(table, p.second) != 4 {
+            if rows::kind(table, p.second) != Kind::REFERENCE {
                 return refuse(11);
             }
-            if rows::kind(table, p.third) != 2 {
+            if rows::kind(table, p.third) != Kind::ARRAY {
                 return refuse(11);
             }
             associate(s, table, names, count, row, p.second, p.third)
@@ -184,7 +185,7 @@ fn definition(
     if p.count != 3 {
         return refuse(11);
     }
-    if rows::kind(table, p.second) != 4 {
+    if rows::kind(table, p.second) != Kind::REFERENCE {
         return refuse(11);
     }
     let value = p.third;
@@ -264,7 +265,7 @@ fn written(s: &[u8], table: &[u32], row: usize) -> usize
     if p.count != 2 {
         return 64;
     }
-    if rows::kind(table, p.second) != 3 {
+    if rows::kind(table, p.second) != Kind::INT {
         return 64;
     }
     rows::small(s, table, p.second)
@@ -424,7 +425,7 @@ pub fn plan(
 {
     let kind = rows::kind(table, row);
     match kind {
-        1 => form(
+        Kind::FORM => form(
             s,
             table,
             names,
@@ -437,7 +438,7 @@ pub fn plan(
             code,
             row,
         ),
-        4 => reference(s, table, keys, places, scope, row),
+        Kind::REFERENCE => reference(s, table, keys, places, scope, row),
         _ => Task::Own,
     }
 }

@@ -1,4 +1,5 @@
 // What a table's rows say of the expressions of a stream. Document 01: "Table".
+use atoms::Kind;
 use reader::ROW_WIDTH;
 ghost use mathlib.Core.Path.{_≡_};
 ghost use mathlib.Core.Bool.{not};
@@ -110,13 +111,13 @@ pub fn head(s: &[u8], table: &[u32], row: usize) -> u32
     requires { ⌜ ((e : Node) × NodeAt (now s) (now table) row e) ⌝ }
     ensures { λ r. ⌜ ((e : Node) → NodeAt (now (s .entry)) (now (table .entry)) row e → r ≡ head-key (elements e)) ⌝ }
 {
-    if kind(table, row) != 1 {
+    if kind(table, row) != Kind::FORM {
         return NO_KEY;
     }
     if next(table, row) <= row + 1 {
         return NO_KEY;
     }
-    if kind(table, row + 1) != 4 {
+    if kind(table, row + 1) != Kind::REFERENCE {
         return NO_KEY;
     }
     key(s, table, row + 1)

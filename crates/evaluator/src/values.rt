@@ -3,6 +3,7 @@
 use crate::arrays;
 use crate::moves;
 use crate::rows;
+use atoms::Kind;
 ghost use mathlib.Core.Path.{_≡_};
 ghost use mathlib.Core.List.{List};
 ghost use Prim.Native.Nat.{ℕ, _+_, _-_, _≤_};
@@ -10,7 +11,6 @@ ghost use lib.ListN.{length};
 ghost use Rattle.spec.specs.Expr.{array, ref, if-array, Atom, atom, Exprs, only, deepest};
 ghost use Rattle.spec.specs.Evaluation.{ns-form};
 ghost use Rattle.evaluator.specs.Stands.{cell, LeafAt};
-ghost use Rattle.atoms.specs.Tokens.{atom-head};
 ghost use Rattle.evaluator.specs.declared.values.Out.the-variants.{Done, Refused};
 ghost use Rattle.evaluator.specs.Completed.{Fitting, Stand, with-top, Completed, Defined};
 
@@ -54,21 +54,10 @@ fn body(s: &[u8], table: &[u32], row: usize) -> usize
     requires { ⌜ ((a : Atom) × LeafAt (now s) (now table) row a) ⌝ }
     ensures { λ r. ⌜ ((a : Atom) → LeafAt (now (s .entry)) (now (table .entry)) row a → r ≡ if-array a (λ bs. cell (now (table .entry)) row 2 - length bs) (cell (now (table .entry)) row 1)) ⌝ }
 {
-    if rows::kind(table, row) == 2 {
+    if rows::kind(table, row) == Kind::ARRAY {
         return arrays::body(s, table, row);
     }
     rows::start(table, row)
-}
-
-// How many bytes an atom of that kind has, with a body of n bytes, as it is written canonically.
-fn atom_size(kind: u32, n: usize) -> usize
-    requires { ⌜ n ≤ 65536 ⌝ }
-    ensures { λ r. ⌜ r ≡ length (atom-head kind n) + n ⌝ }
-{
-    if kind == 2 {
-        return reader::head_size(n) + n;
-    }
-    n
 }
 
 // The value of an atom that stands for itself.
@@ -80,7 +69,7 @@ pub fn own(s: &[u8], table: &[u32], w: &mut [u8], state: State, row: usize) -> O
     let kind = rows::kind(table, row);
     let from = body(s, table, row);
     let to = rows::end(table, row);
-    let n = atom_size(kind, to - from);
+    let n = writer::atom_size(kind, to - from);
     let top = state.top;
     if state.room < n {
         return refused(17, row);
@@ -99,7 +88,7 @@ pub fn own_ns(s: &[u8], table: &[u32], w: &mut [u8], state: State, row: usize) -
     let past = rows::end(table, row + 2);
     let id = arrays::body(s, table, row + 3);
     let to = rows::end(table, row + 3);
-    let n = 4 + (past - reference) + atom_size(2, to - id);
+    let n = 4 + (past - reference) + writer::atom_size(Kind::ARRAY, to - id);
     let top = state.top;
     if state.room < n {
         return refused(17, row);
@@ -107,8 +96,8 @@ pub fn own_ns(s: &[u8], table: &[u32], w: &mut [u8], state: State, row: usize) -
     w[top] = 0x01;
     w[top + 1] = 0x20;
     w[top + 2] = 0x06;
-    let at = writer::put_atom(4, &s[reference..past], w, top + 3);
-    let end = writer::put_atom(2, &s[id..to], w, at);
+    let at = writer::put_atom(Kind::REFERENCE, &s[reference..past], w, top + 3);
+    let end = writer::put_atom(Kind::ARRAY, &s[id..to], w, at);
     w[end] = 0x02;
     charged(state, n, top + n)
 }

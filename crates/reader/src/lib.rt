@@ -1,15 +1,15 @@
 // Two passes over a stream: the first checks it and counts, the second writes its rows. And the search for an item.
 // Document 01: "Read", "Table", "Item".
+use atoms::Kind;
 use atoms::Token;
 ghost use mathlib.Core.Path.{_≡_};
 ghost use Prim.Native.Nat.{_+_, _-_, _*_, _≤_, _<_};
 ghost use lib.ListN.{length, drop, getD};
 ghost use lib.Dec.{eqb};
-ghost use Rattle.spec.specs.Expr.{if_then_else_, array-head};
+ghost use Rattle.spec.specs.Expr.{if_then_else_};
 ghost use Rattle.spec.specs.Reading.{tokens, ends, rows-of, row-width, read};
 ghost use Rattle.spec.specs.Calls.{filled, row-at, Buffer, item};
 ghost use Rattle.laws.specs.Demands.{meaning-of, CanRead};
-ghost use Rattle.atoms.specs.Tokens.{atom-head};
 ghost use Rattle.reader.specs.declared.Checked.the-variants.{Right, Wrong};
 ghost use Rattle.reader.specs.Passes.{checked, row-started, row-ended, RightFrom, found-part};
 
@@ -20,31 +20,6 @@ pub enum Checked {
     // How many rows the stream has, and the length of its canonical bytes.
     Right { rows: usize, length: usize },
     Wrong { number: u32, place: usize },
-}
-
-// How many bytes an array's head takes.
-pub fn head_size(n: usize) -> usize
-    ensures { λ r. ⌜ r ≡ length (array-head n) ⌝ }
-{
-    if n < 64 {
-        return 1;
-    }
-    if n < 256 {
-        return 3;
-    }
-    4
-}
-
-// How many bytes fewer an atom has as it is written canonically.
-fn spared(kind: u32, at: usize, body: usize, end: usize) -> usize
-    requires { ⌜ (body ≤ end) × (at + length (atom-head kind (end - body)) ≤ body) ⌝ }
-    ensures { λ r. ⌜ r ≡ body - at - length (atom-head kind (end - body)) ⌝ }
-{
-    let before = body - at;
-    if kind == 2 {
-        return before - head_size(end - body);
-    }
-    before
 }
 
 fn wrong(number: u32, place: usize) -> Checked
@@ -97,10 +72,10 @@ fn check_tokens(s: &[u8], room: usize) -> Checked
                     return wrong(8, at);
                 }
                 rows += 1;
-                saved += spared(kind, at, body, end);
+                saved += (end - at) - writer::atom_size(kind, end - body);
                 at = end;
             }
-            Token::Bad { number, place } => {
+            Token::Bad(number, place) => {
                 return wrong(number, place);
             }
         }
@@ -112,7 +87,7 @@ fn check_tokens(s: &[u8], room: usize) -> Checked
 pub fn check(s: &[u8], room: usize) -> Checked
     ensures { λ r. ⌜ r ≡ checked (read (now (s .entry)) room) ⌝ }
 {
-    if 65536 < s.len() {
+    if atoms::STREAM_LIMIT < s.len() {
         return wrong(1, 0);
     }
     check_tokens(s, room)
@@ -149,7 +124,7 @@ pub fn fill(s: &[u8], table: &mut [u32])
         match atoms::token_at(s, at) {
             Token::Opening => {
                 forms[depth] = rows as u32;
-                start_row(table, rows, 1, at as u32);
+                start_row(table, rows, Kind::FORM, at as u32);
                 depth += 1;
                 rows += 1;
                 at += 1;
@@ -165,10 +140,7 @@ pub fn fill(s: &[u8], table: &mut [u32])
                 rows += 1;
                 at = end;
             }
-            Token::Bad {
-                number: _,
-                place: _,
-            } => {
+            Token::Bad(_, _) => {
                 return;
             }
         }
@@ -202,10 +174,7 @@ fn form_end(s: &[u8], start: usize) -> usize
             } => {
                 at = end;
             }
-            Token::Bad {
-                number: _,
-                place: _,
-            } => {
+            Token::Bad(_, _) => {
                 return at;
             }
         }
@@ -226,10 +195,7 @@ pub fn expression_end(s: &[u8], at: usize) -> usize
             end,
         } => end,
         Token::Closing => at,
-        Token::Bad {
-            number: _,
-            place: _,
-        } => at,
+        Token::Bad(_, _) => at,
     }
 }
 

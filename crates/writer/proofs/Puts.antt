@@ -1,12 +1,27 @@
--- Laws of `put-at` and `Put`: what was written keeps the length, and can be written on where it ends. Assumes nothing.
-use Prim.Native.Nat.{ℕ, _+_, _-_, _≤_}
+-- Laws of `array-head`, by the tests that the code makes, and of `put-at` and `Put`: what was written keeps the length, and can be written on
+-- where it ends. Assumes nothing.
+use Prim.Native.Nat.{ℕ, _+_, _-_, _/_, _%_, _≤_, _<_}
 use mathlib.Core.Path.{_≡_, refl, sym, ap, _∙_}
-use mathlib.Core.List.{List, _++_, append-assoc}
+use mathlib.Core.List.{List, [], _∷_, _++_, append-assoc}
 use lib.ListN.{length, take, drop, length-append, length-drop, take-append-drop}
 use lib.Seq.{length-take-le, take-length, take-at, drop-at, drop-drop, drop-append-le, sets, sets-eq}
 use borrow.Rule.Slice.PartMut.{midOf, postOf, putMid, mid-len}
 use native.Mathlib.Omega.{arith}
+use borrow.Author.Tests.{lt-ltb, le-ltb}
+use Rattle.spec.specs.Expr.{array-head}
 use Rattle.writer.specs.Bytes.{put-at, Put}
+
+pub head-one : {n : ℕ} → n < 64 → array-head n ≡ (0xC0 + n) ∷ []
+unfolding array-head
+head-one {n} h = rw (lt-ltb n 64 h)
+
+pub head-three : {n : ℕ} → 64 ≤ n → n < 256 → array-head n ≡ 0x03 ∷ 0xC1 ∷ n ∷ []
+unfolding array-head
+head-three {n} h l = rw (le-ltb n 64 h, lt-ltb n 256 l)
+
+pub head-four : {n : ℕ} → 256 ≤ n → array-head n ≡ 0x03 ∷ 0xC2 ∷ (n / 256) ∷ (n % 256) ∷ []
+unfolding array-head
+head-four {n} h = rw (le-ltb n 64 (omega arith), le-ltb n 256 h)
 
 module _ (out : List ℕ) (to : ℕ) (bs : List ℕ) (room : to + length bs ≤ length out) where
   -- what stands up to the end of the bytes

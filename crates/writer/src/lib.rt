@@ -1,12 +1,29 @@
 // The canonical stream: of each token of a stream in turn, its canonical bytes. Document 01: "Canonical".
+use atoms::Kind;
 use atoms::Token;
-ghost use Prim.Native.Nat.{_+_, _≤_, _<_};
+ghost use Prim.Native.Nat.{_+_, _*_, _≤_, _<_};
 ghost use mathlib.Core.Path.{_≡_};
 ghost use lib.ListN.{length};
 ghost use Rattle.spec.specs.Expr.{array-head, canonical};
 ghost use Rattle.spec.specs.Calls.{over};
 ghost use Rattle.laws.specs.Demands.{meaning-of, CanRead};
+ghost use Rattle.atoms.specs.Tokens.{atom-head};
 ghost use Rattle.writer.specs.Bytes.{Put, with-head};
+
+// How many bytes an atom of that kind, with a body of n bytes, is written with.
+pub fn atom_size(kind: u32, n: usize) -> usize
+    requires { ⌜ n ≤ 2 * 65536 ⌝ }
+    ensures { λ r. ⌜ r ≡ length (atom-head kind n) + n ⌝ }
+{
+    if kind != Kind::ARRAY {
+        return n;
+    }
+    match n {
+        0..=63 => 1 + n,
+        64..=255 => 3 + n,
+        _ => 4 + n,
+    }
+}
 
 // Writes bytes; gives the place behind them.
 fn put_bytes(part: &[u8], out: &mut [u8], to: usize) -> usize
@@ -40,7 +57,7 @@ pub fn put_atom(kind: u32, body: &[u8], out: &mut [u8], to: usize) -> usize
     requires { ⌜ to + length (with-head kind (now body)) ≤ length (now out) ⌝ }
     ensures { λ r. ⌜ Put (now (out .entry)) to (with-head kind (now (body .entry))) (now (out .exit)) r ⌝ }
 {
-    if kind == 2 {
+    if kind == Kind::ARRAY {
         let past = put_head(body.len(), out, to);
         return put_bytes(body, out, past);
     }
@@ -71,10 +88,7 @@ pub fn emit(s: &[u8], out: &mut [u8])
                 to = put_atom(kind, &s[body..end], out, to);
                 at = end;
             }
-            Token::Bad {
-                number: _,
-                place: _,
-            } => {
+            Token::Bad(_, _) => {
                 return;
             }
         }

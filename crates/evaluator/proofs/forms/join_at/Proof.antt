@@ -1,25 +1,12 @@
 -- `evaluator::forms::join_at` meets its contract: refused if there is no room, else put together above the top and moved down.
 -- Assumes nothing.
 use borrow.Author.Needs.{needs}
-use Prim.Native.Nat.{ℕ, _+_}
-use mathlib.Core.Path.{_≡_, refl}
+use mathlib.Core.Path.{refl}
 use native.Mathlib.Omega.{arith}
-use lib.ListN.{length}
-use Rattle.spec.specs.Expr.{array-head}
 use Rattle.laws.proofs.Atoms.{head-bounds}
 use Rattle.evaluator.proofs.Made.{join-length, join-unkept, join-kept}
 use Rattle.evaluator.proofs.forms.join_at.Statement.{statement}
 use Rattle.evaluator.proofs.forms.join_at.Tie as tie
-
-add-n : tie.Need-add-n
-add-n c =
-    let a = c .before .before .args in
-    omega (arith, c .head-size .ensures, head-bounds (join-length (a .a) (a .b) (a .c) (a .d)))
-
--- how many bytes the array has
-sized : (c : tie.After-head-size) → let a = c .before .before .args in let k : ℕ = join-length (a .a) (a .b) (a .c) (a .d) in
-    c .head-size .result + k ≡ length (array-head k) + k
-sized c = omega (arith, c .head-size .ensures)
 
 returns : tie.Need-returns
 returns c =
@@ -27,13 +14,13 @@ returns c =
     let a = h .before .before .args in
     let p = h .before .before .pre in
     rw (c .refused .ensures)
-    (refl, join-unkept (a .w .now) (a .state) (a .a) (a .b) (a .c) (a .d) (p .0 .0) (p .1 .1) (p .1 .3) _ (sized h) (c .before .if1 .taken))
+    (refl, join-unkept (a .w .now) (a .state) (a .a) (a .b) (a .c) (a .d) (p .0 .0) (p .1 .1) (p .1 .3) _ (h .atom-size .ensures) (c .before .if1 .taken))
 
 put-head-requires : tie.Need-put-head-requires
 put-head-requires c κs =
     let h = c .before .before .before in
     let a = h .before .before .args in
-    omega (arith, h .head-size .ensures, head-bounds (join-length (a .a) (a .b) (a .c) (a .d)))
+    omega (arith, h .atom-size .ensures, head-bounds (join-length (a .a) (a .b) (a .c) (a .d)))
 
 returns-2 : tie.Need-returns-2
 returns-2 c =
@@ -45,7 +32,7 @@ returns-2 c =
     let a = h .before .before .args in
     let p = h .before .before .pre in
     rw (c .charged .ensures)
-    (join-kept (a .w .now) (a .state) (a .a) (a .b) (a .c) (a .d) (p .0 .0) (p .1 .1) (p .1 .3) _ (sized h) (p .0 .1) (m₀ .before .before .if1 .left)
+    (join-kept (a .w .now) (a .state) (a .a) (a .b) (a .c) (a .d) (p .0 .0) (p .1 .1) (p .1 .3) _ (h .atom-size .ensures) (p .0 .1) (m₀ .before .before .if1 .left)
     (m₀ .put-head .ensures) (m₁ .move-bytes .ensures) (m₂ .move-bytes2 .ensures) (m₃ .move-bytes3 .ensures))
 
 pub join-at-spec : {M : Type 1} → statement M
@@ -56,7 +43,6 @@ join-at-spec =
     (λ c. search needs)
     (λ c. search needs)
     (λ c κs. search needs)
-    add-n
     (λ c κs. search needs)
     returns
     put-head-requires
