@@ -108,7 +108,10 @@ fn perform(
     match task {
         Task::Refuse { number } => Step::Leaves(Left::Stopped { number, row }),
         Task::Own => Step::Leaves(leaves(values::own(s, table, w, state, row))),
-        Task::Again { from, to } => Step::Leaves(leaves(values::again(w, state, from, to, row))),
+        Task::Again { from, to } => {
+            let top = state.top;
+            Step::Leaves(leaves(values::copied(w, state, from, to, top, row)))
+        }
         Task::Ns { name } => Step::Leaves(leaves(associate(s, table, w, names, state, name, row))),
         Task::Function { key, code } => Step::Leaves(Left::Defined {
             state,
@@ -261,7 +264,8 @@ pub fn returned(
         Out::Refused { number, row: at } => values::refused(number, at),
         Out::Done(state) => {
             if is_single(s, table, code) {
-                return values::lowered(w, state, start, from, row);
+                let top = state.top;
+                return values::copied(w, state, from, top, start, row);
             }
             forms::wrapped(w, state, start, from, row)
         }

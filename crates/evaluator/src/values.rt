@@ -113,33 +113,17 @@ pub fn own_ns(s: &[u8], table: &[u32], w: &mut [u8], state: State, row: usize) -
     charged(state, n, top + n)
 }
 
-// Values that stand in the workspace already, once more.
-pub fn again(w: &mut [u8], state: State, from: usize, to: usize, row: usize) -> Out
+// The values from `from` up to `to`, in the place of all from `start` on.
+pub fn copied(w: &mut [u8], state: State, from: usize, to: usize, start: usize, row: usize) -> Out
     requires { ⌜ Fitting (now w) state ⌝ }
-    requires { ⌜ (from ≤ to) × (to ≤ length (now w)) ⌝ }
-    ensures { λ r. ⌜ ((vs : Exprs) → Stand (now (w .entry)) from to vs → deepest vs ≤ 64 → Completed (now (w .entry)) (now (w .exit)) state (state .top) row vs r) ⌝ }
+    requires { ⌜ (from ≤ to) × (to ≤ length (now w)) × (start ≤ state .top) ⌝ }
+    ensures { λ r. ⌜ ((vs : Exprs) → Stand (now (w .entry)) from to vs → deepest vs ≤ 64 → Completed (now (w .entry)) (now (w .exit)) state start row vs r) ⌝ }
 {
     let n = to - from;
-    let top = state.top;
     if state.room < n {
         return refused(17, row);
     }
-    moves::move_bytes(w, from, to, top);
-    charged(state, n, top + n)
-}
-
-// The values from `from` up to the top, in the place of all from `start` on.
-pub fn lowered(w: &mut [u8], state: State, start: usize, from: usize, row: usize) -> Out
-    requires { ⌜ Fitting (now w) state ⌝ }
-    requires { ⌜ (start ≤ from) × (from ≤ state .top) ⌝ }
-    ensures { λ r. ⌜ ((vs : Exprs) → Stand (now (w .entry)) from (state .top) vs → deepest vs ≤ 64 → Completed (now (w .entry)) (now (w .exit)) state start row vs r) ⌝ }
-{
-    let top = state.top;
-    let n = top - from;
-    if state.room < n {
-        return refused(17, row);
-    }
-    moves::move_bytes(w, from, top, start);
+    moves::move_bytes(w, from, to, start);
     charged(state, n, start + n)
 }
 
