@@ -1,6 +1,6 @@
 -- `evaluator::element::returned` meets its contract: a refusal stays; the values of a code are the call's, or the form of them. Assumes nothing.
 use borrow.Author.Needs.{needs}
-use mathlib.Core.Path.{sym, _∙_}
+use mathlib.Core.Path.{refl, sym, _∙_}
 use native.Mathlib.Omega.{arith}
 use Rattle.evaluator.specs.Listed.{CanReturn}
 use Rattle.evaluator.specs.declared.values.Out.the-variants.{Done}
@@ -31,7 +31,7 @@ wrapped-requires c κs =
     ((r .1 .fitting, r .1 .order), (r .0, r .1 .stand, r .1 .sound .0))
 
 returns-2 : tie.Need-returns-2
-returns-2 c = rw (c .before .before .out .given .1) (c .refused .ensures)
+returns-2 c = rw (c .before .out .given .1) refl
 
 returns-3 : tie.Need-returns-3
 returns-3 c =
@@ -46,7 +46,6 @@ returned-spec =
     tie.close
     (tie.spec
     (λ c. search needs)
-    (λ c κs. search needs)
     (λ c. search needs)
     (λ c κs. search needs)
     copied-requires

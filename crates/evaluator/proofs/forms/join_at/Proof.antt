@@ -23,11 +23,10 @@ sized c = omega (arith, c .head-size .ensures)
 
 returns : tie.Need-returns
 returns c =
-    let h = c .before .before .before in
+    let h = c .before .before in
     let a = h .before .before .args in
     let p = h .before .before .pre in
-    rw (c .refused .ensures)
-    (refl, join-unkept (a .w .now) (a .state) (a .a) (a .b) (a .c) (a .d) (p .0 .0) (p .1 .1) (p .1 .3) _ (sized h) (c .before .if1 .taken))
+    (refl, join-unkept (a .w .now) (a .state) (a .a) (a .b) (a .c) (a .d) (p .0 .0) (p .1 .1) (p .1 .3) _ (sized h) (c .if1 .taken))
 
 put-head-requires : tie.Need-put-head-requires
 put-head-requires c κs =
@@ -57,7 +56,6 @@ join-at-spec =
     (λ c. search needs)
     (λ c κs. search needs)
     add-n
-    (λ c κs. search needs)
     returns
     put-head-requires
     (λ c κs. search needs)

@@ -7,7 +7,7 @@ use Rattle.evaluator.proofs.values.copied.Statement.{statement}
 use Rattle.evaluator.proofs.values.copied.Tie as tie
 
 returns : tie.Need-returns
-returns c vs there shallow = rw (c .refused .ensures) (refl, incomplete-moved shallow there (c .before .if1 .taken))
+returns c vs there shallow = (refl, incomplete-moved shallow there (c .if1 .taken))
 
 returns-2 : tie.Need-returns-2
 returns-2 c vs there shallow =
@@ -20,7 +20,6 @@ copied-spec =
     tie.close
     (tie.spec
     (λ c. search needs)
-    (λ c κs. search needs)
     returns
     (λ c κs. search needs)
     (λ c. search needs)
