@@ -2,10 +2,10 @@
 -- makes; and where the arguments of code stand. Document 01: the rules of "Evaluation", refusals 11 to 15 and 19. Assumes nothing.
 use Prim.Native.Nat.{ℕ, zero, suc, _+_, _-_, _/_, _≤_, _<_}
 use mathlib.Core.Path.{_≡_, refl, sym, ap, _∙_, subst}
-use mathlib.Core.List.{List, _++_, append-nil}
+use mathlib.Core.List.{List, append-nil}
 use mathlib.Core.Bool.{Bool, true, false, _||_}
-use lib.ListN.{length, take, drop, getD}
-use lib.Seq.{slice, slice-empty, take-add, drop-append-le, drop-at, length-take-le}
+use lib.ListN.{length, getD}
+use lib.Seq.{slice-empty}
 use lib.Dec.{ltb, leb, eqb}
 use borrow.Author.Tests.{lt-ltb, le-ltb, le-leb, lt-leb, eq-eqb, ne-eqb}
 use native.Mathlib.Omega.{arith}
@@ -31,6 +31,7 @@ use Rattle.evaluator.proofs.Entries.{from-packed, to-packed}
 use Rattle.evaluator.proofs.Nodes.{kind-array, kind-int, leaf-kind, leaf-array, leaf-fits, nodes-first, node-row, leaf-at, form-row, form-nodes, leaf-skipped, kind-leaf}
 use Rattle.evaluator.proofs.Keys.{key-marker, Function as Named-by, word-key, head-fits, headed-by-key}
 use Rattle.evaluator.proofs.Parts.{ReferenceAt}
+use Rattle.evaluator.proofs.Places.{slice-split}
 
 -- a refusal, by its number
 pub refused : {s t w : List ℕ} {floor : ℕ} {sc : List Entry} {row : ℕ} {es : Nodes} {r : Task} {p : Plan} (n : ℕ) → r ≡ Refuse n → p ≡ refuse n
@@ -448,14 +449,6 @@ written-small n f p h e = e ∙ rw (lt-ltb n 64 h)
 pub written-none : (n : ℕ) (f : ℕ → Plan) (p : Plan) → 64 ≤ n → p ≡ (if ltb n 64 then f n else refuse 11) → p ≡ refuse 11
 written-none n f p h e = e ∙ rw (le-ltb n 64 h)
 
-slice-join : (l : List ℕ) (from mid to : ℕ) → from ≤ mid → mid ≤ to → mid ≤ length l → slice from to l ≡ slice from mid l ++ slice mid to l
-slice-join l from mid to h g i =
-    let later : List ℕ = take (to - mid) (drop mid l) in
-    let whole : take to l ≡ take mid l ++ later = let sum : to ≡ mid + (to - mid) = omega arith in ap (λ (k : ℕ). take k l) sum ∙ take-add mid (to - mid) l in
-    let size = length-take-le mid l i in
-    let back : later ≡ slice mid to l = sym (ap (drop mid) whole ∙ drop-at (take mid l) later mid size) in
-    ap (drop from) whole ∙ drop-append-le from (take mid l) later (omega arith) ∙ ap (λ (x : List ℕ). slice from mid l ++ x) back
-
 arguments-stand : (w args : List ℕ) (i from to : ℕ) (vs : Exprs) → to ≤ length w → ArgumentsAt w args i from to vs → Stand w from to vs
 unfolding ArgumentsAt canonical
 arguments-stand w args i from to none h a = record { order = omega arith; inside = h; bytes = rw a (slice-empty to w) }
@@ -466,7 +459,7 @@ arguments-stand w args i from to (more v vs) h a =
     record {
       order = omega arith;
       inside = h;
-      bytes = slice-join w from (a .0) to (omega arith) (omega arith) (omega arith) ∙ rw (a .3, rest .bytes);
+      bytes = slice-split from (a .0) to w (omega arith) (omega arith) h ∙ rw (a .3, rest .bytes);
     }
 
 -- argument i, and with it those behind it, which end at a place

@@ -33,7 +33,7 @@ ghost use Rattle.evaluator.specs.declared.values.Out.the-variants.{Done}
 pub enum Left {
     Values(State),
     Defined { state: State, key: u32, place: u32 },
-    Stopped { number: u32, row: usize },
+    Stopped(u32, usize),
 }
 
 // After an expression's step: it is done; or a range of rows is to be evaluated first, and then finished, or then code entered.
@@ -58,7 +58,7 @@ pub fn leaves(out: Out) -> Left
 {
     match out {
         Out::Done(state) => Left::Values(state),
-        Out::Refused { number, row } => Left::Stopped { number, row },
+        Out::Refused(number, row) => Left::Stopped(number, row),
     }
 }
 
@@ -106,9 +106,12 @@ fn perform(
         → Begun (now (s .entry)) (now (table .entry)) (now (w .entry)) (now (w .exit)) (now (names .entry)) (now (names .exit)) sc st row e h (hold (st .steps) (st .room) (eval run e h)) r) ⌝ }
 {
     match task {
-        Task::Refuse { number } => Step::Leaves(Left::Stopped { number, row }),
+        Task::Refuse { number } => Step::Leaves(Left::Stopped(number, row)),
         Task::Own => Step::Leaves(leaves(values::own(s, table, w, state, row))),
-        Task::Again { from, to } => Step::Leaves(leaves(values::again(w, state, from, to, row))),
+        Task::Again { from, to } => {
+            let top = state.top;
+            Step::Leaves(leaves(values::copied(w, state, from, to, top, row)))
+        }
         Task::Ns { name } => Step::Leaves(leaves(associate(s, table, w, names, state, name, row))),
         Task::Function { key, code } => Step::Leaves(Left::Defined {
             state,
@@ -169,7 +172,7 @@ pub fn begin(
 {
     let steps = state.steps;
     if steps == 0 {
-        return Step::Leaves(Left::Stopped { number: 16, row });
+        return Step::Leaves(Left::Stopped(16, row));
     }
     let stepped = State {
         steps: steps - 1,
@@ -200,7 +203,7 @@ pub fn finish(w: &mut [u8], out: Out, after: After, start: usize, row: usize) ->
     ensures { λ r. ⌜ Finished (now (w .entry)) (now (w .exit)) start row after r out ⌝ }
 {
     match out {
-        Out::Refused { number, row: at } => Left::Stopped { number, row: at },
+        Out::Refused(number, at) => Left::Stopped(number, at),
         Out::Done(state) => finish_values(w, state, after, start, row),
     }
 }
@@ -258,10 +261,11 @@ pub fn returned(
     ensures { λ r. ⌜ Returned (now (s .entry)) (now (table .entry)) (now (w .entry)) (now (w .exit)) code start from row r out ⌝ }
 {
     match out {
-        Out::Refused { number, row: at } => values::refused(number, at),
+        Out::Refused(number, at) => Out::Refused(number, at),
         Out::Done(state) => {
             if is_single(s, table, code) {
-                return values::lowered(w, state, start, from, row);
+                let top = state.top;
+                return values::copied(w, state, from, top, start, row);
             }
             forms::wrapped(w, state, start, from, row)
         }

@@ -63,11 +63,11 @@ pub fn wrapped(w: &mut [u8], state: State, start: usize, from: usize, row: usize
 {
     let top = state.top;
     if !shallow(&w[from..top]) {
-        return values::refused(6, row);
+        return Out::Refused(6, row);
     }
     let n = top - from + 2;
     if state.room < n {
-        return values::refused(17, row);
+        return Out::Refused(17, row);
     }
     moves::move_bytes(w, from, top, start + 1);
     w[start] = 0x01;
@@ -123,7 +123,7 @@ fn join_at(
     let top = state.top;
     let n = writer::atom_size(Kind::ARRAY, k);
     if state.room < n {
-        return values::refused(17, row);
+        return Out::Refused(17, row);
     }
     let at = writer::put_head(k, w, top);
     moves::move_bytes(w, a, b, at);
@@ -139,9 +139,9 @@ pub fn joined(w: &mut [u8], state: State, start: usize, row: usize) -> Out
     ensures { λ r. ⌜ ((a b : Expr) → Stand (now (w .entry)) start (state .top) (more a (only b)) → FitsAll (more a (only b)) → Joined (now (w .entry)) (now (w .exit)) state start row a b r) ⌝ }
 {
     match array_at(w, start) {
-        Bytes::Other => values::refused(11, row),
+        Bytes::Other => Out::Refused(11, row),
         Bytes::Array { from: a, to: b } => match array_at(w, b) {
-            Bytes::Other => values::refused(11, row),
+            Bytes::Other => Out::Refused(11, row),
             Bytes::Array { from: c, to: d } => join_at(w, state, start, row, a, b, c, d),
         },
     }

@@ -154,8 +154,8 @@ pub fn list(
             }
         };
         match left {
-            Left::Stopped { number, row: at } => {
-                return values::refused(number, at);
+            Left::Stopped(number, at) => {
+                return Out::Refused(number, at);
             }
             Left::Values(done) => {
                 state = done;
@@ -195,10 +195,10 @@ fn call(
     ensures { λ r. ⌜ Called (now (s .entry)) (now (table .entry)) (now (w .entry)) (now (w .exit)) (now (names .entry)) (now (names .exit)) (entries (now (keys .entry)) (now (places .entry)) scope) visible depth code start row r out ⌝ }
 {
     match out {
-        Out::Refused { number, row: at } => Left::Stopped { number, row: at },
+        Out::Refused(number, at) => Left::Stopped(number, at),
         Out::Done(state) => {
             if 32 <= depth {
-                return Left::Stopped { number: 19, row };
+                return Left::Stopped(19, row);
             }
             let mut args = [0u32; 64];
             // The code's definitions are written over those past the first `visible`.

@@ -11,7 +11,7 @@ ghost use lib.ListN.{length};
 ghost use Rattle.spec.specs.Expr.{array, ref, if-array, Atom, atom, Exprs, only, deepest};
 ghost use Rattle.spec.specs.Evaluation.{ns-form};
 ghost use Rattle.evaluator.specs.Stands.{cell, LeafAt};
-ghost use Rattle.evaluator.specs.declared.values.Out.the-variants.{Done, Refused};
+ghost use Rattle.evaluator.specs.declared.values.Out.the-variants.{Done};
 ghost use Rattle.evaluator.specs.Completed.{Fitting, Stand, with-top, Completed, Defined};
 
 // Steps and workspace that are left, where the finished values end, where the definitions' begin, and how many namespaces there are.
@@ -26,7 +26,7 @@ pub struct State {
 // The state that is left, or a refusal's number and row.
 pub enum Out {
     Done(State),
-    Refused { number: u32, row: usize },
+    Refused(u32, usize),
 }
 
 // The finished values end at `top`, and n bytes are charged.
@@ -41,12 +41,6 @@ pub fn charged(state: State, n: usize, top: usize) -> Out
         floor: state.floor,
         names: state.names,
     })
-}
-
-pub fn refused(number: u32, row: usize) -> Out
-    ensures { λ r. ⌜ r ≡ Refused number row ⌝ }
-{
-    Out::Refused { number, row }
 }
 
 // Where an atom's body begins: an array's bytes, or all bytes of another atom.
@@ -72,7 +66,7 @@ pub fn own(s: &[u8], table: &[u32], w: &mut [u8], state: State, row: usize) -> O
     let n = writer::atom_size(kind, to - from);
     let top = state.top;
     if state.room < n {
-        return refused(17, row);
+        return Out::Refused(17, row);
     }
     writer::put_atom(kind, &s[from..to], w, top);
     charged(state, n, top + n)
@@ -91,7 +85,7 @@ pub fn own_ns(s: &[u8], table: &[u32], w: &mut [u8], state: State, row: usize) -
     let n = 4 + (past - reference) + writer::atom_size(Kind::ARRAY, to - id);
     let top = state.top;
     if state.room < n {
-        return refused(17, row);
+        return Out::Refused(17, row);
     }
     w[top] = 0x01;
     w[top + 1] = 0x20;
@@ -102,33 +96,17 @@ pub fn own_ns(s: &[u8], table: &[u32], w: &mut [u8], state: State, row: usize) -
     charged(state, n, top + n)
 }
 
-// Values that stand in the workspace already, once more.
-pub fn again(w: &mut [u8], state: State, from: usize, to: usize, row: usize) -> Out
+// The values from `from` up to `to`, in the place of all from `start` on.
+pub fn copied(w: &mut [u8], state: State, from: usize, to: usize, start: usize, row: usize) -> Out
     requires { ⌜ Fitting (now w) state ⌝ }
-    requires { ⌜ (from ≤ to) × (to ≤ length (now w)) ⌝ }
-    ensures { λ r. ⌜ ((vs : Exprs) → Stand (now (w .entry)) from to vs → deepest vs ≤ 64 → Completed (now (w .entry)) (now (w .exit)) state (state .top) row vs r) ⌝ }
+    requires { ⌜ (from ≤ to) × (to ≤ length (now w)) × (start ≤ state .top) ⌝ }
+    ensures { λ r. ⌜ ((vs : Exprs) → Stand (now (w .entry)) from to vs → deepest vs ≤ 64 → Completed (now (w .entry)) (now (w .exit)) state start row vs r) ⌝ }
 {
     let n = to - from;
-    let top = state.top;
     if state.room < n {
-        return refused(17, row);
+        return Out::Refused(17, row);
     }
-    moves::move_bytes(w, from, to, top);
-    charged(state, n, top + n)
-}
-
-// The values from `from` up to the top, in the place of all from `start` on.
-pub fn lowered(w: &mut [u8], state: State, start: usize, from: usize, row: usize) -> Out
-    requires { ⌜ Fitting (now w) state ⌝ }
-    requires { ⌜ (start ≤ from) × (from ≤ state .top) ⌝ }
-    ensures { λ r. ⌜ ((vs : Exprs) → Stand (now (w .entry)) from (state .top) vs → deepest vs ≤ 64 → Completed (now (w .entry)) (now (w .exit)) state start row vs r) ⌝ }
-{
-    let top = state.top;
-    let n = top - from;
-    if state.room < n {
-        return refused(17, row);
-    }
-    moves::move_bytes(w, from, top, start);
+    moves::move_bytes(w, from, to, start);
     charged(state, n, start + n)
 }
 

@@ -14,11 +14,11 @@ own-requires c κs =
     let o = own-leaf (rw (c .before .enum-told .given .1) at (k .5)) in
     (rw (k .4) (fits-stepped (k .5)), (o .0, o .1))
 
-again-requires : tie.Need-again-requires
-again-requires c κs =
+copied-requires : tie.Need-copied-requires
+copied-requires c κs =
     let k = c .before .before .before .before .before .before .before .pre in
     let o = again-stands (rw (c .before .before .task2 .given .1) at (k .5)) in
-    (rw (k .4) (fits-stepped (k .5)), (o .1 .order, o .1 .inside))
+    (rw (k .4) (fits-stepped (k .5)), (o .1 .order, o .1 .inside, omega arith))
 
 associate-requires : tie.Need-associate-requires
 associate-requires c κs =
@@ -32,11 +32,11 @@ associate-requires c κs =
 small : (c : tie.After-known-told4) → let told = c .before .task4 .given .0 in (told .0 < function-bit) × (told .1 .0 < 65536)
 small c = function-small (rw (c .before .task4 .given .1) at (c .before .before .before .before .before .before .pre .5))
 
-add-t31 : tie.Need-add-t31
-add-t31 c = omega (arith, small c .0)
+add-t32 : tie.Need-add-t32
+add-t32 c = omega (arith, small c .0)
 
-cast-t32 : tie.Need-cast-t32
-cast-t32 c = omega (arith, small c .1)
+cast-t33 : tie.Need-cast-t33
+cast-t33 c = omega (arith, small c .1)
 
 returns : tie.Need-returns
 returns c sc st run e h is p = refuse-begun run (rw (c .before .task .given .1) at p)
@@ -50,9 +50,9 @@ returns-2 c sc st run e h is p =
 returns-3 : tie.Need-returns-3
 returns-3 c sc st run e h is p =
     let o = again-stands (rw (c .before .before .before .before .before .before .task2 .given .1) at p) in
-    let again = c .before .before .before .again in
+    let copied = c .before .before .before .copied in
     let shallow = p .shallow (o .0) (o .2) in
-    rw (c .leaves2 .ensures) (leave-begun run (o .0) (again .last .0) (again .result) p (o .2) (rw is at (again .ensures (o .0) (o .1) shallow)))
+    rw (c .leaves2 .ensures) (leave-begun run (o .0) (copied .last .0) (copied .result) p (o .2) (rw is at (copied .ensures (o .0) (o .1) shallow)))
 
 returns-4 : tie.Need-returns-4
 returns-4 c sc st run e h is p =
@@ -79,14 +79,14 @@ perform-spec =
     own-requires
     (λ c κs. search needs)
     (λ c. search needs)
-    again-requires
+    copied-requires
     (λ c κs. search needs)
     (λ c. search needs)
     associate-requires
     (λ c κs. search needs)
     (λ c. search needs)
-    add-t31
-    cast-t32
+    add-t32
+    cast-t33
     (λ c. search needs)
     (λ c κs. search needs)
     returns

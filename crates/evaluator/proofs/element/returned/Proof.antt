@@ -1,6 +1,7 @@
 -- `evaluator::element::returned` meets its contract: a refusal stays; the values of a code are the call's, or the form of them. Assumes nothing.
 use borrow.Author.Needs.{needs}
-use mathlib.Core.Path.{sym, _∙_}
+use mathlib.Core.Path.{refl, sym, _∙_}
+use native.Mathlib.Omega.{arith}
 use Rattle.evaluator.specs.Listed.{CanReturn}
 use Rattle.evaluator.specs.declared.values.Out.the-variants.{Done}
 use Rattle.evaluator.proofs.element.returned.Statement.{statement}
@@ -11,10 +12,10 @@ ran : (c : tie.After-known-told2) → let a = c .before .before .before .before 
     CanReturn (a .w .now) (a .start) (a .from) (Done (c .before .out2 .given .0 .0))
 ran c = rw (c .before .out2 .given .1) at (c .before .before .before .before .before .before .pre .1)
 
-lowered-requires : tie.Need-lowered-requires
-lowered-requires c κs =
+copied-requires : tie.Need-copied-requires
+copied-requires c κs =
     let r = ran (c .before .before .before) .1 in
-    (r .fitting, (r .order, r .stand .order))
+    (r .fitting, (r .stand .order, r .stand .inside, omega (arith, r .order, r .stand .order)))
 
 returns : tie.Need-returns
 returns c =
@@ -22,7 +23,7 @@ returns c =
     let test = k .before .before in
     let single = test .before in
     rw (single .before .before .out2 .given .1) (λ vs body r at.
-    rw (sym (single .is-single .ensures body at) ∙ test .if1 .taken) (k .lowered .ensures vs (r .stand) (r .sound .1)))
+    rw (sym (single .is-single .ensures body at) ∙ test .if1 .taken) (k .copied .ensures vs (r .stand) (r .sound .1)))
 
 wrapped-requires : tie.Need-wrapped-requires
 wrapped-requires c κs =
@@ -30,7 +31,7 @@ wrapped-requires c κs =
     ((r .1 .fitting, r .1 .order), (r .0, r .1 .stand, r .1 .sound .0))
 
 returns-2 : tie.Need-returns-2
-returns-2 c = rw (c .before .before .out .given .1) (c .refused .ensures)
+returns-2 c = rw (c .before .out .given .1) refl
 
 returns-3 : tie.Need-returns-3
 returns-3 c =
@@ -45,10 +46,9 @@ returned-spec =
     tie.close
     (tie.spec
     (λ c. search needs)
-    (λ c κs. search needs)
     (λ c. search needs)
     (λ c κs. search needs)
-    lowered-requires
+    copied-requires
     (λ c. search needs)
     returns
     wrapped-requires

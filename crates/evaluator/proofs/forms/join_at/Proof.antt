@@ -10,11 +10,10 @@ use Rattle.evaluator.proofs.forms.join_at.Tie as tie
 
 returns : tie.Need-returns
 returns c =
-    let h = c .before .before .before in
+    let h = c .before .before in
     let a = h .before .before .args in
     let p = h .before .before .pre in
-    rw (c .refused .ensures)
-    (refl, join-unkept (a .w .now) (a .state) (a .a) (a .b) (a .c) (a .d) (p .0 .0) (p .1 .1) (p .1 .3) _ (h .atom-size .ensures) (c .before .if1 .taken))
+    (refl, join-unkept (a .w .now) (a .state) (a .a) (a .b) (a .c) (a .d) (p .0 .0) (p .1 .1) (p .1 .3) _ (h .atom-size .ensures) (c .if1 .taken))
 
 put-head-requires : tie.Need-put-head-requires
 put-head-requires c κs =

@@ -31,14 +31,14 @@ join-at-requires c κs =
 
 returns : tie.Need-returns
 returns c a b there fits =
-    let told = sym (c .before .enum-told .given .1) ∙ c .before .before .before .array-at .ensures in
-    rw (c .refused .ensures) (no-arrays (λ bs cs is is′. first-other there fits told bs is))
+    let told = sym (c .enum-told .given .1) ∙ c .before .before .array-at .ensures in
+    (no-arrays (λ bs cs is is′. first-other there fits told bs is))
 
 returns-2 : tie.Need-returns-2
 returns-2 c a b there fits =
-    let f = c .before .before .before .before .before .before in
-    let told = sym (c .before .enum-told2 .given .1) ∙ c .before .before .before .array-at2 .ensures in
-    rw (c .refused2 .ensures) (no-arrays (λ bs cs is is′. second-other there fits (told-first f) told cs is′))
+    let f = c .before .before .before .before .before in
+    let told = sym (c .enum-told2 .given .1) ∙ c .before .before .array-at2 .ensures in
+    (no-arrays (λ bs cs is is′. second-other there fits (told-first f) told cs is′))
 
 returns-3 : tie.Need-returns-3
 returns-3 c a b there fits =
@@ -55,11 +55,9 @@ joined-spec =
     (tie.spec
     (λ c κs. search needs)
     (λ c. search needs)
-    (λ c κs. search needs)
     (λ c. search needs)
     (λ c κs. search needs)
     (λ c. search needs)
-    (λ c κs. search needs)
     (λ c. search needs)
     join-at-requires
     (λ c. search needs)

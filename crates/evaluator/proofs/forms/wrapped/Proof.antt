@@ -37,15 +37,12 @@ told-depth c vs there fits =
 
 returns : tie.Need-returns
 returns c vs there fits =
-    let k = c .before .before in
-    let told = told-depth k vs there fits in
-    rw (c .refused .ensures) (refl, form-deep _ there (sym told ∙ not-true _ (c .before .if1 .taken)))
+    (refl, form-deep _ there (sym (told-depth (c .before) vs there fits) ∙ not-true _ (c .if1 .taken)))
 
 returns-2 : tie.Need-returns-2
 returns-2 c vs there fits =
-    let k = c .before .before .before in
-    let told = told-depth (k .before) vs there fits in
-    rw (c .refused2 .ensures) (refl, form-unkept _ there (sym told ∙ not-false _ (k .if1 .left)) (c .before .if2 .taken))
+    let k = c .before .before in
+    (refl, form-unkept _ there (sym (told-depth (k .before) vs there fits) ∙ not-false _ (k .if1 .left)) (c .if2 .taken))
 
 slice-write-w-2 : tie.Need-slice-write-w-2
 slice-write-w-2 c =
@@ -69,12 +66,10 @@ wrapped-spec =
     (λ c. search needs)
     (λ c. search needs)
     shallow-requires
-    (λ c κs. search needs)
     (λ c. search needs)
     returns
     (λ c. search needs)
     (λ c. search needs)
-    (λ c κs. search needs)
     (λ c. search needs)
     returns-2
     (λ c. search needs)

@@ -49,7 +49,6 @@ use Rattle.evaluator.proofs.run.over.Reads as over-reads
 use Rattle.evaluator.proofs.run.stands_in.Reads as stands-in-reads
 use Rattle.evaluator.proofs.scope.Scope.add.Reads as add-reads
 use Rattle.evaluator.proofs.scope.Scope.back_to.Reads as back-to-reads
-use Rattle.evaluator.proofs.values.refused.Reads as refused-reads
 use Rattle.evaluator.proofs.run.+call+list.{statement}
 use Rattle.evaluator.proofs.run.+call+list.Tie.{close}
 
@@ -98,8 +97,6 @@ module _ (t : ℕ) where
     finish-reads.Learnt,
     call-below t,
     call.Post,
-    refused-reads.Asked,
-    refused-reads.Learnt,
     add-reads.Asked,
     add-reads.Learnt,
     over-reads.Asked,
@@ -341,17 +338,15 @@ module _ (t : ℕ) where
       left-as left e = subst (λ (x : Answer). Leaving (turn (c .before)) y (c .match .w) (c .match .names) x) e left-by-one
 
   list-same-length : list-lts.Need-same-length list-calls (list-at t) list.Post list-Inv-loop list-μ-loop
-  list-same-length c = same-length-left (c .before .before .before .before) ∙ turn (c .before .before .before .before .before) .before .loop .inv .3
+  list-same-length c = same-length-left (c .before .before .before) ∙ turn (c .before .before .before .before) .before .loop .inv .3
 
   list-returns : list-lts.Need-returns list-calls (list-at t) list.Post list-Inv-loop list-μ-loop
   list-returns c =
-      let j = c .before .before .before .before in
+      let j = c .before .before .before in
       let k = j .before in (
         λ bound codes es p h r.
             let y : Listed (turn k) = record { bound = bound; codes = codes; nodes = es; place = p; here = h; ready = r } in
-            subst (λ (x : Out). Met (stream (turn k)) (table (turn k)) (start (turn k) .args .w .now) (j .match .w) (j .match .names) (start (turn k) .args .state) (held-list y) x)
-            (sym (c .refused .ensures))
-            (going-ceased _ _ _ _ _ _ _ _ (going (turn k) y) (on (turn k)) _ _ (left-as j y _ (c .before .before .left .given .1))),
+            going-ceased _ _ _ _ _ _ _ _ (going (turn k) y) (on (turn k)) _ _ (left-as j y _ (c .before .left .given .1)),
         kept-start j,
       )
 
@@ -526,4 +521,4 @@ module _ (t : ℕ) where
 pub +call+list-spec : {M : Type 1} → statement M
 +call+list-spec = close μ-call μ-list
     (λ t. call-lts.spec (call-calls t) (call-at t) call.Post (λ c. search needs) (λ c. search needs) (call-returns-1 t) (call-sub-spread t) (call-part-spread-start t) (call-part-spread-end t) (call-spread-requires t) (call-add-list t) (call-back-to-requires t) (call-add-list-2 t) (call-next-requires t) (call-list-requires t) (call-returned-requires t) (λ c κs. search needs) (call-returns-2 t) (λ c. search needs) (call-returns-3 t))
-    λ t. list-lts.spec (list-calls t) (list-at t) list.Post list-Inv-loop list-μ-loop (list-loop-holds t) (list-next-requires t) (list-begin-requires t) (λ c. search needs) (λ c. search needs) (λ c κs. search needs) (list-list-requires t) (list-finish-requires t) (λ c. search needs) (list-list-requires-2 t) (list-call-requires t) (λ c. search needs) (λ c κs. search needs) (list-same-length t) (list-returns t) (λ c. search needs) (list-loop-less t) (list-loop-again t) (λ c. search needs) (list-add-requires t) (list-loop-less-2 t) (list-loop-again-2 t) (λ c κs. search needs) (list-same-length-2 t) (list-returns-2 t)
+    λ t. list-lts.spec (list-calls t) (list-at t) list.Post list-Inv-loop list-μ-loop (list-loop-holds t) (list-next-requires t) (list-begin-requires t) (λ c. search needs) (λ c. search needs) (λ c κs. search needs) (list-list-requires t) (list-finish-requires t) (λ c. search needs) (list-list-requires-2 t) (list-call-requires t) (λ c. search needs) (list-same-length t) (list-returns t) (λ c. search needs) (list-loop-less t) (list-loop-again t) (λ c. search needs) (list-add-requires t) (list-loop-less-2 t) (list-loop-again-2 t) (λ c κs. search needs) (list-same-length-2 t) (list-returns-2 t)

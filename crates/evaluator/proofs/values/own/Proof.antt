@@ -26,8 +26,8 @@ sub-atom-size c = given c .order
 
 returns : tie.Need-returns
 returns c a leaf =
-    let k = c .before .before .before in
-    rw (c .refused .ensures) (refl, atom-unkept (k .atom-size .result) (found (k .before) a leaf) (k .atom-size .ensures) (c .before .if1 .taken))
+    let k = c .before .before in
+    (refl, atom-unkept (k .atom-size .result) (found (k .before) a leaf) (k .atom-size .ensures) (c .if1 .taken))
 
 sub-put-atom : tie.Need-sub-put-atom
 sub-put-atom c = given (c .before .before .before) .order
@@ -63,7 +63,6 @@ own-spec =
     (λ c κs. search needs)
     (λ c κs. search needs)
     sub-atom-size
-    (λ c κs. search needs)
     (λ c κs. search needs)
     returns
     sub-put-atom

@@ -100,8 +100,7 @@ add-n-2 c =
 
 returns : tie.Need-returns
 returns c m n id leaf leaf′ =
-    let k = c .before .before .before in
-    rw (c .refused .ensures) (
+    let k = c .before .before in (
       refl,
       ns-unkept
           m
@@ -111,7 +110,7 @@ returns c m n id leaf leaf′ =
           (found-ref (k .before) m n leaf)
           (found-id (k .before) id leaf′)
           (omega (arith, k .atom-size .ensures))
-          (c .before .if1 .taken),
+          (c .if1 .taken),
     )
 
 slice-write-w-2 : tie.Need-slice-write-w-2
@@ -183,7 +182,6 @@ own-ns-spec =
     sub-atom-size
     (λ c κs. search needs)
     add-n-2
-    (λ c κs. search needs)
     returns
     (λ c. search needs)
     (λ c. search needs)

@@ -1,13 +1,13 @@
--- `evaluator::values::again` meets its contract: a move to the top, if there is room. Assumes nothing.
+-- `evaluator::values::copied` meets its contract: a move to where those before it end, if there is room. Assumes nothing.
 use borrow.Author.Needs.{needs}
 use mathlib.Core.Path.{refl}
 use native.Mathlib.Omega.{arith}
 use Rattle.evaluator.proofs.Completing.{complete-moved, incomplete-moved}
-use Rattle.evaluator.proofs.values.again.Statement.{statement}
-use Rattle.evaluator.proofs.values.again.Tie as tie
+use Rattle.evaluator.proofs.values.copied.Statement.{statement}
+use Rattle.evaluator.proofs.values.copied.Tie as tie
 
 returns : tie.Need-returns
-returns c vs there shallow = rw (c .refused .ensures) (refl, incomplete-moved shallow there (c .before .if1 .taken))
+returns c vs there shallow = (refl, incomplete-moved shallow there (c .if1 .taken))
 
 returns-2 : tie.Need-returns-2
 returns-2 c vs there shallow =
@@ -15,12 +15,11 @@ returns-2 c vs there shallow =
     rw (c .charged .ensures)
     (complete-moved shallow there (k .before .before .before .before .before .pre .0) (omega arith) (omega arith) (k .move-bytes .ensures))
 
-pub again-spec : {M : Type 1} → statement M
-again-spec =
+pub copied-spec : {M : Type 1} → statement M
+copied-spec =
     tie.close
     (tie.spec
     (λ c. search needs)
-    (λ c κs. search needs)
     returns
     (λ c κs. search needs)
     (λ c. search needs)
