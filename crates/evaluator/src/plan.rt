@@ -1,9 +1,9 @@
 // What is to be done with an expression whose step is taken: the refusals 13, 12, 11, 14, 15, 19, and the rule that applies. Nothing here writes.
 // Document 01: the rules of "Evaluation".
 use crate::arrays;
+use crate::core::Core;
 use crate::namespaces;
 use crate::rows;
-use crate::rows::Core;
 use crate::scope;
 use crate::scope::Found;
 use crate::scope::Scope;
