@@ -106,7 +106,7 @@ fn perform(
         → Begun (now (s .entry)) (now (table .entry)) (now (w .entry)) (now (w .exit)) (now (names .entry)) (now (names .exit)) sc st row e h (hold (st .steps) (st .room) (eval run e h)) r) ⌝ }
 {
     match task {
-        Task::Refuse { number } => Step::Leaves(Left::Stopped { number, row }),
+        Task::Refuse(number) => Step::Leaves(Left::Stopped { number, row }),
         Task::Own => Step::Leaves(leaves(values::own(s, table, w, state, row))),
         Task::Again { from, to } => Step::Leaves(leaves(values::again(w, state, from, to, row))),
         Task::Ns { name } => Step::Leaves(leaves(associate(s, table, w, names, state, name, row))),

@@ -49,10 +49,10 @@ module _ (c : tie.After-look-up) where
 
 returns : tie.Need-returns
 returns c = λ w floor m n ds at sh.
-    let k = c .before .before .before in
-    let name = c .before .before .is-function in
-    let plans = plan-name (k .key .result) m n ds (k .key .ensures m n at) (fits k m n at) (not-true _ (sym (name .ensures) ∙ c .before .if1 .taken)) in
-    rw (c .refuse .ensures, plans) (refuses 12)
+    let k = c .before .before in
+    let name = c .before .is-function in
+    let plans = plan-name (k .key .result) m n ds (k .key .ensures m n at) (fits k m n at) (not-true _ (sym (name .ensures) ∙ c .if1 .taken)) in
+    rw (plans) (refuses 12)
 
 look-up-requires : tie.Need-look-up-requires
 look-up-requires c κs =
@@ -66,7 +66,7 @@ returns-2 : tie.Need-returns-2
 returns-2 c = done (c .before .before .before) _ (c .before .from .given .1)
 
 returns-3 : tie.Need-returns-3
-returns-3 c = rw (c .refuse2 .ensures) (done (c .before .before .before) _ (c .before .enum-told .given .1))
+returns-3 c = (done (c .before .before) _ (c .enum-told .given .1))
 
 returns-4 : tie.Need-returns-4
 returns-4 c = done (c .before .before) _ (c .enum-told2 .given .1)
@@ -77,12 +77,10 @@ reference-spec =
     (tie.spec
     (λ c κs. search needs)
     (λ c κs. search needs)
-    (λ c κs. search needs)
     returns
     look-up-requires
     (λ c. search needs)
     (λ c. search needs)
-    (λ c κs. search needs)
     (λ c. search needs)
     returns-2
     returns-3
