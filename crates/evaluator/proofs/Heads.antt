@@ -24,24 +24,16 @@ use Rattle.evaluator.specs.declared.plan.Task.{Task}
 use Rattle.evaluator.specs.declared.plan.Task.the-variants.{Refuse, Own, Again, Inside}
 use Rattle.evaluator.proofs.Rules.{code-at}
 use Rattle.evaluator.proofs.Nodes.{MoreAt, nodes-done, form-row, form-nodes, leaf-skipped}
-use Rattle.evaluator.proofs.Keys.{key-small, Function as Named, word-key, function-key, word-of, word-again, is-word, is-plain, HeadFits, head-word-of, first-fits, head-fits, headed-by-key}
+use Rattle.evaluator.proofs.Keys.{key-small, Function as Named, word-key, plain-key, word-of, word-again, is-word, is-plain, HeadFits, head-word-of, first-fits, head-fits, headed-by-key}
 use Rattle.evaluator.proofs.Parts.{head-at}
 use Rattle.evaluator.proofs.Shown.{Answers, no-answer, value-answer, function-answer}
 
 -- References
 
-module _ (k m n : ℕ) (ds : Scope) (at : k ≡ key-of m n) (fits : Fits (ref m n)) where
-  known-word : not (is (word m n) plain) ≡ function-key k
-  known-word = rw at (ap (λ (v : Word). not (is v plain)) (sym (word-again m n (fits .2))))
-
-  pub plan-name : (b : Bool) → b ≡ function-key k → plan-atom (ref m n) ds ≡ (if b then refuse 12 else plan-reference (look-up m n ds) (ref m n))
-  unfolding plan-atom
-  plan-name b e = go (is (word m n) plain) (known-word ∙ sym e)
-    where
-      go : (c : Bool) → not c ≡ b
-          → (if c then plan-reference (look-up m n ds) (ref m n) else refuse 12) ≡ (if b then refuse 12 else plan-reference (look-up m n ds) (ref m n))
-      go true q = ap (λ (x : Bool). if x then refuse 12 else plan-reference (look-up m n ds) (ref m n)) q
-      go false q = ap (λ (x : Bool). if x then refuse 12 else plan-reference (look-up m n ds) (ref m n)) q
+pub plan-name : (k m n : ℕ) (ds : Scope) → k ≡ key-of m n → Fits (ref m n) → {b : Bool} → plain-key k ≡ b
+    → plan-atom (ref m n) ds ≡ (if b then plan-reference (look-up m n ds) (ref m n) else refuse 12)
+unfolding plan-atom
+plan-name k m n ds at fits e = rw (← e, at, word-again m n (fits .2))
 
 -- other atoms
 pub plan-own : (a : Atom) (ds : Scope) → (atom-kind a ≡ 4 → ⊥) → plan-atom a ds ≡ leave (only (atom a))

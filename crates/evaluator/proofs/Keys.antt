@@ -133,26 +133,26 @@ number-word k =
     let back : key-of (k / 256) (k % 256) ≡ k = omega arith in
     rw back at (word-of (k / 256) (k % 256) (omega arith))
 
--- the keys of the function names
+-- whether a key is no function name's
 
-abbrev pub function-key : ℕ → Bool
-function-key k = not (is (word (k / 256) (k % 256)) plain)
+abbrev pub plain-key : ℕ → Bool
+plain-key k = is (word (k / 256) (k % 256)) plain
 
 module _ (k : ℕ) where
-  pub function-ns : k ≡ 0x2006 → function-key k ≡ true
-  function-ns e = rw (is-word (number-word k) ns (omega arith) e)
+  pub plain-not-ns : k ≡ 0x2006 → false ≡ plain-key k
+  plain-not-ns e = rw (is-word (number-word k) ns (omega arith) e)
 
-  pub function-later : 0x2009 ≤ k → k ≤ 0x200D → function-key k ≡ true
-  function-later h l = go (number-word k)
+  pub plain-not-later : 0x2009 ≤ k → k ≤ 0x200D → false ≡ plain-key k
+  plain-not-later h l = go (number-word k)
     where
-      go : WordOf k (word (k / 256) (k % 256)) → function-key k ≡ true
-      go (function f e) = rw (ne-eqb (name-byte (word (k / 256) (k % 256))) 0x100 (λ z. omega arith))
+      go : WordOf k (word (k / 256) (k % 256)) → false ≡ plain-key k
+      go (function f e) = sym (ne-eqb (name-byte (word (k / 256) (k % 256))) 0x100 (λ z. omega arith))
       go (other e none) =
           absurd
           (omega (arith, none define (omega arith), none concat (omega arith), none subst (omega arith), none arg (omega arith), none rest (omega arith)))
 
-  pub function-none : (k ≡ 0x2006 → ⊥) → (0x2009 ≤ k → k ≤ 0x200D → ⊥) → function-key k ≡ false
-  function-none h o =
+  pub plain-else : (k ≡ 0x2006 → ⊥) → (0x2009 ≤ k → k ≤ 0x200D → ⊥) → true ≡ plain-key k
+  plain-else h o =
       rw (is-plain (number-word k) h (λ z. o (omega arith) (omega arith)) (λ z. o (omega arith) (omega arith)) (λ z. o (omega arith) (omega arith))
       (λ z. o (omega arith) (omega arith)) (λ z. o (omega arith) (omega arith)))
 

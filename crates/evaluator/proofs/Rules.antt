@@ -34,10 +34,9 @@ use Rattle.evaluator.proofs.Parts.{ReferenceAt}
 use Rattle.evaluator.proofs.Places.{slice-split}
 
 -- a refusal, by its number
-pub refused : {s t w : List ℕ} {floor : ℕ} {sc : List Entry} {row : ℕ} {es : Nodes} {r : Task} {p : Plan} (n : ℕ) → r ≡ Refuse n → p ≡ refuse n
-    → Planned s t w floor sc row es r p
-refused {s} {t} {w} {floor} {sc} {row} {es} {r} {p} n e q =
-    subst (λ (x : Task). Planned s t w floor sc row es x p) (sym e) (subst (Planned s t w floor sc row es (Refuse n)) (sym q) (refuses n))
+pub refused : {s t w : List ℕ} {floor : ℕ} {sc : List Entry} {row : ℕ} {es : Nodes} {p : Plan} (n : ℕ) → p ≡ refuse n
+    → Planned s t w floor sc row es (Refuse n) p
+refused {s} {t} {w} {floor} {sc} {row} {es} n e = subst (Planned s t w floor sc row es (Refuse n)) (sym e) (refuses n)
 
 -- the same answer for an equal plan
 pub planned-as : {s t w : List ℕ} {floor : ℕ} {sc : List Entry} {row : ℕ} {es : Nodes} {r : Task} {p q : Plan} → p ≡ q

@@ -1,4 +1,5 @@
 // One expression: its step, its rule, and what it leaves. Nothing here evaluates what is inside it. Document 01: "Steps", refusal 16.
+use crate::core::Core;
 use crate::forms;
 use crate::plan;
 use crate::plan::After;
@@ -6,7 +7,6 @@ use crate::plan::Code;
 use crate::plan::Stands;
 use crate::plan::Task;
 use crate::rows;
-use crate::rows::Core;
 use crate::scope;
 use crate::scope::Scope;
 use crate::values;
@@ -106,7 +106,7 @@ fn perform(
         → Begun (now (s .entry)) (now (table .entry)) (now (w .entry)) (now (w .exit)) (now (names .entry)) (now (names .exit)) sc st row e h (hold (st .steps) (st .room) (eval run e h)) r) ⌝ }
 {
     match task {
-        Task::Refuse { number } => Step::Leaves(Left::Stopped(number, row)),
+        Task::Refuse(number) => Step::Leaves(Left::Stopped(number, row)),
         Task::Own => Step::Leaves(leaves(values::own(s, table, w, state, row))),
         Task::Again { from, to } => {
             let top = state.top;

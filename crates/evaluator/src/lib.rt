@@ -1,5 +1,6 @@
 // The evaluator: a stream whose rows are in a table, evaluated in a workspace. Document 01: "Evaluate", refusals 9 and 10.
 mod arrays;
+mod core;
 mod element;
 mod forms;
 mod moves;
@@ -10,9 +11,9 @@ mod run;
 mod scope;
 mod values;
 
+use crate::core::Core;
 use crate::plan::Code;
 use crate::plan::Stands;
-use crate::rows::Core;
 use crate::scope::Scope;
 use crate::values::Out;
 use crate::values::State;

@@ -1,9 +1,9 @@
 // What is to be done with an expression whose step is taken: the refusals 13, 12, 11, 14, 15, 19, and the rule that applies. Nothing here writes.
 // Document 01: the rules of "Evaluation".
 use crate::arrays;
+use crate::core::Core;
 use crate::namespaces;
 use crate::rows;
-use crate::rows::Core;
 use crate::scope;
 use crate::scope::Found;
 use crate::scope::Scope;
@@ -23,7 +23,7 @@ ghost use Rattle.evaluator.specs.Named.{Named};
 ghost use Rattle.evaluator.specs.Planned.{Shows, ArgumentsOf, Placed, Planned, Setting, Known, FormAt, NamespacesAre};
 ghost use Rattle.evaluator.specs.declared.plan.Stands.the-variants.{Top};
 ghost use Rattle.evaluator.specs.declared.plan.After.the-variants.{Form};
-ghost use Rattle.evaluator.specs.declared.plan.Task.the-variants.{Refuse, Inside};
+ghost use Rattle.evaluator.specs.declared.plan.Task.the-variants.{Inside};
 
 // What list an expression is an element of.
 pub enum Stands {
@@ -48,7 +48,7 @@ pub enum After {
 }
 
 pub enum Task {
-    Refuse { number: u32 },
+    Refuse(u32),
     // The expression stands for itself.
     Own,
     // Its values stand in the workspace between two places.
@@ -59,12 +59,6 @@ pub enum Task {
     Function { key: u32, code: usize },
     // The elements from a row up to the form's end are evaluated first.
     Inside { first: usize, after: After },
-}
-
-fn refuse(number: u32) -> Task
-    ensures { λ r. ⌜ r ≡ Refuse number ⌝ }
-{
-    Task::Refuse { number }
 }
 
 fn reference(
@@ -82,14 +76,14 @@ fn reference(
 {
     let key = rows::key(s, table, row);
     if Core::is_function(key) {
-        return refuse(12);
+        return Task::Refuse(12);
     }
     match scope.look_up(keys, places, key) {
         Found::Value { from, to } => Task::Again { from, to },
         Found::Function {
             code: _,
             visible: _,
-        } => refuse(12),
+        } => Task::Refuse(12),
         Found::Nothing => Task::Own,
     }
 }
@@ -115,23 +109,23 @@ fn associate(
 {
     let size = rows::end(table, id) - arrays::body(s, table, id);
     if size < 1 {
-        return refuse(11);
+        return Task::Refuse(11);
     }
     if 64 < size {
-        return refuse(11);
+        return Task::Refuse(11);
     }
     let marker = rows::key(s, table, named) / 256;
     if marker == Core::MARKER {
-        return refuse(14);
+        return Task::Refuse(14);
     }
     if namespaces::borne(s, table, row, marker) {
-        return refuse(14);
+        return Task::Refuse(14);
     }
     if namespaces::used(s, table, names, count, id) {
-        return refuse(14);
+        return Task::Refuse(14);
     }
     if 64 <= count {
-        return refuse(19);
+        return Task::Refuse(19);
     }
     Task::Ns {
         name: marker * 65536 + (id as u32),
@@ -147,18 +141,18 @@ fn ns(s: &[u8], table: &[u32], names: &[u32; 64], count: usize, stands: Stands, 
         → Planned (now (s .entry)) (now (table .entry)) w floor sc row es r (plan-ns (h .place) es h)) ⌝ }
 {
     match stands {
-        Stands::Element => refuse(13),
-        Stands::Inner => refuse(13),
+        Stands::Element => Task::Refuse(13),
+        Stands::Inner => Task::Refuse(13),
         Stands::Top => {
             let p = rows::parts_of(s, table, row);
             if p.count != 3 {
-                return refuse(11);
+                return Task::Refuse(11);
             }
             if rows::kind(table, p.second) != Kind::REFERENCE {
-                return refuse(11);
+                return Task::Refuse(11);
             }
             if rows::kind(table, p.third) != Kind::ARRAY {
-                return refuse(11);
+                return Task::Refuse(11);
             }
             associate(s, table, names, count, row, p.second, p.third)
         }
@@ -183,25 +177,25 @@ fn definition(
 {
     let p = rows::parts_of(s, table, row);
     if p.count != 3 {
-        return refuse(11);
+        return Task::Refuse(11);
     }
     if rows::kind(table, p.second) != Kind::REFERENCE {
-        return refuse(11);
+        return Task::Refuse(11);
     }
     let value = p.third;
     let head = rows::head(s, table, value);
     if head == Core::REST {
-        return refuse(11);
+        return Task::Refuse(11);
     }
     let key = rows::key(s, table, p.second);
     if key / 256 == Core::MARKER {
-        return refuse(14);
+        return Task::Refuse(14);
     }
     if !namespaces::associated(names, count, key / 256) {
-        return refuse(14);
+        return Task::Refuse(14);
     }
     if 256 <= visible {
-        return refuse(19);
+        return Task::Refuse(19);
     }
     if head == Core::SUBST {
         return Task::Function { key, code: value };
@@ -229,7 +223,7 @@ fn define(
         → Planned (now (s .entry)) (now (table .entry)) w floor sc row es r (plan-define (h .place) es h)) ⌝ }
 {
     match stands {
-        Stands::Inner => refuse(13),
+        Stands::Inner => Task::Refuse(13),
         Stands::Element => definition(s, table, names, count, visible, row),
         Stands::Top => definition(s, table, names, count, visible, row),
     }
@@ -241,13 +235,13 @@ fn concat(s: &[u8], table: &[u32], row: usize) -> Task
 {
     let p = rows::parts_of(s, table, row);
     if p.count != 3 {
-        return refuse(11);
+        return Task::Refuse(11);
     }
     if rows::head(s, table, p.second) == Core::REST {
-        return refuse(11);
+        return Task::Refuse(11);
     }
     if rows::head(s, table, p.third) == Core::REST {
-        return refuse(11);
+        return Task::Refuse(11);
     }
     Task::Inside {
         first: p.second,
@@ -279,13 +273,13 @@ fn arg(s: &[u8], table: &[u32], args: &[u32; 64], code: Code, row: usize) -> Tas
 {
     let n = written(s, table, row);
     if 64 <= n {
-        return refuse(11);
+        return Task::Refuse(11);
     }
     if code.depth == 0 {
-        return refuse(15);
+        return Task::Refuse(15);
     }
     if code.count <= n {
-        return refuse(15);
+        return Task::Refuse(15);
     }
     let place = args[n];
     Task::Again {
@@ -302,13 +296,13 @@ fn rest(s: &[u8], table: &[u32], args: &[u32; 64], code: Code, row: usize) -> Ta
 {
     let n = written(s, table, row);
     if 64 <= n {
-        return refuse(11);
+        return Task::Refuse(11);
     }
     if code.depth == 0 {
-        return refuse(15);
+        return Task::Refuse(15);
     }
     if code.count < n {
-        return refuse(15);
+        return Task::Refuse(15);
     }
     if code.count == n {
         return Task::Again {
@@ -395,7 +389,7 @@ fn form(
     match head {
         Core::NS => ns(s, table, names, count, stands, row),
         Core::DEFINE => define(s, table, names, count, stands, scope.len, row),
-        Core::SUBST => refuse(12),
+        Core::SUBST => Task::Refuse(12),
         Core::CONCAT => concat(s, table, row),
         Core::ARG => arg(s, table, args, code, row),
         Core::REST => rest(s, table, args, code, row),

@@ -2,45 +2,12 @@
 use atoms::Kind;
 use reader::ROW_WIDTH;
 ghost use mathlib.Core.Path.{_≡_};
-ghost use mathlib.Core.Bool.{not};
-ghost use Prim.Native.Nat.{ℕ, _+_, _*_, _/_, _%_, _≤_, _<_};
+ghost use Prim.Native.Nat.{ℕ, _+_, _*_, _≤_, _<_};
 ghost use lib.ListN.{length};
 ghost use Rattle.spec.specs.Expr.{int, ref};
 ghost use Rattle.spec.specs.Reading.{row-width};
-ghost use Rattle.spec.specs.Nodes.{plain, is, word, Node, branch, Nodes, elements};
+ghost use Rattle.spec.specs.Nodes.{Node, branch, Nodes, elements};
 ghost use Rattle.evaluator.specs.Stands.{cell, LeafAt, NodeAt, parts-of, key-of, head-key};
-
-// The names of the core namespace that have rules of their own, as keys of references: the marker times 256, plus the name.
-pub struct Core;
-
-impl Core {
-    pub const MARKER: u32 = 0x20;
-
-    pub const VERSION: u32 = 0x2000;
-
-    pub const NS: u32 = 0x2006;
-
-    pub const DEFINE: u32 = 0x2009;
-
-    pub const CONCAT: u32 = 0x200A;
-
-    pub const SUBST: u32 = 0x200B;
-
-    pub const ARG: u32 = 0x200C;
-
-    pub const REST: u32 = 0x200D;
-
-    // Whether a key is a function name's, which has no value of its own.
-    pub fn is_function(key: u32) -> bool
-        ensures { λ r. ⌜ r ≡ not (is (word (key / 256) (key % 256)) plain) ⌝ }
-    {
-        match key {
-            Core::NS => true,
-            Core::DEFINE..=Core::REST => true,
-            _ => false,
-        }
-    }
-}
 
 // What is no reference's key.
 pub const NO_KEY: u32 = 0xFFFFFFFF;

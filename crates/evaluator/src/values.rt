@@ -1,6 +1,7 @@
 // Values as canonical bytes in the workspace: the finished ones from its start up to `top`, those of visible definitions from `floor` to its end.
 // Document 01: "Workspace", refusal 17.
 use crate::arrays;
+use crate::core::Core;
 use crate::moves;
 use crate::rows;
 use atoms::Kind;
@@ -88,8 +89,8 @@ pub fn own_ns(s: &[u8], table: &[u32], w: &mut [u8], state: State, row: usize) -
         return Out::Refused(17, row);
     }
     w[top] = 0x01;
-    w[top + 1] = 0x20;
-    w[top + 2] = 0x06;
+    w[top + 1] = Core::MARKER_BYTE;
+    w[top + 2] = Core::NS_BYTE;
     let at = writer::put_atom(Kind::REFERENCE, &s[reference..past], w, top + 3);
     let end = writer::put_atom(Kind::ARRAY, &s[id..to], w, at);
     w[end] = 0x02;

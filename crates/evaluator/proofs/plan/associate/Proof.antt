@@ -49,16 +49,16 @@ sub-size c = let given = c .before .before .before .before .pre .1 .0 in sized c
 
 returns : tie.Need-returns
 returns c = λ w floor m n sc bs head es h reference leaf after later placed names counted.
-    let o = c .before .before in
-    refused 11 (c .refuse .ensures)
-    (ns-empty (s o) (t o) (row o) m n bs (named o) (id o) head h (place o h placed) (omega (arith, sized o bs leaf .1, c .before .if1 .taken)))
+    let o = c .before in
+    refused 11
+    (ns-empty (s o) (t o) (row o) m n bs (named o) (id o) head h (place o h placed) (omega (arith, sized o bs leaf .1, c .if1 .taken)))
 
 returns-2 : tie.Need-returns-2
 returns-2 c = λ w floor m n sc bs head es h reference leaf after later placed names counted.
-    let o = c .before .before .before in
+    let o = c .before .before in
     let size = sized o bs leaf .1 in
-    refused 11 (c .refuse2 .ensures)
-    (ns-long (s o) (t o) (row o) m n bs (named o) (id o) head h (place o h placed) (omega (arith, size, c .before .before .if1 .left)) (omega (arith, size, c .before .if2 .taken)))
+    refused 11
+    (ns-long (s o) (t o) (row o) m n bs (named o) (id o) head h (place o h placed) (omega (arith, size, c .before .if1 .left)) (omega (arith, size, c .if2 .taken)))
 
 -- the reference's marker, and an array of a fitting size
 module _ (c : tie.After-key) where
@@ -76,11 +76,11 @@ module _ (c : tie.After-key) where
 
 returns-3 : tie.Need-returns-3
 returns-3 c = λ w floor m n sc bs head es h reference leaf after later placed names counted.
-    let k = c .before .before in
+    let k = c .before in
     let o = o k in
-    refused 14 (c .refuse3 .ensures)
+    refused 14
     (ns-core (s o) (t o) (row o) m n bs (named o) (id o) head h (place o h placed) (some-bytes k bs leaf) (few-bytes k bs leaf)
-    (sym (marker k m n reference) ∙ c .before .if3 .taken))
+    (sym (marker k m n reference) ∙ c .if3 .taken))
 
 -- a marker that is not the core's, and whether it is borne
 module _ (c : tie.After-borne) where
@@ -96,36 +96,36 @@ module _ (c : tie.After-borne) where
 
 returns-4 : tie.Need-returns-4
 returns-4 c = λ w floor m n sc bs head es h reference leaf after later placed names counted.
-    let b = c .before .before in
+    let b = c .before in
     let k = k b in
     let o = o k in
     let top = place o h placed in
-    refused 14 (c .refuse4 .ensures)
+    refused 14
     (ns-borne (s o) (t o) (row o) m n bs (named o) (id o) head h top (some-bytes k bs leaf) (few-bytes k bs leaf) (other b m n reference)
-    (borne b m n reference (top .before) (top .at) ∙ c .before .if4 .taken))
+    (borne b m n reference (top .before) (top .at) ∙ c .if4 .taken))
 
 returns-5 : tie.Need-returns-5
 returns-5 c = λ w floor m n sc bs head es h reference leaf after later placed names counted.
+    let b = c .before .before .before in
+    let k = k b in
+    let o = o k in
+    let top = place o h placed in
+    refused 14
+    (ns-used (s o) (t o) (row o) m n bs (named o) (id o) head h top (some-bytes k bs leaf) (few-bytes k bs leaf) (other b m n reference)
+    (borne b m n reference (top .before) (top .at) ∙ c .before .before .if4 .left)
+    (sym (c .before .used .ensures (h .namespaces) bs names counted leaf) ∙ c .if5 .taken))
+
+returns-6 : tie.Need-returns-6
+returns-6 c = λ w floor m n sc bs head es h reference leaf after later placed names counted.
     let b = c .before .before .before .before in
     let k = k b in
     let o = o k in
     let top = place o h placed in
-    refused 14 (c .refuse5 .ensures)
-    (ns-used (s o) (t o) (row o) m n bs (named o) (id o) head h top (some-bytes k bs leaf) (few-bytes k bs leaf) (other b m n reference)
-    (borne b m n reference (top .before) (top .at) ∙ c .before .before .before .if4 .left)
-    (sym (c .before .before .used .ensures (h .namespaces) bs names counted leaf) ∙ c .before .if5 .taken))
-
-returns-6 : tie.Need-returns-6
-returns-6 c = λ w floor m n sc bs head es h reference leaf after later placed names counted.
-    let b = c .before .before .before .before .before in
-    let k = k b in
-    let o = o k in
-    let top = place o h placed in
-    refused 19 (c .refuse6 .ensures)
+    refused 19
     (ns-full (s o) (t o) (row o) m n bs (named o) (id o) head h top (some-bytes k bs leaf) (few-bytes k bs leaf) (other b m n reference)
-    (borne b m n reference (top .before) (top .at) ∙ c .before .before .before .before .if4 .left)
-    (sym (c .before .before .before .used .ensures (h .namespaces) bs names counted leaf) ∙ c .before .before .if5 .left)
-    (omega (arith, counted, c .before .if6 .taken)))
+    (borne b m n reference (top .before) (top .at) ∙ c .before .before .before .if4 .left)
+    (sym (c .before .before .used .ensures (h .namespaces) bs names counted leaf) ∙ c .before .if5 .left)
+    (omega (arith, counted, c .if6 .taken)))
 
 -- the marker is below 65,536, and the row too
 module _ (c : tie.Else6) where
@@ -167,20 +167,14 @@ associate-spec =
     (λ c κs. search needs)
     (λ c κs. search needs)
     sub-size
-    (λ c κs. search needs)
     returns
-    (λ c κs. search needs)
     returns-2
-    (λ c κs. search needs)
     (λ c κs. search needs)
     returns-3
     (λ c κs. search needs)
-    (λ c κs. search needs)
     returns-4
     (λ c κs. search needs)
-    (λ c κs. search needs)
     returns-5
-    (λ c κs. search needs)
     returns-6
     mul-t13
     cast-t16

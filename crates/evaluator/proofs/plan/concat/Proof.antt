@@ -14,7 +14,7 @@ use Rattle.evaluator.proofs.plan.concat.Tie as tie
 
 returns : tie.Need-returns
 returns c = λ w floor q sc es h.
-    refused 11 (c .refuse .ensures) (concat-none es (λ e. c .before .if1 .taken (ap (λ (x : Parts). x .count) (c .before .before .before .parts-of .ensures q es h) ∙ e)))
+    refused 11 (concat-none es (λ e. c .if1 .taken (ap (λ (x : Parts). x .count) (c .before .before .parts-of .ensures q es h) ∙ e)))
 
 -- a head and two more
 module _ (c : tie.Else1) where
@@ -41,17 +41,17 @@ head-requires c κs = let g = some-two c in (g .first, g .one)
 
 returns-2 : tie.Need-returns-2
 returns-2 c = λ w floor q sc es h.
-    let o = c .before .before .before in
-    refused 11 (c .refuse2 .ensures) (concat-first (s o) (t o) (bytes o) (row o) _ es (two o q es h) _ (c .before .before .head .ensures) (c .before .if2 .taken))
+    let o = c .before .before in
+    refused 11 (concat-first (s o) (t o) (bytes o) (row o) _ es (two o q es h) _ (c .before .head .ensures) (c .if2 .taken))
 
 head-requires-2 : tie.Need-head-requires-2
 head-requires-2 c κs = let g = some-two (c .before .before) in (g .second, g .two)
 
 returns-3 : tie.Need-returns-3
 returns-3 c = λ w floor q sc es h.
-    let o = c .before .before .before .before .before in
-    refused 11 (c .refuse3 .ensures)
-    (concat-second (s o) (t o) (bytes o) (row o) _ es (two o q es h) _ (c .before .before .before .before .head .ensures) (c .before .before .before .if2 .left) _ (c .before .before .head2 .ensures) (c .before .if3 .taken))
+    let o = c .before .before .before .before in
+    refused 11
+    (concat-second (s o) (t o) (bytes o) (row o) _ es (two o q es h) _ (c .before .before .before .head .ensures) (c .before .before .if2 .left) _ (c .before .head2 .ensures) (c .if3 .taken))
 
 returns-4 : tie.Need-returns-4
 returns-4 c = λ w floor q sc es h.
@@ -63,12 +63,9 @@ concat-spec =
     tie.close
     (tie.spec
     (λ c κs. search needs)
-    (λ c κs. search needs)
     returns
     head-requires
-    (λ c κs. search needs)
     returns-2
     head-requires-2
-    (λ c κs. search needs)
     returns-3
     returns-4)

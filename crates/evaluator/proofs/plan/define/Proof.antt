@@ -8,9 +8,9 @@ use Rattle.evaluator.proofs.plan.define.Tie as tie
 
 returns : tie.Need-returns
 returns c = λ w floor q sc es h at placed names counted seen visible.
-    let a = c .before .before .before .before .before .args in
-    refused 13 (c .refuse .ensures)
-    (ap (λ (p : Place). plan-define p es h) (is-inner (a .s .now) (a .table .now) (a .row) (a .stands) (h .place) placed (c .before .enum-told .given .1)))
+    let a = c .before .before .before .before .args in
+    refused 13
+    (ap (λ (p : Place). plan-define p es h) (is-inner (a .s .now) (a .table .now) (a .row) (a .stands) (h .place) placed (c .enum-told .given .1)))
 
 returns-2 : tie.Need-returns-2
 returns-2 c = λ w floor q sc es h at placed names counted seen visible.
@@ -31,7 +31,6 @@ define-spec =
     tie.close
     (tie.spec
     (λ c. search needs)
-    (λ c κs. search needs)
     (λ c. search needs)
     (λ c κs. search needs)
     (λ c. search needs)

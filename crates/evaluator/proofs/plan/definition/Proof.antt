@@ -18,8 +18,8 @@ use Rattle.evaluator.proofs.plan.definition.Tie as tie
 
 returns : tie.Need-returns
 returns c = λ w floor q sc es h at names counted seen visible.
-    refused 11 (c .refuse .ensures)
-    (definition-count es h (λ e. c .before .if1 .taken (ap (λ (x : Parts). x .count) (c .before .before .before .parts-of .ensures q es at) ∙ e)))
+    refused 11
+    (definition-count es h (λ e. c .if1 .taken (ap (λ (x : Parts). x .count) (c .before .before .parts-of .ensures q es at) ∙ e)))
 
 -- a head and two more
 module _ (c : tie.Else1) where
@@ -49,9 +49,9 @@ kind-requires c κs = let g = some-two c in node-whole (s c) (t c) (p c .second)
 
 returns-2 : tie.Need-returns-2
 returns-2 c = λ w floor q sc es h at names counted seen visible.
-    let o = c .before .before .before in
-    refused 11 (c .refuse2 .ensures)
-    (definition-first (s o) (t o) (row o) (p o) es (two o q es at) h (λ e. c .before .if2 .taken (c .before .before .kind .ensures ∙ e)))
+    let o = c .before .before in
+    refused 11
+    (definition-first (s o) (t o) (row o) (p o) es (two o q es at) h (λ e. c .if2 .taken (c .before .kind .ensures ∙ e)))
 
 -- the first of them a reference
 module _ (c : tie.Else2) where
@@ -66,11 +66,11 @@ head-requires c κs = let g = some-two (o c) in (g .second, g .two)
 
 returns-3 : tie.Need-returns-3
 returns-3 c = λ w floor q sc es h at names counted seen visible.
-    let e = c .before .before .before in
+    let e = c .before .before in
     let o = o e in
     let g = two o q es at in
-    refused 11 (c .refuse3 .ensures)
-    (definition-rest (s o) (t o) (bytes o) (row o) (p o) es g (reference e es g) h _ (c .before .before .head .ensures) (c .before .if3 .taken))
+    refused 11
+    (definition-rest (s o) (t o) (bytes o) (row o) (p o) es g (reference e es g) h _ (c .before .head .ensures) (c .if3 .taken))
 
 key-requires : tie.Need-key-requires
 key-requires c κs =
@@ -80,32 +80,32 @@ key-requires c κs =
 
 returns-4 : tie.Need-returns-4
 returns-4 c = λ w floor q sc es h at names counted seen visible.
-    let e = c .before .before .before .before .before in
+    let e = c .before .before .before .before in
     let o = o e in
     let g = two o q es at in
-    refused 14 (c .refuse4 .ensures)
-    (definition-core (s o) (t o) (bytes o) (row o) (p o) es g (reference e es g) h _ (c .before .before .before .before .head .ensures) (c .before .before .before .if3 .left)
-    _ (c .before .before .key .ensures) (c .before .if4 .taken))
+    refused 14
+    (definition-core (s o) (t o) (bytes o) (row o) (p o) es g (reference e es g) h _ (c .before .before .before .head .ensures) (c .before .before .if3 .left)
+    _ (c .before .key .ensures) (c .if4 .taken))
 
 returns-5 : tie.Need-returns-5
 returns-5 c = λ w floor q sc es h at names counted seen visible.
-    let e = c .before .before .before .before .before .before .before in
+    let e = c .before .before .before .before .before .before in
     let o = o e in
     let g = two o q es at in
-    refused 14 (c .refuse5 .ensures)
-    (definition-unknown (s o) (t o) (bytes o) (row o) (p o) es g (reference e es g) h _ (c .before .before .before .before .before .before .head .ensures) (c .before .before .before .before .before .if3 .left)
-    _ (c .before .before .before .before .key .ensures) (c .before .before .before .if4 .left)
-    (sym (c .before .before .associated .ensures (s o) (t o) (h .namespaces) names counted) ∙ not-true (c .before .before .associated .result) (c .before .if5 .taken)))
+    refused 14
+    (definition-unknown (s o) (t o) (bytes o) (row o) (p o) es g (reference e es g) h _ (c .before .before .before .before .before .head .ensures) (c .before .before .before .before .if3 .left)
+    _ (c .before .before .before .key .ensures) (c .before .before .if4 .left)
+    (sym (c .before .associated .ensures (s o) (t o) (h .namespaces) names counted) ∙ not-true (c .before .associated .result) (c .if5 .taken)))
 
 returns-6 : tie.Need-returns-6
 returns-6 c = λ w floor q sc es h at names counted seen visible.
-    let e = c .before .before .before .before .before .before .before .before in
+    let e = c .before .before .before .before .before .before .before in
     let o = o e in
     let g = two o q es at in
-    refused 19 (c .refuse6 .ensures)
-    (definition-full (s o) (t o) (bytes o) (row o) (p o) es g (reference e es g) h _ (c .before .before .before .before .before .before .before .head .ensures) (c .before .before .before .before .before .before .if3 .left)
-    _ (c .before .before .before .before .before .key .ensures) (c .before .before .before .before .if4 .left)
-    (sym (c .before .before .before .associated .ensures (s o) (t o) (h .namespaces) names counted) ∙ not-false (c .before .before .before .associated .result) (c .before .before .if5 .left)) (omega (arith, visible, c .before .if6 .taken)))
+    refused 19
+    (definition-full (s o) (t o) (bytes o) (row o) (p o) es g (reference e es g) h _ (c .before .before .before .before .before .before .head .ensures) (c .before .before .before .before .before .if3 .left)
+    _ (c .before .before .before .before .key .ensures) (c .before .before .before .if4 .left)
+    (sym (c .before .before .associated .ensures (s o) (t o) (h .namespaces) names counted) ∙ not-false (c .before .before .associated .result) (c .before .if5 .left)) (omega (arith, visible, c .if6 .taken)))
 
 returns-7 : tie.Need-returns-7
 returns-7 c = λ w floor q sc es h at names counted seen visible.
@@ -132,21 +132,15 @@ definition-spec =
     tie.close
     (tie.spec
     (λ c κs. search needs)
-    (λ c κs. search needs)
     returns
     kind-requires
-    (λ c κs. search needs)
     returns-2
     head-requires
-    (λ c κs. search needs)
     returns-3
     key-requires
-    (λ c κs. search needs)
     returns-4
     (λ c κs. search needs)
-    (λ c κs. search needs)
     returns-5
-    (λ c κs. search needs)
     returns-6
     returns-7
     returns-8)

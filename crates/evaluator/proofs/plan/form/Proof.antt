@@ -67,9 +67,6 @@ ns-requires c κs =
 define-requires : tie.Need-define-requires
 define-requires c κs = let start = c .before .before .before .before in (start .pre .0, counted start)
 
-refuse-requires : tie.Need-refuse-requires
-refuse-requires c κs = tt
-
 concat-requires : tie.Need-concat-requires
 concat-requires c κs = c .before .before .before .before .pre .0
 
@@ -113,7 +110,7 @@ returns-2 c = λ w floor top q es h at set.
 returns-3 : tie.Need-returns-3
 unfolding plan-form
 returns-3 c = λ w floor top q es h at set.
-    rw (c .refuse .ensures, as-word (c .before .before) q es at h subst (omega arith) (c .before .match .keys3)) (refuses 12)
+    rw (as-word (c .before) q es at h subst (omega arith) (c .match .keys3)) (refuses 12)
 
 returns-4 : tie.Need-returns-4
 unfolding plan-form
@@ -158,7 +155,6 @@ form-spec =
     head-requires
     ns-requires
     define-requires
-    refuse-requires
     concat-requires
     arg-requires
     rest-requires

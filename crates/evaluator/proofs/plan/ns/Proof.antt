@@ -35,10 +35,10 @@ module _ (c : tie.After-enum-told3) where
 
 returns : tie.Need-returns
 returns c = λ w floor q sc es h at word placed names counted.
-    let o = c .before .before .before .before in
-    refused 11 (c .refuse3 .ensures)
+    let o = c .before .before .before in
+    refused 11
     (ns-count (s o) (t o) (row o) es h (at-top o (h .place) placed)
-    (λ e. c .before .if1 .taken (ap (λ (x : Parts). x .count) (c .before .before .before .parts-of .ensures q es at) ∙ e)))
+    (λ e. c .if1 .taken (ap (λ (x : Parts). x .count) (c .before .before .parts-of .ensures q es at) ∙ e)))
 
 -- a head and two more
 module _ (c : tie.Else1) where
@@ -59,10 +59,10 @@ kind-requires c κs = let g = some-two c in node-whole (s (o c)) (t (o c)) (p c 
 
 returns-2 : tie.Need-returns-2
 returns-2 c = λ w floor q sc es h at word placed names counted.
-    let e = c .before .before .before in
+    let e = c .before .before in
     let o = o e in
-    refused 11 (c .refuse4 .ensures)
-    (ns-first (s o) (t o) (row o) es h (at-top o (h .place) placed) (p e) (two e q es at) (λ z. c .before .if2 .taken (c .before .before .kind .ensures ∙ z)))
+    refused 11
+    (ns-first (s o) (t o) (row o) es h (at-top o (h .place) placed) (p e) (two e q es at) (λ z. c .if2 .taken (c .before .kind .ensures ∙ z)))
 
 -- the first of them a reference
 module _ (c : tie.Else2) where
@@ -77,13 +77,13 @@ kind-requires-2 c κs = let g = some-two (e c) in node-whole (s (o (e c))) (t (o
 
 returns-3 : tie.Need-returns-3
 returns-3 c = λ w floor q sc es h at word placed names counted.
-    let f = c .before .before .before in
+    let f = c .before .before in
     let e = e f in
     let o = o e in
     let g = two e q es at in
     let r = reference f es g in
-    refused 11 (c .refuse5 .ensures)
-    (ns-second (s o) (t o) (row o) es h (at-top o (h .place) placed) (p e) g (r .marker) (r .name) (r .is) (λ z. c .before .if3 .taken (c .before .before .kind2 .ensures ∙ z)))
+    refused 11
+    (ns-second (s o) (t o) (row o) es h (at-top o (h .place) placed) (p e) g (r .marker) (r .name) (r .is) (λ z. c .if3 .taken (c .before .kind2 .ensures ∙ z)))
 
 -- the second an array
 module _ (c : tie.Else3) where
@@ -106,15 +106,15 @@ associate-requires c κs =
 
 returns-4 : tie.Need-returns-4
 returns-4 c = λ w floor q sc es h at word placed names counted.
-    let a = c .before .before .before .before .before .args in
-    refused 13 (c .refuse .ensures)
-    (ap (λ (p : Place). plan-ns p es h) (is-element (a .s .now) (a .table .now) (a .row) (a .stands) (h .place) placed (c .before .enum-told .given .1)))
+    let a = c .before .before .before .before .args in
+    refused 13
+    (ap (λ (p : Place). plan-ns p es h) (is-element (a .s .now) (a .table .now) (a .row) (a .stands) (h .place) placed (c .enum-told .given .1)))
 
 returns-5 : tie.Need-returns-5
 returns-5 c = λ w floor q sc es h at word placed names counted.
-    let a = c .before .before .before .before .before .args in
-    refused 13 (c .refuse2 .ensures)
-    (ap (λ (p : Place). plan-ns p es h) (is-inner (a .s .now) (a .table .now) (a .row) (a .stands) (h .place) placed (c .before .enum-told2 .given .1)))
+    let a = c .before .before .before .before .args in
+    refused 13
+    (ap (λ (p : Place). plan-ns p es h) (is-inner (a .s .now) (a .table .now) (a .row) (a .stands) (h .place) placed (c .enum-told2 .given .1)))
 
 returns-6 : tie.Need-returns-6
 returns-6 c = λ w floor q sc es h at word placed names counted.
@@ -134,18 +134,13 @@ ns-spec =
     tie.close
     (tie.spec
     (λ c. search needs)
-    (λ c κs. search needs)
     (λ c. search needs)
-    (λ c κs. search needs)
     (λ c. search needs)
-    (λ c κs. search needs)
     (λ c κs. search needs)
     returns
     kind-requires
-    (λ c κs. search needs)
     returns-2
     kind-requires-2
-    (λ c κs. search needs)
     returns-3
     associate-requires
     returns-4

@@ -4,6 +4,7 @@ use Prim.Native.Nat.{ℕ}
 use mathlib.Core.Path.{_≡_, sym, ap, _∙_}
 use mathlib.Core.List.{List}
 use native.Mathlib.Omega.{arith}
+use borrow.Author.Tests.{not-true, not-false}
 use Rattle.spec.specs.Expr.{ref}
 use Rattle.spec.specs.Nodes.{empty}
 use Rattle.spec.specs.Plan.{Scope, plan-atom}
@@ -41,17 +42,17 @@ module _ (c : tie.After-look-up) where
       let fit = fits k m n at in
       let looked : c .look-up .result ≡ find (k .key .result) sc = c .look-up .ensures in
       let found : find (key-of m n) sc ≡ f = ap (λ (x : ℕ). find x sc) (sym key) ∙ sym looked ∙ is in
-      let plans = plan-name (k .key .result) m n ds key fit (c .before .before .is-function .result) (c .before .before .is-function .ensures) in
-      rw (plans, c .before .if1 .left)
+      let name = c .before .before .is-function in
+      rw (plan-name (k .key .result) m n ds key fit (not-false _ (sym (name .ensures) ∙ c .before .if1 .left)))
       (reference-planned (a .s .now) (a .table .now) w floor sc (a .row) (ref m n) empty at
       (rw found at (answers (a .s .now) (a .table .now) w floor m n fit sc ds sh)))
 
 returns : tie.Need-returns
 returns c = λ w floor m n ds at sh.
-    let k = c .before .before .before in
-    let name = c .before .before .is-function in
-    let plans = plan-name (k .key .result) m n ds (k .key .ensures m n at) (fits k m n at) (name .result) (name .ensures) in
-    rw (c .refuse .ensures, plans, c .before .if1 .taken) (refuses 12)
+    let k = c .before .before in
+    let name = c .before .is-function in
+    let plans = plan-name (k .key .result) m n ds (k .key .ensures m n at) (fits k m n at) (not-true _ (sym (name .ensures) ∙ c .if1 .taken)) in
+    rw (plans) (refuses 12)
 
 look-up-requires : tie.Need-look-up-requires
 look-up-requires c κs =
@@ -65,7 +66,7 @@ returns-2 : tie.Need-returns-2
 returns-2 c = done (c .before .before .before) _ (c .before .from .given .1)
 
 returns-3 : tie.Need-returns-3
-returns-3 c = rw (c .refuse2 .ensures) (done (c .before .before .before) _ (c .before .enum-told .given .1))
+returns-3 c = (done (c .before .before) _ (c .enum-told .given .1))
 
 returns-4 : tie.Need-returns-4
 returns-4 c = done (c .before .before) _ (c .enum-told2 .given .1)
@@ -76,12 +77,10 @@ reference-spec =
     (tie.spec
     (λ c κs. search needs)
     (λ c κs. search needs)
-    (λ c κs. search needs)
     returns
     look-up-requires
     (λ c. search needs)
     (λ c. search needs)
-    (λ c κs. search needs)
     (λ c. search needs)
     returns-2
     returns-3

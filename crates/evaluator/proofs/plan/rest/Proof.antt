@@ -12,9 +12,9 @@ use Rattle.evaluator.proofs.plan.rest.Tie as tie
 
 returns : tie.Need-returns
 returns c = λ w floor top q sc es xs h l.
-    refused 11 (c .refuse .ensures)
-    (written-none (c .before .before .written .result) (λ n. plan-rest n xs) (expect-one es λ a. expect-int a λ n. plan-rest n xs) (c .before .if1 .taken)
-    (c .before .before .written .ensures q es (λ n. plan-rest n xs) h))
+    refused 11
+    (written-none (c .before .written .result) (λ n. plan-rest n xs) (expect-one es λ a. expect-int a λ n. plan-rest n xs) (c .if1 .taken)
+    (c .before .written .ensures q es (λ n. plan-rest n xs) h))
 
 -- a number is written
 module _ (c : tie.Else1) where
@@ -27,15 +27,15 @@ module _ (c : tie.Else1) where
 
 returns-2 : tie.Need-returns-2
 returns-2 c = λ w floor top q sc es xs h l.
-    refused 15 (c .refuse2 .ensures)
-    (number (c .before .before .before) q es xs h ∙ rest-outside w _ _ top xs _ l (c .before .if2 .taken))
+    refused 15
+    (number (c .before .before) q es xs h ∙ rest-outside w _ _ top xs _ l (c .if2 .taken))
 
 returns-3 : tie.Need-returns-3
 returns-3 c = λ w floor top q sc es xs h l.
-    let a = c .before .before .before .before .before .before .before .before .before .args in
-    let g = code-given w (a .args .now) (a .code) top xs l (c .before .before .before .if2 .left) in
-    refused 15 (c .refuse3 .ensures)
-    (number (c .before .before .before .before .before) q es xs h ∙ rest-none w (a .args .now) (a .code) xs g _ (c .before .if3 .taken))
+    let a = c .before .before .before .before .before .before .before .before .args in
+    let g = code-given w (a .args .now) (a .code) top xs l (c .before .before .if2 .left) in
+    refused 15
+    (number (c .before .before .before .before) q es xs h ∙ rest-none w (a .args .now) (a .code) xs g _ (c .if3 .taken))
 
 returns-4 : tie.Need-returns-4
 returns-4 c = λ w floor top q sc es xs h l.
@@ -58,11 +58,8 @@ rest-spec =
     tie.close
     (tie.spec
     (λ c κs. search needs)
-    (λ c κs. search needs)
     returns
-    (λ c κs. search needs)
     returns-2
-    (λ c κs. search needs)
     returns-3
     returns-4
     (λ c. search needs)

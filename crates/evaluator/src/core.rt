@@ -1,0 +1,55 @@
+// The names of the core namespace. Document 01: "Names of the core namespace, marker 0x20".
+ghost use mathlib.Core.Path.{_≡_};
+ghost use mathlib.Core.Bool.{not};
+ghost use Prim.Native.Nat.{_/_, _%_};
+ghost use Rattle.spec.specs.Nodes.{plain, is, word};
+
+// Each name as the key of its reference: the marker times 256, plus the name's byte.
+pub struct Core;
+
+impl Core {
+    pub const MARKER: u32 = 0x20;
+
+    // Plain names.
+    pub const VERSION: u32 = 0x2000;
+
+    pub const TRUE: u32 = 0x2001;
+
+    pub const FALSE: u32 = 0x2002;
+
+    // Function names.
+    pub const NS: u32 = 0x2006;
+
+    pub const DEFINE: u32 = 0x2009;
+
+    pub const CONCAT: u32 = 0x200A;
+
+    pub const SUBST: u32 = 0x200B;
+
+    pub const ARG: u32 = 0x200C;
+
+    pub const REST: u32 = 0x200D;
+
+    // Bytes of references.
+    pub const MARKER_BYTE: u8 = Core::MARKER as u8;
+
+    pub const NS_BYTE: u8 = (Core::NS % 256) as u8;
+
+    // Whether a key is no function name's, so that its reference stands for itself where nothing defines it.
+    pub fn is_plain(key: u32) -> bool
+        ensures { λ r. ⌜ r ≡ is (word (key / 256) (key % 256)) plain ⌝ }
+    {
+        match key {
+            Core::NS => false,
+            Core::DEFINE..=Core::REST => false,
+            _ => true,
+        }
+    }
+
+    // Whether a key is a function name's, which has no value of its own.
+    pub fn is_function(key: u32) -> bool
+        ensures { λ r. ⌜ r ≡ not (is (word (key / 256) (key % 256)) plain) ⌝ }
+    {
+        !Core::is_plain(key)
+    }
+}
