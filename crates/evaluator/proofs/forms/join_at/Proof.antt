@@ -42,7 +42,6 @@ join-at-spec =
     (λ c. search needs)
     (λ c. search needs)
     (λ c κs. search needs)
-    (λ c κs. search needs)
     returns
     put-head-requires
     (λ c κs. search needs)
