@@ -3,7 +3,6 @@
 use borrow.Author.Needs.{needs}
 use mathlib.Core.Path.{sym, _∙_}
 use native.Mathlib.Omega.{arith}
-use native.Mathlib.Numerals.{add-one}
 use Rattle.atoms.proofs.First.{first-nil, first-opening, first-closing, first-array, first-reserved, first-short, first-long, first-int, first-small}
 use Rattle.atoms.proofs.any_token.Statement.{statement}
 use Rattle.atoms.proofs.any_token.Tie as tie

@@ -13,11 +13,6 @@ use Rattle.atoms.proofs.Places.{array-int, array-one, array-two}
 use Rattle.atoms.proofs.array_at.Statement.{statement}
 use Rattle.atoms.proofs.array_at.Tie as tie
 
--- the array whose bytes these are
-by-bytes : (s : List ℕ) (at : ℕ) {r : Token} {x y : Taken (List ℕ)} → r ≡ shown-atom at (length s) (and-then x as-array) → x ≡ y
-    → r ≡ shown-atom at (length s) (and-then y as-array)
-by-bytes s at told is = told ∙ ap (λ (z : Taken (List ℕ)). shown-atom at (length s) (and-then z as-array)) is
-
 cast-bytes-at : tie.Need-cast-bytes-at
 cast-bytes-at c = omega (arith, c .shared-slice-known3 .given (c .before .before .before .before .before .args .at + 2))
 
@@ -34,13 +29,23 @@ add-bytes-at-6 : tie.Need-add-bytes-at-6
 add-bytes-at-6 c = let a = c .before .before .before .before .before .before .args in omega (arith, c .shared-slice-known5 .given (a .at + 2), c .shared-slice-known5 .given (a .at + 3))
 
 returns-2 : tie.Need-returns-2
-returns-2 c = by-bytes (c .before .before .before .before .before .before .args .s .now) (c .before .before .before .before .before .before .args .at) (c .bytes-at .ensures (c .before .before .before .before .before .before .args .at)) (array-one (c .before .before .before .before .before .before .args .s .now) (c .before .before .before .before .before .before .args .at) (λ i. c .before .before .before .shared-slice-known2 .given i .fits) (omega arith) (omega arith) (c .before .before .match .keys1))
+returns-2 c =
+    let a = c .before .before .before .before .before .before .args in
+    let known = c .before .before .before .shared-slice-known2 in
+    rw (array-one (a .s .now) (a .at) (λ i. known .given i .fits) (omega arith) (omega arith) (c .before .before .match .keys1)) at (c .bytes-at .ensures (a .at))
 
 returns-3 : tie.Need-returns-3
-returns-3 c = by-bytes (c .before .before .before .before .before .before .before .args .s .now) (c .before .before .before .before .before .before .before .args .at) (c .bytes-at2 .ensures (c .before .before .before .before .before .before .before .args .at)) (array-two (c .before .before .before .before .before .before .before .args .s .now) (c .before .before .before .before .before .before .before .args .at) (λ i. c .before .before .before .before .shared-slice-known2 .given i .fits) (omega arith) (omega arith) (c .before .before .before .match .keys2))
+returns-3 c =
+    let a = c .before .before .before .before .before .before .before .args in
+    let known = c .before .before .before .before .shared-slice-known2 in
+    rw (array-two (a .s .now) (a .at) (λ i. known .given i .fits) (omega arith) (omega arith) (c .before .before .before .match .keys2)) at (c .bytes-at2 .ensures (a .at))
 
 returns-4 : tie.Need-returns-4
-returns-4 c = by-bytes (c .before .before .before .before .before .before .before .args .s .now) (c .before .before .before .before .before .before .before .args .at) (c .bytes-at3 .ensures (c .before .before .before .before .before .before .before .args .at)) (array-int (c .before .before .before .before .before .before .before .args .s .now) (c .before .before .before .before .before .before .before .args .at) (λ i. c .before .before .before .before .shared-slice-known2 .given i .fits) (omega arith) (omega arith) (c .before .before .if2 .left) (c .before .if3 .taken))
+returns-4 c =
+    let a = c .before .before .before .before .before .before .before .args in
+    let known = c .before .before .before .before .shared-slice-known2 in
+    rw (array-int (a .s .now) (a .at) (λ i. known .given i .fits) (omega arith) (omega arith) (c .before .before .if2 .left) (c .before .if3 .taken))
+    at (c .bytes-at3 .ensures (a .at))
 
 pub array-at-spec : {M : Type 1} → statement M
 array-at-spec =
