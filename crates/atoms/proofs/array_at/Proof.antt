@@ -1,14 +1,8 @@
 -- `atoms::array_at` meets its contract: the bytes that a short length gives, and `any_array` for the others.
 -- Assumes nothing.
 use borrow.Author.Needs.{needs}
-use Prim.Native.Nat.{ℕ, _+_}
-use mathlib.Core.Path.{_≡_, ap, _∙_}
-use mathlib.Core.List.{List}
+use Prim.Native.Nat.{_+_}
 use native.Mathlib.Omega.{arith}
-use lib.ListN.{length}
-use Rattle.spec.specs.Reading.{Taken, and-then, as-array}
-use Rattle.atoms.specs.Tokens.{shown-atom}
-use Rattle.atoms.specs.declared.Token.{Token}
 use Rattle.atoms.proofs.Places.{array-int, array-one, array-two}
 use Rattle.atoms.proofs.array_at.Statement.{statement}
 use Rattle.atoms.proofs.array_at.Tie as tie

@@ -4,10 +4,8 @@ use Prim.Native.Nat.{ℕ, suc, _+_, _*_, _-_, _≤_}
 use mathlib.Core.Path.{_≡_, sym, ap, _∙_}
 use native.Mathlib.Omega.{arith}
 use native.Mathlib.Numerals.{add-one}
-use mathlib.Core.List.{List}
 use lib.ListN.{length, drop}
-use Rattle.spec.specs.Reading.{Taken, and-then, marker, name}
-use Rattle.atoms.specs.Tokens.{shown-atom}
+use Rattle.spec.specs.Reading.{marker}
 use Rattle.atoms.specs.declared.Token.the-variants.{Bad}
 use Rattle.atoms.proofs.Places.{marker-end, marker-more, marker-last}
 use Rattle.atoms.proofs.long_reference.Statement.{statement}
@@ -28,17 +26,10 @@ cast-sum c = omega (arith, c .shared-slice-known2 .given (c .before .before .loo
 add-sum : tie.Need-add-sum Inv-loop μ-loop
 add-sum c = omega (arith, c .shared-slice-known2 .given (c .before .before .loop .p))
 
--- the marker is told, so what follows is the name
-named : (s : List ℕ) (at : ℕ) (x : Taken ℕ) → marker 0x7F (drop (suc at) s) ≡ x
-    → shown-atom at (length s) (and-then (marker 0x7F (drop (suc at) s)) (name (drop at s))) ≡ shown-atom at (length s) (and-then x (name (drop at s)))
-named s at x e = ap (λ (y : Taken ℕ). shown-atom at (length s) (and-then y (name (drop at s)))) e
-
 returns : tie.Need-returns Inv-loop μ-loop
 returns c =
-    let a = c .before .before .before .before .before .before .args in
     let l = c .before .before .before .before .loop in
-    let s = a .s .now in
-    c .reference .ensures ∙ sym (named s (a .at) _ (l .inv .2 ∙ marker-last s (l .p) (l .sum) (omega arith) (c .before .if1 .taken)))
+    rw (l .inv .2 ∙ marker-last _ (l .p) (l .sum) (omega arith) (c .before .if1 .taken)) (c .reference .ensures)
 
 loop-again : tie.Need-loop-again Inv-loop μ-loop
 loop-again c =
@@ -50,11 +41,7 @@ loop-again c =
     )
 
 returns-2 : tie.Need-returns-2 Inv-loop μ-loop
-returns-2 c =
-    let a = c .before .before .before .args in
-    let l = c .before .loop in
-    let s = a .s .now in
-    sym (named s (a .at) _ (l .inv .2 ∙ marker-end s (l .p) (l .sum) (omega arith)) ∙ ap (Bad 2) (omega arith))
+returns-2 c = let l = c .before .loop in rw (l .inv .2 ∙ marker-end _ (l .p) (l .sum) (omega arith)) (ap (Bad 2) (omega arith))
 
 pub long-reference-spec : {M : Type 1} → statement M
 long-reference-spec =
