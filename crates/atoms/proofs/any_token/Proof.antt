@@ -7,10 +7,6 @@ use Rattle.atoms.proofs.First.{first-nil, first-opening, first-closing,
 use Rattle.atoms.proofs.any_token.Statement.{statement}
 use Rattle.atoms.proofs.any_token.Tie as tie
 
-cast-bytes-at : tie.Need-cast-bytes-at
-cast-bytes-at c =
-    omega (arith, c .before .before .before .before .shared-slice-known2 .given (c .before .before .before .before .before .before .args .at))
-
 returns : tie.Need-returns
 returns c = let a = c .before .before .before .args in sym (first-nil (a .s .now) (a .at) (omega arith) (c .match .keys1))
 
@@ -64,7 +60,7 @@ any-token-spec =
     (λ c κs. search needs)
     (λ c. search needs)
     (λ c. search needs)
-    cast-bytes-at
+    (λ c. omega (arith, c .before .before .before .before .shared-slice-known2 .given (c .before .before .before .before .before .before .args .at)))
     (λ c κs. search needs)
     returns
     returns-2

@@ -7,20 +7,9 @@ use Rattle.atoms.proofs.Places.{array-int, array-one, array-two}
 use Rattle.atoms.proofs.array_at.Statement.{statement}
 use Rattle.atoms.proofs.array_at.Tie as tie
 
-cast-bytes-at : tie.Need-cast-bytes-at
-cast-bytes-at c = omega (arith, c .shared-slice-known3 .given (c .before .before .before .before .before .args .at + 2))
-
-cast-bytes-at-2 : tie.Need-cast-bytes-at-2
-cast-bytes-at-2 c = omega (arith, c .shared-slice-known4 .given (c .before .before .before .before .before .args .at + 2))
-
-mul-bytes-at : tie.Need-mul-bytes-at
-mul-bytes-at c = omega (arith, c .shared-slice-known4 .given (c .before .before .before .before .before .args .at + 2))
-
-cast-bytes-at-3 : tie.Need-cast-bytes-at-3
-cast-bytes-at-3 c = omega (arith, c .shared-slice-known5 .given (c .before .before .before .before .before .before .args .at + 3))
-
 add-bytes-at-6 : tie.Need-add-bytes-at-6
-add-bytes-at-6 c = let a = c .before .before .before .before .before .before .args in omega (arith, c .shared-slice-known5 .given (a .at + 2), c .shared-slice-known5 .given (a .at + 3))
+add-bytes-at-6 c = let a = c .before .before .before .before .before .before .args in
+    omega (arith, c .shared-slice-known5 .given (a .at + 2), c .shared-slice-known5 .given (a .at + 3))
 
 returns-2 : tie.Need-returns-2
 returns-2 c =
@@ -53,16 +42,16 @@ array-at-spec =
     (λ c. search needs)
     (λ c. search needs)
     (λ c. search needs)
-    cast-bytes-at
+    (λ c. omega (arith, c .shared-slice-known3 .given (c .before .before .before .before .before .args .at + 2)))
     (λ c κs. search needs)
     (λ c. search needs)
     (λ c. search needs)
     (λ c. search needs)
-    cast-bytes-at-2
-    mul-bytes-at
+    (λ c. omega (arith, c .shared-slice-known4 .given (c .before .before .before .before .before .args .at + 2)))
+    (λ c. omega (arith, c .shared-slice-known4 .given (c .before .before .before .before .before .args .at + 2)))
     (λ c. search needs)
     (λ c. search needs)
-    cast-bytes-at-3
+    (λ c. omega (arith, c .shared-slice-known5 .given (c .before .before .before .before .before .before .args .at + 3)))
     add-bytes-at-6
     (λ c κs. search needs)
     (λ c. search needs)

@@ -20,12 +20,6 @@ abbrev μ-loop : tie.MeasureT-loop
 loop-holds : tie.Need-loop-holds Inv-loop μ-loop
 loop-holds c = (omega arith, omega arith, ap (λ (p : ℕ). marker 0x7F (drop p (c .before .args .s .now))) (sym (add-one (c .before .args .at))))
 
-cast-sum : tie.Need-cast-sum Inv-loop μ-loop
-cast-sum c = omega (arith, c .shared-slice-known2 .given (c .before .before .loop .p))
-
-add-sum : tie.Need-add-sum Inv-loop μ-loop
-add-sum c = omega (arith, c .shared-slice-known2 .given (c .before .before .loop .p))
-
 returns : tie.Need-returns Inv-loop μ-loop
 returns c =
     let l = c .before .before .before .before .loop in
@@ -52,8 +46,8 @@ long-reference-spec =
     (λ c. omega arith)
     loop-holds
     (λ c. omega arith)
-    cast-sum
-    add-sum
+    (λ c. omega (arith, c .shared-slice-known2 .given (c .before .before .loop .p)))
+    (λ c. omega (arith, c .shared-slice-known2 .given (c .before .before .loop .p)))
     (λ c. omega arith)
     (λ c κs. omega arith)
     returns

@@ -22,9 +22,6 @@ returns-4 c = let a = c .before .before .before .before .before .before .args in
 returns-5 : tie.Need-returns-5
 returns-5 c = let a = c .before .before .before .before .before .before .before .args in sym (first-int (a .s .now) (a .at) (omega arith) (c .before .if4 .left) (c .if5 .taken))
 
-cast-size : tie.Need-cast-size
-cast-size c = omega (arith, c .before .before .before .before .before .shared-slice-known2 .given (c .before .before .before .before .before .before .before .args .at))
-
 returns-6 : tie.Need-returns-6
 returns-6 c = let a = c .before .before .before .before .before .before .before .before .args in sym (small-whole (a .s .now) (a .at) (omega arith) (c .before .if5 .left) (c .if6 .taken))
 
@@ -42,7 +39,7 @@ token-at-spec =
     returns-4
     (λ c. search needs)
     returns-5
-    cast-size
+    (λ c. omega (arith, c .before .before .before .before .before .shared-slice-known2 .given (c .before .before .before .before .before .before .before .args .at)))
     (λ c. search needs)
     (λ c. search needs)
     (λ c. search needs)
