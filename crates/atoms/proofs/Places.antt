@@ -44,6 +44,16 @@ measured-wrong s w p h = ap (Wrong w) (left-at s p h)
 measured-short : (s : List ℕ) → measured (length s) (failed 2 []) ≡ Wrong 2 (length s)
 measured-short s = ap (Wrong 2) (omega arith)
 
+-- so many bytes from a place on, which are there or in which the stream ends
+module _ (s : List ℕ) (p n : ℕ) where
+  take-there : p ≤ length s → n ≤ length s - p → take-bytes n (drop p s) ≡ taken (take n (drop p s)) (drop (p + n) s)
+  unfolding take-bytes
+  take-there h l = let left = length-drop p s in rw (le-leb n (length (drop p s)) (omega arith), drop-drop n p s)
+
+  take-short : length s - p < n → take-bytes n (drop p s) ≡ failed 2 []
+  unfolding take-bytes
+  take-short l = let left = length-drop p s in rw (lt-leb n (length (drop p s)) (omega arith))
+
 -- Numbers, held at 65,537
 
 natural-grows : (n : ℕ) (s : List ℕ) → n ≤ natural n s
@@ -51,14 +61,10 @@ unfolding natural
 natural-grows n [] = le-refl n
 natural-grows n (b ∷ s) = omega (arith, natural-grows (n * 256 + b) s)
 
--- the bytes from a place up to another: the first, and the others
-bytes-step : (s : List ℕ) (i to : ℕ) → i < to → to ≤ length s → take (to - i) (drop i s) ≡ getD s i 0 ∷ take (to - (i + 1)) (drop (i + 1) s)
-bytes-step s i to h l = let more : to - i ≡ suc (to - (i + 1)) = omega arith in rw (more, first-left s i (omega arith))
-
 pub natural-step : (s : List ℕ) (n i to : ℕ) → i < to → to ≤ length s
     → natural n (take (to - i) (drop i s)) ≡ natural (n * 256 + getD s i 0) (take (to - (i + 1)) (drop (i + 1) s))
 unfolding natural
-natural-step s n i to h l = rw (bytes-step s i to h l)
+natural-step s n i to h l = let more : to - i ≡ suc (to - (i + 1)) = omega arith in rw (more, first-left s i (omega arith))
 
 pub natural-end : (s : List ℕ) (n i to : ℕ) → i ≡ to → natural n (take (to - i) (drop i s)) ≡ n
 unfolding natural
@@ -115,18 +121,12 @@ module _ (s : List ℕ) (k v p : ℕ) (short : length s ≤ 65536) (inside : p �
   pub around-whole : 0 < k → v ≤ length s - p
       → measured (length s) (around k (taken v (drop p s)))
       ≡ measured (length s) (around (k - 1) (taken (min (natural 0 (take v (drop p s))) 65537) (drop (p + v) s)))
-  unfolding take-bytes
   around-whole h l =
-      let left = length-drop p s in
       let behind = length-drop (p + v) s in
-      rw (inner-first h, le-leb v (length (drop p s)) (omega arith), drop-drop v p s)
-      (around-held (k - 1) (natural 0 (take v (drop p s))) (drop (p + v) s) (length s) (omega arith))
+      rw (inner-first h, take-there s p v inside l) (around-held (k - 1) (natural 0 (take v (drop p s))) (drop (p + v) s) (length s) (omega arith))
 
   pub around-short : 0 < k → length s - p < v → measured (length s) (around k (taken v (drop p s))) ≡ Wrong 2 (length s)
-  unfolding take-bytes
-  around-short h l =
-      let left = length-drop p s in
-      rw (inner-first h, lt-leb v (length (drop p s)) (omega arith), around-failed (k - 1) 2 []) (measured-short s)
+  around-short h l = rw (inner-first h, take-short s p v l, around-failed (k - 1) 2 []) (measured-short s)
 
   pub around-none : k ≡ 0 → v ≤ 65537 → measured (length s) (around k (taken v (drop p s))) ≡ Is v p
   unfolding around
@@ -157,18 +157,14 @@ module _ (s : List ℕ) (p : ℕ) where
       plain-bytes = rw (here, le-ltb (getD s p 0) 0x80 (omega arith), le-ltb (getD s p 0) 0xC0 array-byte)
 
       pub plain-short : length s - (p + 1) < getD s p 0 - 0xC0 → measured (length s) (plain (drop p s)) ≡ Wrong 2 (length s)
-      unfolding take-bytes
-      plain-short l =
-          let left = length-drop (p + 1) s in rw (plain-bytes, lt-leb (getD s p 0 - 0xC0) (length (drop (p + 1) s)) (omega arith)) (measured-short s)
+      plain-short l = rw (plain-bytes, take-short s (p + 1) (getD s p 0 - 0xC0) l) (measured-short s)
 
       pub plain-array : (e : ℕ) → e ≡ p + 1 + (getD s p 0 - 0xC0) → e ≤ length s
           → measured (length s) (plain (drop p s)) ≡ Is (min (natural 0 (take (e - (p + 1)) (drop (p + 1) s))) 65537) e
-      unfolding take-bytes
       plain-array e h l =
-          let left = length-drop (p + 1) s in
           let size : getD s p 0 - 0xC0 ≡ e - (p + 1) = omega arith in
           let end : p + 1 + (e - (p + 1)) ≡ e = omega arith in
-          rw (plain-bytes, size, le-leb (e - (p + 1)) (length (drop (p + 1) s)) (omega arith), drop-drop (e - (p + 1)) (p + 1) s, end)
+          rw (plain-bytes, size, take-there s (p + 1) (e - (p + 1)) (omega arith) (omega arith), end)
           (measured-is s (natural 0 (take (e - (p + 1)) (drop (p + 1) s))) e l)
 
 -- bytes 03 in a row, from place to place
@@ -356,19 +352,14 @@ module _ (s : List ℕ) (p : ℕ) where
   -- an array whose bytes begin at a place
   pub shown-array : (body size : ℕ) → body ≤ length s → size ≤ length s - body
       → shown-atom p (length s) (and-then (take-bytes size (drop body s)) as-array) ≡ Whole 2 body (body + size)
-  unfolding take-bytes
   shown-array body size h k =
-      let left = length-drop body s in
-      let last : length s - length (drop size (drop body s)) ≡ body + size = simp length-drop (omega arith) in
-      let whole-size : length (take size (drop body s)) ≡ size = simp (length-take, length-drop) (omega arith) in
+      let bytes : length (take size (drop body s)) ≡ size = simp (length-take, length-drop) (omega arith) in
       let first : body + size - size ≡ body = omega arith in
-      rw (le-leb size (length (drop body s)) (omega arith), last, whole-size, first)
+      rw (take-there s body size h k, left-at s (body + size) (omega arith), bytes, first)
 
-  pub shown-short : (body size : ℕ) → body ≤ length s → length s - body < size
+  pub shown-short : (body size : ℕ) → length s - body < size
       → shown-atom p (length s) (and-then (take-bytes size (drop body s)) as-array) ≡ Bad 2 (length s)
-  unfolding take-bytes
-  shown-short body size h k =
-      let left = length-drop body s in rw (lt-leb size (length (drop body s)) (omega arith)) (ap (Bad 2) (omega arith))
+  shown-short body size k = rw (take-short s body size k) (ap (Bad 2) (omega arith))
 
   -- a reference at p whose marker is m, with the name byte at q
   module _ (m q : ℕ) where
