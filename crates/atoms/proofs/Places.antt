@@ -20,7 +20,7 @@ use Rattle.laws.specs.Grammar.{SpellsLength}
 use Rattle.laws.proofs.Basics.{impossible}
 use Rattle.laws.proofs.Fits.{bytes-drop}
 use Rattle.laws.proofs.Spelling.{SplitOff, plain-taken, length-taken}
-use Rattle.laws.proofs.Steps.{all-bytes, none-left, split-size, split-rest}
+use Rattle.laws.proofs.Steps.{none-left, split-size, split-rest}
 use Rattle.atoms.specs.Tokens.{measured, leading-threes, plain, around, shown-atom}
 use Rattle.atoms.specs.declared.Length.the-variants.{Is, Wrong}
 use Rattle.atoms.specs.declared.Token.the-variants.{Whole, Bad}
@@ -72,11 +72,8 @@ natural-end s n i to h = let none : to - i ≡ 0 = omega arith in rw none
 
 -- what holds of a number that is held, by whether it is
 by-held : (P : ℕ → Type 0) (n : ℕ) → (65537 ≤ n → P 65537) → (n < 65537 → P n) → P (min n 65537)
-by-held P n large small = go (eq-or-lt-of-le held)
+by-held P n large small = go (eq-or-lt-of-le (omega arith))
   where
-    held : min n 65537 ≤ 65537
-    held = omega arith
-
     go : (min n 65537 ≡ 65537) ⊎ (min n 65537 < 65537) → P (min n 65537)
     go (inl e) = rw e (large (omega arith))
     go (inr h) = let e : min n 65537 ≡ n = omega arith in rw e (small (omega arith))
@@ -145,11 +142,14 @@ module _ (s : List ℕ) (p : ℕ) where
     unfolding plain-length
     plain-wrong h = let left = length-drop (p + 1) s in rw (here, lt-ltb (getD s p 0) 0x80 h) (ap (Wrong 5) (omega arith))
 
-    pub plain-int : 0x80 ≤ getD s p 0 → getD s p 0 < 0xC0 → measured (length s) (plain (drop p s)) ≡ Is (getD s p 0 - 0x80) (p + 1)
+    plain-small : 0x80 ≤ getD s p 0 → getD s p 0 < 0xC0 → plain (drop p s) ≡ taken (getD s p 0 - 0x80) (drop (p + 1) s)
     unfolding plain-length
+    plain-small h l = rw (here, le-ltb (getD s p 0) 0x80 h, lt-ltb (getD s p 0) 0xC0 l)
+
+    pub plain-int : 0x80 ≤ getD s p 0 → getD s p 0 < 0xC0 → measured (length s) (plain (drop p s)) ≡ Is (getD s p 0 - 0x80) (p + 1)
     plain-int h l =
         let held : min (getD s p 0 - 0x80) 65537 ≡ getD s p 0 - 0x80 = omega arith in
-        rw (here, le-ltb (getD s p 0) 0x80 h, lt-ltb (getD s p 0) 0xC0 l, held) (ap (Is (getD s p 0 - 0x80)) (left-at s (p + 1) (omega arith)))
+        rw (plain-small h l, held) (ap (Is (getD s p 0 - 0x80)) (left-at s (p + 1) (omega arith)))
 
     module _ (array-byte : 0xC0 ≤ getD s p 0) where
       plain-bytes : plain (drop p s) ≡ and-then (take-bytes (getD s p 0 - 0xC0) (drop (p + 1) s)) as-length
@@ -279,47 +279,36 @@ told-bytes s v e x h t =
     ∙ sym (ap (λ (y : Taken ℕ). and-then y take-bytes) (t .is))
 
 -- the bytes of a generic array whose 03 is at a place, by the length behind it: a small integer, or one or two bytes
-module _ (s : List ℕ) (at : ℕ) (bytes : (i : ℕ) → getD s i 0 < 256) (most : length s ≤ 65536) (inside : at + 3 < length s) where
-  by-plain : (v e : ℕ) → (getD s (at + 1) 0 ≡ 0x03 → ⊥) → measured (length s) (plain (drop (at + 1) s)) ≡ Is v e
-      → take-bytes v (drop e s) ≡ and-then (length-expr 7 (drop (suc at) s)) take-bytes
-  unfolding around
-  by-plain v e other m =
-      let is = behind-threes s (at + 1) 0 (omega arith) (sym (threes-other s (at + 1) 8 (omega arith) other)) (λ q. omega arith) .is in
-      let here : at + 1 + 0 ≡ at + 1 = omega arith in
-      rw (← add-one at)
-      (told-bytes s v e (length-expr 7 (drop (at + 1) s)) most
-      (told-length s (at + 1) v e (all-bytes s bytes) (omega arith) (ap (measured (length s)) is ∙ rw here m)))
+module _ (s : List ℕ) (at : ℕ) (inside : at + 3 < length s) where
+  abbrev Gives : ℕ → ℕ → Type 0
+  Gives size e = take-bytes size (drop e s) ≡ and-then (length-expr 7 (drop (suc at) s)) take-bytes
 
-  pub array-int : 0x80 ≤ getD s (at + 1) 0 → getD s (at + 1) 0 < 0xC0
-      → take-bytes (getD s (at + 1) 0 - 0x80) (drop (at + 2) s) ≡ and-then (length-expr 7 (drop (suc at) s)) take-bytes
+  no-array : (getD s (at + 1) 0 ≡ 0x03 → ⊥) → length-expr 7 (drop (suc at) s) ≡ plain (drop (at + 1) s)
+  unfolding length-expr
+  no-array other = rw (← add-one at, first-left s (at + 1) (omega arith), ne-eqb (getD s (at + 1) 0) 0x03 other)
+
+  pub array-int : 0x80 ≤ getD s (at + 1) 0 → getD s (at + 1) 0 < 0xC0 → Gives (getD s (at + 1) 0 - 0x80) (at + 2)
   array-int h l =
-      by-plain _ (at + 2) (λ q. omega arith) (plain-int s (at + 1) (omega arith) h l ∙ ap (Is (getD s (at + 1) 0 - 0x80)) (omega arith))
+      let two : at + 1 + 1 ≡ at + 2 = omega arith in rw (no-array (λ q. omega arith), plain-small s (at + 1) (omega arith) h l, two)
 
   -- behind a byte C1 or C2, the number of the bytes that follow
-  of-bytes : (e n : ℕ) → 0xC0 ≤ getD s (at + 1) 0 → e ≡ at + 2 + (getD s (at + 1) 0 - 0xC0) → e ≤ length s → n < 65536
-      → natural 0 (take (e - (at + 2)) (drop (at + 2) s)) ≡ n
-      → take-bytes n (drop e s) ≡ and-then (length-expr 7 (drop (suc at) s)) take-bytes
-  of-bytes e n h end l small is =
+  of-bytes : (n v e : ℕ) → getD s (at + 1) 0 ≡ 0xC0 + n → e ≡ at + 2 + n → e ≤ length s → natural 0 (take n (drop (at + 2) s)) ≡ v → Gives v e
+  of-bytes n v e h end l is =
+      let size : getD s (at + 1) 0 - 0xC0 ≡ n = omega arith in
       let two : at + 1 + 1 ≡ at + 2 = omega arith in
-      let held : min n 65537 ≡ n = omega arith in
-      by-plain n e (λ q. omega arith) (plain-array s (at + 1) (omega arith) h e (omega arith) l ∙ rw (two, is, held))
+      rw (no-array (λ q. omega arith), plain-bytes s (at + 1) (omega arith) (omega arith), size, two, take-there s (at + 2) n (omega arith) (omega arith), is, ← end)
 
-  pub array-one : getD s (at + 1) 0 ≡ 0xC1 → take-bytes (getD s (at + 2) 0) (drop (at + 3) s) ≡ and-then (length-expr 7 (drop (suc at) s)) take-bytes
+  pub array-one : getD s (at + 1) 0 ≡ 0xC1 → Gives (getD s (at + 2) 0) (at + 3)
   unfolding natural
   array-one h =
-      let size : at + 3 - (at + 2) ≡ 1 = omega arith in
-      of-bytes (at + 3) (getD s (at + 2) 0) (omega arith) (omega arith) (omega arith) (omega (arith, bytes (at + 2)))
-      (rw (size, first-left s (at + 2) (omega arith)) (omega arith))
+      of-bytes 1 (getD s (at + 2) 0) (at + 3) (omega arith) (omega arith) (omega arith) (rw (first-left s (at + 2) (omega arith)) (omega arith))
 
-  pub array-two : getD s (at + 1) 0 ≡ 0xC2
-      → take-bytes (getD s (at + 2) 0 * 256 + getD s (at + 3) 0) (drop (at + 4) s) ≡ and-then (length-expr 7 (drop (suc at) s)) take-bytes
+  pub array-two : getD s (at + 1) 0 ≡ 0xC2 → Gives (getD s (at + 2) 0 * 256 + getD s (at + 3) 0) (at + 4)
   unfolding natural
   array-two h =
-      let size : at + 4 - (at + 2) ≡ 2 = omega arith in
       let next : at + 2 + 1 ≡ at + 3 = omega arith in
-      of-bytes (at + 4) (getD s (at + 2) 0 * 256 + getD s (at + 3) 0) (omega arith) (omega arith) (omega arith)
-      (omega (arith, bytes (at + 2), bytes (at + 3)))
-      (rw (size, first-left s (at + 2) (omega arith), next, first-left s (at + 3) (omega arith)) (omega arith))
+      of-bytes 2 (getD s (at + 2) 0 * 256 + getD s (at + 3) 0) (at + 4) (omega arith) (omega arith) (omega arith)
+      (rw (first-left s (at + 2) (omega arith), next, first-left s (at + 3) (omega arith)) (omega arith))
 
 -- a length that is wrong is wrong for what stands around it
 pub around-wrong : (end k : ℕ) (x : Taken ℕ) (w p : ℕ) → measured end x ≡ Wrong w p → measured end (around k x) ≡ Wrong w p

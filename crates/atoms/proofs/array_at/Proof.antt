@@ -14,21 +14,17 @@ add-bytes-at-6 c = let a = c .before .before .before .before .before .before .ar
 returns-2 : tie.Need-returns-2
 returns-2 c =
     let a = c .before .before .before .before .before .before .args in
-    let known = c .before .before .before .shared-slice-known2 in
-    rw (array-one (a .s .now) (a .at) (λ i. known .given i .fits) (omega arith) (omega arith) (c .before .before .match .keys1)) at (c .bytes-at .ensures (a .at))
+    rw (array-one (a .s .now) (a .at) (omega arith) (c .before .before .match .keys1)) at (c .bytes-at .ensures (a .at))
 
 returns-3 : tie.Need-returns-3
 returns-3 c =
     let a = c .before .before .before .before .before .before .before .args in
-    let known = c .before .before .before .before .shared-slice-known2 in
-    rw (array-two (a .s .now) (a .at) (λ i. known .given i .fits) (omega arith) (omega arith) (c .before .before .before .match .keys2)) at (c .bytes-at2 .ensures (a .at))
+    rw (array-two (a .s .now) (a .at) (omega arith) (c .before .before .before .match .keys2)) at (c .bytes-at2 .ensures (a .at))
 
 returns-4 : tie.Need-returns-4
 returns-4 c =
     let a = c .before .before .before .before .before .before .before .args in
-    let known = c .before .before .before .before .shared-slice-known2 in
-    rw (array-int (a .s .now) (a .at) (λ i. known .given i .fits) (omega arith) (omega arith) (c .before .before .if2 .left) (c .before .if3 .taken))
-    at (c .bytes-at3 .ensures (a .at))
+    rw (array-int (a .s .now) (a .at) (omega arith) (c .before .before .if2 .left) (c .before .if3 .taken)) at (c .bytes-at3 .ensures (a .at))
 
 pub array-at-spec : {M : Type 1} → statement M
 array-at-spec =
