@@ -1,111 +1,93 @@
 -- The token at a place by its first byte, as the code gives it: document 01's table of first bytes. Assumes nothing.
 use Prim.Native.Nat.{ℕ, suc, _+_, _-_, _≤_, _<_}
 use mathlib.Core.Path.{_≡_, ap, _∙_}
-use mathlib.Core.List.{List, _∷_}
+use mathlib.Core.List.{List}
+use mathlib.Core.Bool.{false}
 use native.Mathlib.Omega.{arith}
 use native.Mathlib.Numerals.{add-one}
 use lib.ListN.{length, drop, getD, length-drop}
 use lib.Seq.{drop-cons}
-use lib.Dec.{ltb}
+use lib.Dec.{ltb, eqb}
 use borrow.Author.Tests.{lt-ltb, le-ltb, ne-eqb}
 use Rattle.spec.specs.Expr.{if_then_else_, int}
 use Rattle.spec.specs.Reading.{taken, and-then, take-bytes, length-expr, marker, name, as-array, read-atom, token}
 use Rattle.atoms.specs.Tokens.{token-at, shown, shown-atom}
+use Rattle.atoms.specs.declared.Token.{Token}
 use Rattle.atoms.specs.declared.Token.the-variants.{Opening, Closing, Whole, Bad}
 use Rattle.atoms.proofs.Places.{left-at, shown-array, shown-reference}
 
 module _ (s : List ℕ) (p : ℕ) (inside : p < length s) where
-  pub first-opening : getD s p 0 ≡ 0x01 → shown (token-at s p) ≡ Opening
+  abbrev byte : ℕ
+  byte = getD s p 0
+
+  abbrev told : Token
+  told = shown (token-at s p)
+
+  pub first-opening : byte ≡ 0x01 → told ≡ Opening
   unfolding token
   first-opening h = rw h
 
-  pub first-closing : getD s p 0 ≡ 0x02 → shown (token-at s p) ≡ Closing
+  pub first-closing : byte ≡ 0x02 → told ≡ Closing
   unfolding token
   first-closing h = rw h
 
   -- any other byte begins an atom
-  as-atom : (getD s p 0 ≡ 0x01 → ⊥) → (getD s p 0 ≡ 0x02 → ⊥)
-      → shown (token-at s p) ≡ shown-atom p (length s) (read-atom (getD s p 0) (drop (suc p) s))
+  as-atom : (byte ≡ 0x01 → ⊥) → (byte ≡ 0x02 → ⊥) → told ≡ shown-atom p (length s) (read-atom byte (drop (suc p) s))
   unfolding token
   as-atom m n =
       let size = length-drop (suc p) s in
       let end : p + 1 + length (drop (suc p) s) ≡ length s = omega arith in
-      rw (ne-eqb (getD s p 0) 0x01 m, ne-eqb (getD s p 0) 0x02 n, end)
+      rw (ne-eqb byte 0x01 m, ne-eqb byte 0x02 n, end)
 
   one-byte : length s - length (drop (suc p) s) ≡ p + 1
   one-byte = rw (← add-one p) (left-at s (p + 1) (omega arith))
 
-  here : drop p s ≡ getD s p 0 ∷ drop (suc p) s
-  here = drop-cons s p 0 inside
-
-  pub first-nil : getD s p 0 ≡ 0x00 → shown (token-at s p) ≡ Whole 0 p (p + 1)
+  pub first-nil : byte ≡ 0x00 → told ≡ Whole 0 p (p + 1)
   unfolding read-atom
   first-nil h = as-atom (λ e. omega arith) (λ e. omega arith) ∙ rw (h, one-byte)
 
-  pub first-array : getD s p 0 ≡ 0x03
-      → shown (token-at s p) ≡ shown-atom p (length s) (and-then (and-then (length-expr 7 (drop (suc p) s)) take-bytes) as-array)
+  pub first-array : byte ≡ 0x03 → told ≡ shown-atom p (length s) (and-then (and-then (length-expr 7 (drop (suc p) s)) take-bytes) as-array)
   unfolding read-atom
   first-array h = as-atom (λ e. omega arith) (λ e. omega arith) ∙ rw h
 
-  pub first-long : getD s p 0 ≡ 0x7F → shown (token-at s p) ≡ shown-atom p (length s) (and-then (marker 0x7F (drop (suc p) s)) (name (drop p s)))
+  pub first-long : byte ≡ 0x7F → told ≡ shown-atom p (length s) (and-then (marker 0x7F (drop (suc p) s)) (name (drop p s)))
   unfolding read-atom
-  first-long h = as-atom (λ e. omega arith) (λ e. omega arith) ∙ rw (here, h)
+  first-long h = as-atom (λ e. omega arith) (λ e. omega arith) ∙ rw (drop-cons s p 0 inside, h)
 
-  module _ (no-nil : getD s p 0 ≡ 0x00 → ⊥) (no-array : getD s p 0 ≡ 0x03 → ⊥) (no-opening : getD s p 0 ≡ 0x01 → ⊥) (no-closing : getD s p 0 ≡ 0x02 → ⊥) where
-    pub first-reserved : getD s p 0 < 0x10 → shown (token-at s p) ≡ Bad 4 p
-    unfolding read-atom
-    first-reserved h =
-        let place : length s - suc (length (drop (suc p) s)) ≡ p = omega (arith, length-drop (suc p) s) in
-        as-atom no-opening no-closing
-        ∙ rw (ne-eqb (getD s p 0) 0x00 no-nil, ne-eqb (getD s p 0) 0x03 no-array, lt-ltb (getD s p 0) 0x10 h, place)
+  -- what the tests for a single byte say of one above it
+  other : (k : ℕ) → k < byte → eqb byte k ≡ false
+  other k h = ne-eqb byte k (λ e. omega arith)
 
-    module _ (above : 0x10 ≤ getD s p 0) where
-      pub first-short : getD s p 0 < 0x7F → shown (token-at s p) ≡ shown-atom p (length s) (name (drop p s) (getD s p 0) (drop (suc p) s))
-      unfolding read-atom
-      first-short h =
-          as-atom no-opening no-closing
-          ∙ rw (
-            here,
-            ne-eqb (getD s p 0) 0x00 no-nil,
-            ne-eqb (getD s p 0) 0x03 no-array,
-            le-ltb (getD s p 0) 0x10 above,
-            lt-ltb (getD s p 0) 0x7F h,
-          )
+  pub first-reserved : 0x04 ≤ byte → byte < 0x10 → told ≡ Bad 4 p
+  unfolding read-atom
+  first-reserved l h =
+      let place : length s - suc (length (drop (suc p) s)) ≡ p = omega (arith, length-drop (suc p) s) in
+      as-atom (λ e. omega arith) (λ e. omega arith) ∙ rw (other 0x00 (omega arith), other 0x03 (omega arith), lt-ltb byte 0x10 h, place)
 
-      -- a byte from 80 on
-      from-80 : 0x80 ≤ getD s p 0
-          → shown (token-at s p) ≡ shown-atom p (length s) (if ltb (getD s p 0) 0xC0 then taken (int (getD s p 0 - 0x80)) (drop (suc p) s)
-          else and-then (take-bytes (getD s p 0 - 0xC0) (drop (suc p) s)) as-array)
-      unfolding read-atom
-      from-80 h =
-          as-atom no-opening no-closing
-          ∙ rw (
-            ne-eqb (getD s p 0) 0x00 no-nil,
-            ne-eqb (getD s p 0) 0x03 no-array,
-            le-ltb (getD s p 0) 0x10 above,
-            le-ltb (getD s p 0) 0x7F (omega arith),
-            le-ltb (getD s p 0) 0x80 h,
-          )
+  pub first-short : 0x10 ≤ byte → byte < 0x7F → told ≡ shown-atom p (length s) (name (drop p s) byte (drop (p + 1) s))
+  unfolding read-atom
+  first-short l h =
+      as-atom (λ e. omega arith) (λ e. omega arith)
+      ∙ rw (drop-cons s p 0 inside, other 0x00 (omega arith), other 0x03 (omega arith), le-ltb byte 0x10 l, lt-ltb byte 0x7F h, ← add-one p)
 
-      pub first-int : 0x80 ≤ getD s p 0 → getD s p 0 < 0xC0 → shown (token-at s p) ≡ Whole 3 p (p + 1)
-      first-int h l = from-80 h ∙ rw (lt-ltb (getD s p 0) 0xC0 l, one-byte)
+  -- a byte from 80 on
+  from-80 : 0x80 ≤ byte
+      → told ≡ shown-atom p (length s) (if ltb byte 0xC0 then taken (int (byte - 0x80)) (drop (suc p) s)
+      else and-then (take-bytes (byte - 0xC0) (drop (suc p) s)) as-array)
+  unfolding read-atom
+  from-80 h =
+      as-atom (λ e. omega arith) (λ e. omega arith)
+      ∙ rw (other 0x00 (omega arith), other 0x03 (omega arith), le-ltb byte 0x10 (omega arith), le-ltb byte 0x7F (omega arith), le-ltb byte 0x80 h)
 
-      pub first-small : 0xC0 ≤ getD s p 0
-          → shown (token-at s p) ≡ shown-atom p (length s) (and-then (take-bytes (getD s p 0 - 0xC0) (drop (suc p) s)) as-array)
-      first-small h = from-80 (omega arith) ∙ rw (le-ltb (getD s p 0) 0xC0 h)
+  pub first-int : 0x80 ≤ byte → byte < 0xC0 → told ≡ Whole 3 p (p + 1)
+  first-int h l = from-80 h ∙ rw (lt-ltb byte 0xC0 l, one-byte)
 
-  -- atoms that are whole, by their first byte alone
-  pub int-whole : 0x80 ≤ getD s p 0 → getD s p 0 < 0xC0 → shown (token-at s p) ≡ Whole 3 p (p + 1)
-  int-whole h l = first-int (λ e. omega arith) (λ e. omega arith) (λ e. omega arith) (λ e. omega arith) (omega arith) h l
+  pub first-small : 0xC0 ≤ byte → told ≡ shown-atom p (length s) (and-then (take-bytes (byte - 0xC0) (drop (p + 1) s)) as-array)
+  first-small h = from-80 (omega arith) ∙ rw (le-ltb byte 0xC0 h, ← add-one p)
 
-  pub short-whole : 0x10 ≤ getD s p 0 → getD s p 0 < 0x7F → 1 < length s - p → shown (token-at s p) ≡ Whole 4 p (p + 2)
-  short-whole h l more =
-      let end : suc p + 1 ≡ p + 2 = omega arith in
-      first-short (λ e. omega arith) (λ e. omega arith) (λ e. omega arith) (λ e. omega arith) h l
-      ∙ shown-reference s p (getD s p 0) (suc p) (omega arith) (omega arith)
-      ∙ ap (Whole 4 p) end
+  -- a reference and an array that are whole, by their first byte
+  pub short-whole : 0x10 ≤ byte → byte < 0x7F → 1 < length s - p → told ≡ Whole 4 p (p + 2)
+  short-whole h l more = first-short h l ∙ shown-reference s p byte (p + 1) (omega arith) (omega arith) ∙ ap (Whole 4 p) (omega arith)
 
-  pub small-whole : 0xC0 ≤ getD s p 0 → getD s p 0 - 0xC0 < length s - p → shown (token-at s p) ≡ Whole 2 (p + 1) (p + 1 + (getD s p 0 - 0xC0))
-  small-whole h more =
-      first-small (λ e. omega arith) (λ e. omega arith) (λ e. omega arith) (λ e. omega arith) (omega arith) h
-      ∙ rw (← add-one p) (shown-array s p (p + 1) (getD s p 0 - 0xC0) (omega arith) (omega arith))
+  pub small-whole : 0xC0 ≤ byte → byte - 0xC0 < length s - p → told ≡ Whole 2 (p + 1) (p + 1 + (byte - 0xC0))
+  small-whole h more = first-small h ∙ shown-array s p (p + 1) (byte - 0xC0) (omega arith) (omega arith)

@@ -34,15 +34,14 @@ Next s p (Whole k b e) = AtomAt s p k b e
 Next s p (Bad w q) = (ts : List Token) × (tokens-from s p ≡ bad w q ∷ ts)
 
 module _ (s : List ℕ) (p e : ℕ) where
-  -- an atom that is all body
-  all-body : (a : Atom) (k : ℕ) → k ≡ atom-kind a → WholeAt s p a e → atom-bytes a ≡ atom-head k (e - p) ++ take (e - p) (drop p s)
-      → AtomAt s p k p e
-  all-body a k h w written = record {
+  by-whole : (a : Atom) (b : ℕ) → p ≤ b → b ≤ e → WholeAt s p a e → atom-bytes a ≡ atom-head (atom-kind a) (e - b) ++ take (e - b) (drop b s)
+      → AtomAt s p (atom-kind a) b e
+  by-whole a b begins ends w written = record {
     atom = a;
     is = w .is;
-    kind-is = h;
-    begins = omega arith;
-    ends = omega (arith, w .forward);
+    kind-is = refl;
+    begins = begins;
+    ends = ends;
     forward = w .forward;
     inside = w .inside;
     shorter = w .shorter;
@@ -60,44 +59,25 @@ module _ (s : List ℕ) (p e : ℕ) where
       let x = take (e - p) (drop p s) in
       let o = array-split bs x (w .spelled) in
       let h : List ℕ = o .0 ∷ o .1 in
-      let b : ℕ = e - length bs in
-      let forward = w .forward in
-      let inside = w .inside in
-      let left = length-drop p s in
-      let x-size : length x ≡ e - p = length-take (e - p) (drop p s) ∙ omega arith in
-      let size : length h + length bs ≡ e - p = sym (length-append h bs) ∙ sym (ap length (o .2)) ∙ x-size in
       let rest = drop (e - p) (drop p s) in
+      let x-size : length x ≡ e - p = simp (length-take, length-drop) (omega (arith, w .inside)) in
+      let size : length h + length bs ≡ e - p = sym (length-append h bs) ∙ sym (ap length (o .2)) ∙ x-size in
       let split : drop p s ≡ h ++ (bs ++ rest) = sym (take-append-drop (e - p) (drop p s)) ∙ ap (λ (y : List ℕ). y ++ rest) (o .2) ∙ append-assoc h bs rest in
-      let place : p + length h ≡ b = omega arith in
-      let from-body : drop b s ≡ bs ++ rest =
-      ap (λ (k : ℕ). drop k s) (sym place) ∙ sym (split-rest s p h (bs ++ rest) split) in
-      let count : e - b ≡ length bs = omega arith in
-      record {
-        atom = array bs;
-        is = w .is;
-        kind-is = refl;
-        begins = omega arith;
-        ends = omega arith;
-        forward = forward;
-        inside = inside;
-        shorter = w .shorter;
-        written = rw (count, from-body, take-at bs rest (length bs) refl);
-      }
+      let place : p + length h ≡ e - length bs = omega (arith, w .forward) in
+      let count : e - (e - length bs) ≡ length bs = omega arith in
+      let from-body : drop (e - length bs) s ≡ bs ++ rest = rw (← place) (sym (split-rest s p h (bs ++ rest) split)) in
+      by-whole (array bs) (e - length bs) (omega arith) (omega arith) w (rw (count, from-body, take-at bs rest (length bs) refl))
 
   atom-at : (a : Atom) → WholeAt s p a e → AtomAt s p (atom-kind a) (body a p e) e
   unfolding atom-bytes
-  atom-at nil w = all-body nil 0 refl w (sym (w .spelled))
+  atom-at nil w = by-whole nil p (omega arith) (omega arith) w (sym (w .spelled))
   atom-at (array bs) w = array-body bs w
-  atom-at (int v) w = all-body (int v) 3 refl w (sym (w .spelled .1))
-  atom-at (ref m n) w = all-body (ref m n) 4 refl w (sym (w .spelled .2))
+  atom-at (int v) w = by-whole (int v) p (omega arith) (omega arith) w (sym (w .spelled .1))
+  atom-at (ref m n) w = by-whole (ref m n) p (omega arith) (omega arith) w (sym (w .spelled .2))
 
 -- how many bytes an atom is written with
 pub written-size : (s : List ℕ) (p kind b e : ℕ) (w : AtomAt s p kind b e) → length (atom-bytes (w .atom)) ≡ length (atom-head kind (e - b)) + (e - b)
-written-size s p kind b e w =
-    let inside = w .inside in
-    let left = length-drop b s in
-    let size : length (take (e - b) (drop b s)) ≡ e - b = length-take (e - b) (drop b s) ∙ omega arith in
-    ap length (w .written) ∙ length-append (atom-head kind (e - b)) (take (e - b) (drop b s)) ∙ omega arith
+written-size s p kind b e w = ap length (w .written) ∙ simp (length-append, length-take, length-drop) (omega (arith, w .inside))
 
 pub next : (s : List ℕ) (p : ℕ) (r : Answer) → Bytes s → p < length s → r ≡ shown (token-at s p) → Next s p r
 next s p r stream inside told = rw told (go (token-at s p) (step-at s p stream inside))

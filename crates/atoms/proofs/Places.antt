@@ -20,9 +20,8 @@ use Rattle.laws.specs.Grammar.{SpellsLength}
 use Rattle.laws.proofs.Basics.{impossible}
 use Rattle.laws.proofs.Fits.{bytes-drop}
 use Rattle.laws.proofs.Spelling.{SplitOff, plain-taken, length-taken}
-use Rattle.laws.proofs.Steps.{all-bytes, none-left, split-size, split-rest}
+use Rattle.laws.proofs.Steps.{none-left, split-size, split-rest}
 use Rattle.atoms.specs.Tokens.{measured, leading-threes, plain, around, shown-atom}
-use Rattle.atoms.specs.declared.Length.{Length}
 use Rattle.atoms.specs.declared.Length.the-variants.{Is, Wrong}
 use Rattle.atoms.specs.declared.Token.the-variants.{Whole, Bad}
 
@@ -39,11 +38,21 @@ first-left s p h = rw (add-one p) (drop-cons s p 0 h)
 measured-is : (s : List ℕ) (n p : ℕ) → p ≤ length s → measured (length s) (taken n (drop p s)) ≡ Is (min n 65537) p
 measured-is s n p h = ap (Is (min n 65537)) (left-at s p h)
 
-pub measured-wrong : (s : List ℕ) (w p : ℕ) → p ≤ length s → measured (length s) (failed w (drop p s)) ≡ Wrong w p
+measured-wrong : (s : List ℕ) (w p : ℕ) → p ≤ length s → measured (length s) (failed w (drop p s)) ≡ Wrong w p
 measured-wrong s w p h = ap (Wrong w) (left-at s p h)
 
 measured-short : (s : List ℕ) → measured (length s) (failed 2 []) ≡ Wrong 2 (length s)
 measured-short s = ap (Wrong 2) (omega arith)
+
+-- so many bytes from a place on, which are there or in which the stream ends
+module _ (s : List ℕ) (p n : ℕ) where
+  take-there : p ≤ length s → n ≤ length s - p → take-bytes n (drop p s) ≡ taken (take n (drop p s)) (drop (p + n) s)
+  unfolding take-bytes
+  take-there h l = let left = length-drop p s in rw (le-leb n (length (drop p s)) (omega arith), drop-drop n p s)
+
+  take-short : length s - p < n → take-bytes n (drop p s) ≡ failed 2 []
+  unfolding take-bytes
+  take-short l = let left = length-drop p s in rw (lt-leb n (length (drop p s)) (omega arith))
 
 -- Numbers, held at 65,537
 
@@ -52,14 +61,10 @@ unfolding natural
 natural-grows n [] = le-refl n
 natural-grows n (b ∷ s) = omega (arith, natural-grows (n * 256 + b) s)
 
--- the bytes from a place up to another: the first, and the others
-bytes-step : (s : List ℕ) (i to : ℕ) → i < to → to ≤ length s → take (to - i) (drop i s) ≡ getD s i 0 ∷ take (to - (i + 1)) (drop (i + 1) s)
-bytes-step s i to h l = let more : to - i ≡ suc (to - (i + 1)) = omega arith in rw (more, first-left s i (omega arith))
-
 pub natural-step : (s : List ℕ) (n i to : ℕ) → i < to → to ≤ length s
     → natural n (take (to - i) (drop i s)) ≡ natural (n * 256 + getD s i 0) (take (to - (i + 1)) (drop (i + 1) s))
 unfolding natural
-natural-step s n i to h l = rw (bytes-step s i to h l)
+natural-step s n i to h l = let more : to - i ≡ suc (to - (i + 1)) = omega arith in rw (more, first-left s i (omega arith))
 
 pub natural-end : (s : List ℕ) (n i to : ℕ) → i ≡ to → natural n (take (to - i) (drop i s)) ≡ n
 unfolding natural
@@ -67,11 +72,8 @@ natural-end s n i to h = let none : to - i ≡ 0 = omega arith in rw none
 
 -- what holds of a number that is held, by whether it is
 by-held : (P : ℕ → Type 0) (n : ℕ) → (65537 ≤ n → P 65537) → (n < 65537 → P n) → P (min n 65537)
-by-held P n large small = go (eq-or-lt-of-le held)
+by-held P n large small = go (eq-or-lt-of-le (omega arith))
   where
-    held : min n 65537 ≤ 65537
-    held = omega arith
-
     go : (min n 65537 ≡ 65537) ⊎ (min n 65537 < 65537) → P (min n 65537)
     go (inl e) = rw e (large (omega arith))
     go (inr h) = let e : min n 65537 ≡ n = omega arith in rw e (small (omega arith))
@@ -81,7 +83,7 @@ natural-held n s =
     by-held (λ k. min (natural n s) 65537 ≡ min (natural k s) 65537) n (λ h. omega (arith, natural-grows n s, natural-grows 65537 s)) (λ h. refl)
 
 -- no stream is long enough for the difference
-pub take-held : (n : ℕ) (s : List ℕ) → length s ≤ 65536 → take-bytes n s ≡ take-bytes (min n 65537) s
+take-held : (n : ℕ) (s : List ℕ) → length s ≤ 65536 → take-bytes n s ≡ take-bytes (min n 65537) s
 unfolding take-bytes
 take-held n s h =
     by-held (λ k. take-bytes n s ≡ take-bytes k s) n
@@ -110,27 +112,18 @@ around-held (suc k) n s end h =
 
 -- one array, which is there or in which the stream ends
 module _ (s : List ℕ) (k v p : ℕ) (short : length s ≤ 65536) (inside : p ≤ length s) where
+  inner-first : 0 < k → around k (taken v (drop p s)) ≡ around (k - 1) (and-then (take-bytes v (drop p s)) as-length)
+  inner-first h = let more : k ≡ suc (k - 1) = omega arith in ap (λ (j : ℕ). around j (taken v (drop p s))) more ∙ around-inner (k - 1) v (drop p s)
+
   pub around-whole : 0 < k → v ≤ length s - p
       → measured (length s) (around k (taken v (drop p s)))
       ≡ measured (length s) (around (k - 1) (taken (min (natural 0 (take v (drop p s))) 65537) (drop (p + v) s)))
-  unfolding take-bytes
   around-whole h l =
-      let more : k ≡ suc (k - 1) = omega arith in
-      let left = length-drop p s in
-      let behind : drop v (drop p s) ≡ drop (p + v) s = drop-drop v p s in
-      let behind-size = length-drop (p + v) s in
-      ap (λ (j : ℕ). measured (length s) (around j (taken v (drop p s)))) more
-      ∙ ap (measured (length s)) (around-inner (k - 1) v (drop p s))
-      ∙ rw (le-leb v (length (drop p s)) (omega arith), behind) (around-held (k - 1) (natural 0 (take v (drop p s))) (drop (p + v) s) (length s) (omega arith))
+      let behind = length-drop (p + v) s in
+      rw (inner-first h, take-there s p v inside l) (around-held (k - 1) (natural 0 (take v (drop p s))) (drop (p + v) s) (length s) (omega arith))
 
   pub around-short : 0 < k → length s - p < v → measured (length s) (around k (taken v (drop p s))) ≡ Wrong 2 (length s)
-  unfolding take-bytes
-  around-short h l =
-      let more : k ≡ suc (k - 1) = omega arith in
-      let left = length-drop p s in
-      ap (λ (j : ℕ). measured (length s) (around j (taken v (drop p s)))) more
-      ∙ ap (measured (length s)) (around-inner (k - 1) v (drop p s))
-      ∙ rw (lt-leb v (length (drop p s)) (omega arith), around-failed (k - 1) 2 []) (measured-short s)
+  around-short h l = rw (inner-first h, take-short s p v l, around-failed (k - 1) 2 []) (measured-short s)
 
   pub around-none : k ≡ 0 → v ≤ 65537 → measured (length s) (around k (taken v (drop p s))) ≡ Is v p
   unfolding around
@@ -142,143 +135,106 @@ module _ (s : List ℕ) (p : ℕ) where
   plain-end h = rw (none-left s p (omega arith)) (measured-short s ∙ ap (Wrong 2) (sym h))
 
   module _ (inside : p < length s) where
-    at-byte : (x : Length) → measured (length s) (plain-length (getD s p 0) (drop (p + 1) s)) ≡ x → measured (length s) (plain (drop p s)) ≡ x
-    at-byte x e = rw (first-left s p inside) e
+    here : drop p s ≡ getD s p 0 ∷ drop (p + 1) s
+    here = first-left s p inside
 
     pub plain-wrong : getD s p 0 < 0x80 → measured (length s) (plain (drop p s)) ≡ Wrong 5 p
     unfolding plain-length
-    plain-wrong h =
-        let left = length-drop (p + 1) s in
-        let place : length s - suc (length (drop (p + 1) s)) ≡ p = omega arith in
-        at-byte (Wrong 5 p) (rw (lt-ltb (getD s p 0) 0x80 h) (ap (Wrong 5) place))
+    plain-wrong h = let left = length-drop (p + 1) s in rw (here, lt-ltb (getD s p 0) 0x80 h) (ap (Wrong 5) (omega arith))
+
+    plain-small : 0x80 ≤ getD s p 0 → getD s p 0 < 0xC0 → plain (drop p s) ≡ taken (getD s p 0 - 0x80) (drop (p + 1) s)
+    unfolding plain-length
+    plain-small h l = rw (here, le-ltb (getD s p 0) 0x80 h, lt-ltb (getD s p 0) 0xC0 l)
 
     pub plain-int : 0x80 ≤ getD s p 0 → getD s p 0 < 0xC0 → measured (length s) (plain (drop p s)) ≡ Is (getD s p 0 - 0x80) (p + 1)
-    unfolding plain-length
     plain-int h l =
         let held : min (getD s p 0 - 0x80) 65537 ≡ getD s p 0 - 0x80 = omega arith in
-        at-byte (Is (getD s p 0 - 0x80) (p + 1))
-        (rw (le-ltb (getD s p 0) 0x80 h, lt-ltb (getD s p 0) 0xC0 l, held) (ap (Is (getD s p 0 - 0x80)) (left-at s (p + 1) (omega arith))))
+        rw (plain-small h l, held) (ap (Is (getD s p 0 - 0x80)) (left-at s (p + 1) (omega arith)))
 
     module _ (array-byte : 0xC0 ≤ getD s p 0) where
+      plain-bytes : plain (drop p s) ≡ and-then (take-bytes (getD s p 0 - 0xC0) (drop (p + 1) s)) as-length
+      unfolding plain-length
+      plain-bytes = rw (here, le-ltb (getD s p 0) 0x80 (omega arith), le-ltb (getD s p 0) 0xC0 array-byte)
+
       pub plain-short : length s - (p + 1) < getD s p 0 - 0xC0 → measured (length s) (plain (drop p s)) ≡ Wrong 2 (length s)
-      unfolding plain-length take-bytes
-      plain-short l =
-          let left = length-drop (p + 1) s in
-          at-byte (Wrong 2 (length s))
-          (rw (
-            le-ltb (getD s p 0) 0x80 (omega arith),
-            le-ltb (getD s p 0) 0xC0 array-byte,
-            lt-leb (getD s p 0 - 0xC0) (length (drop (p + 1) s)) (omega arith),
-          ) (measured-short s))
+      plain-short l = rw (plain-bytes, take-short s (p + 1) (getD s p 0 - 0xC0) l) (measured-short s)
 
       pub plain-array : (e : ℕ) → e ≡ p + 1 + (getD s p 0 - 0xC0) → e ≤ length s
           → measured (length s) (plain (drop p s)) ≡ Is (min (natural 0 (take (e - (p + 1)) (drop (p + 1) s))) 65537) e
-      unfolding plain-length take-bytes
       plain-array e h l =
-          let left = length-drop (p + 1) s in
           let size : getD s p 0 - 0xC0 ≡ e - (p + 1) = omega arith in
           let end : p + 1 + (e - (p + 1)) ≡ e = omega arith in
-          let behind : drop (e - (p + 1)) (drop (p + 1) s) ≡ drop e s = drop-drop (e - (p + 1)) (p + 1) s ∙ ap (λ (k : ℕ). drop k s) end in
-          at-byte (Is (min (natural 0 (take (e - (p + 1)) (drop (p + 1) s))) 65537) e)
-          (rw (
-            le-ltb (getD s p 0) 0x80 (omega arith),
-            le-ltb (getD s p 0) 0xC0 array-byte,
-            size,
-            le-leb (e - (p + 1)) (length (drop (p + 1) s)) (omega arith),
-            behind,
-          ) (measured-is s (natural 0 (take (e - (p + 1)) (drop (p + 1) s))) e l))
+          rw (plain-bytes, size, take-there s (p + 1) (e - (p + 1)) (omega arith) (omega arith), end)
+          (measured-is s (natural 0 (take (e - (p + 1)) (drop (p + 1) s))) e l)
 
 -- bytes 03 in a row, from place to place
+
+pub threes-none : (k : ℕ) (s : List ℕ) → (0 < k → getD s 0 0 ≡ 0x03 → ⊥) → leading-threes k s ≡ 0
+unfolding leading-threes
+threes-none zero s o = refl
+threes-none (suc k) [] o = refl
+threes-none (suc k) (b ∷ s) o = rw (ne-eqb b 0x03 (o (omega arith)))
+
 module _ (s : List ℕ) (p k : ℕ) where
   pub threes-end : p ≡ length s → leading-threes k (drop p s) ≡ 0
-  unfolding leading-threes
-  threes-end h = rw (none-left s p (omega arith)) (go k)
-    where
-      go : (k : ℕ) → leading-threes k [] ≡ 0
-      go zero = refl
-      go (suc k) = refl
+  threes-end h = rw (none-left s p (omega arith)) (threes-none k [] (λ l e. omega arith))
 
   pub threes-other : p < length s → (getD s p 0 ≡ 0x03 → ⊥) → leading-threes k (drop p s) ≡ 0
-  unfolding leading-threes
-  threes-other h o = rw (first-left s p h) (go k)
-    where
-      go : (k : ℕ) → leading-threes k (getD s p 0 ∷ drop (p + 1) s) ≡ 0
-      go zero = refl
-      go (suc k) = rw (ne-eqb (getD s p 0) 0x03 o)
+  threes-other h o = rw (first-left s p h) (threes-none k (getD s p 0 ∷ drop (p + 1) s) (λ l. o))
 
   pub threes-more : p < length s → getD s p 0 ≡ 0x03 → 0 < k → leading-threes k (drop p s) ≡ 1 + leading-threes (k - 1) (drop (p + 1) s)
   unfolding leading-threes
   threes-more h o l = let more : k ≡ suc (k - 1) = omega arith in
       rw (first-left s p h, o) (ap (λ (j : ℕ). leading-threes j (0x03 ∷ drop (p + 1) s)) more ∙ omega arith)
 
-pub threes-none : (s : List ℕ) → leading-threes 0 s ≡ 0
-unfolding leading-threes
-threes-none s = refl
+-- a length by the j bytes 03 that it begins with: k at most and then no 03, or one too many
+data ByThrees (k : ℕ) (s : List ℕ) (j : ℕ) : Type 0 where
+  few : j ≤ k → j ≤ length s → length-expr k s ≡ around j (plain (drop j s)) → ByThrees k s j
+  many : j ≡ suc k → k < length s → length-expr k s ≡ failed 6 (drop k s) → ByThrees k s j
 
--- bytes 03, and then no 03
-length-threes : (k : ℕ) (s : List ℕ) → leading-threes (suc k) s < suc k
-    → length-expr k s ≡ around (leading-threes (suc k) s) (plain (drop (leading-threes (suc k) s) s))
+by-threes : (k : ℕ) (s : List ℕ) → ByThrees k s (leading-threes (suc k) s)
 unfolding length-expr leading-threes around
-length-threes zero [] h = refl
-length-threes (suc k) [] h = refl
-length-threes zero (b ∷ s) h = go (eqb b 0x03) h
+by-threes zero [] = few (omega arith) (omega arith) refl
+by-threes (suc k) [] = few (omega arith) (omega arith) refl
+by-threes zero (b ∷ s) = go (eqb b 0x03) refl
   where
-    go : (c : Bool) → (if c then 1 else 0) < 1
-        → (if c then failed 6 (b ∷ s) else plain-length b s) ≡ around (if c then 1 else 0) (plain (drop (if c then 1 else 0) (b ∷ s)))
-    go true h = absurd (omega arith)
-    go false h = refl
-length-threes (suc k) (b ∷ s) h = go (eqb b 0x03) (leading-threes (suc k) s) (λ l. length-threes k s l) h
+    go : (c : Bool) → eqb b 0x03 ≡ c → ByThrees zero (b ∷ s) (if eqb b 0x03 then 1 else 0)
+    go true e = rw e (many refl (omega arith) (rw e))
+    go false e = rw e (few (omega arith) (omega arith) (rw e))
+by-threes (suc k) (b ∷ s) = go (eqb b 0x03) refl (by-threes k s)
   where
-    go : (c : Bool) (j : ℕ) → (j < suc k → length-expr k s ≡ around j (plain (drop j s))) → (if c then suc j else 0) < suc (suc k)
-        → (if c then and-then (and-then (length-expr k s) take-bytes) as-length else plain-length b s)
-        ≡ around (if c then suc j else 0) (plain (drop (if c then suc j else 0) (b ∷ s)))
-    go true j inner h = ap (λ x. and-then (and-then x take-bytes) as-length) (inner (omega arith))
-    go false j inner h = refl
+    go : (c : Bool) → eqb b 0x03 ≡ c → {j : ℕ} → ByThrees k s j → ByThrees (suc k) (b ∷ s) (if eqb b 0x03 then suc j else 0)
+    go true e (few l i is) = rw e (few (omega arith) (omega arith) (rw (e, is)))
+    go true e (many q i is) = rw e (many (omega arith) (omega arith) (rw (e, is)))
+    go false e x = rw e (few (omega arith) (omega arith) (rw e))
 
 -- one too many
 pub length-many : (k : ℕ) (s : List ℕ) → leading-threes (suc k) s ≡ suc k → length-expr k s ≡ failed 6 (drop k s)
-unfolding length-expr leading-threes
-length-many zero [] h = absurd (omega arith)
-length-many (suc k) [] h = absurd (omega arith)
-length-many zero (b ∷ s) h = go (eqb b 0x03) h
+length-many k s h = go (by-threes k s)
   where
-    go : (c : Bool) → _≡_ {A = ℕ} (if c then 1 else 0) 1 → (if c then failed 6 (b ∷ s) else plain-length b s) ≡ failed 6 (b ∷ s)
-    go true h = refl
-    go false h = absurd (omega arith)
-length-many (suc k) (b ∷ s) h = go (eqb b 0x03) (leading-threes (suc k) s) (λ l. length-many k s l) h
-  where
-    go : (c : Bool) (j : ℕ) → (j ≡ suc k → length-expr k s ≡ failed 6 (drop k s)) → (if c then suc j else 0) ≡ suc (suc k)
-        → (if c then and-then (and-then (length-expr k s) take-bytes) as-length else plain-length b s) ≡ failed 6 (drop k s)
-    go true j inner h = rw (inner (omega arith))
-    go false j inner h = absurd (omega arith)
-
-pub threes-few : (k : ℕ) (s : List ℕ) → (leading-threes k s ≤ k) × (leading-threes k s ≤ length s)
-unfolding leading-threes
-threes-few zero s = (omega arith, omega arith)
-threes-few (suc k) [] = (omega arith, omega arith)
-threes-few (suc k) (b ∷ s) = go (eqb b 0x03) (leading-threes k s) (threes-few k s)
-  where
-    go : (c : Bool) (j : ℕ) → (j ≤ k) × (j ≤ length s) → ((if c then suc j else 0) ≤ suc k) × ((if c then suc j else 0) ≤ suc (length s))
-    go true j h = (omega arith, omega arith)
-    go false j h = (omega arith, omega arith)
+    go : ByThrees k s (leading-threes (suc k) s) → length-expr k s ≡ failed 6 (drop k s)
+    go (few l i is) = absurd (omega arith)
+    go (many q i is) = is
 
 -- with fewer than eight bytes 03: what stands behind them
 pub record BehindThrees (s : List ℕ) (at depth : ℕ) : Type 0 where
   pub inside : at + depth ≤ length s
   pub is : length-expr 7 (drop at s) ≡ around depth (plain (drop (at + depth) s))
 
-pub behind-threes : (s : List ℕ) (at depth : ℕ) → at ≤ length s → depth ≡ leading-threes 8 (drop at s) → (depth ≡ 8 → ⊥) → BehindThrees s at depth
-behind-threes s at depth h e n =
-    let few = threes-few 8 (drop at s) in
-    let size = length-drop at s in
-    let below : leading-threes 8 (drop at s) < 8 = omega (arith, n) in
-    record {
-      inside = omega arith;
-      is =
-          length-threes 7 (drop at s) below
-          ∙ ap (λ (k : ℕ). around k (plain (drop k (drop at s)))) (sym e)
-          ∙ ap (λ (t : List ℕ). around depth (plain t)) (drop-drop depth at s);
-    }
+module _ (s : List ℕ) (at depth : ℕ) (inside : at ≤ length s) (count : depth ≡ leading-threes 8 (drop at s)) where
+  pub behind-threes : (depth ≡ 8 → ⊥) → BehindThrees s at depth
+  behind-threes n = go (rw (← count) at (by-threes 7 (drop at s)))
+    where
+      go : ByThrees 7 (drop at s) depth → BehindThrees s at depth
+      go (few l i is) = record { inside = omega (arith, length-drop at s); is = is ∙ rw drop-drop }
+      go (many q i is) = absurd (n q)
+
+  pub too-many-threes : depth ≡ 8 → measured (length s) (length-expr 7 (drop at s)) ≡ Wrong 6 (at + 7)
+  too-many-threes e = go (rw (← count) at (by-threes 7 (drop at s)))
+    where
+      go : ByThrees 7 (drop at s) depth → measured (length s) (length-expr 7 (drop at s)) ≡ Wrong 6 (at + 7)
+      go (few l i is) = absurd (omega arith)
+      go (many q i is) = rw (is, drop-drop) (measured-wrong s 6 (at + 7) (omega (arith, length-drop at s)))
 
 -- what the code was told of a length
 pub record ToldLength (s : List ℕ) (x : Taken ℕ) (v e : ℕ) : Type 0 where
@@ -323,53 +279,36 @@ told-bytes s v e x h t =
     ∙ sym (ap (λ (y : Taken ℕ). and-then y take-bytes) (t .is))
 
 -- the bytes of a generic array whose 03 is at a place, by the length behind it: a small integer, or one or two bytes
-module _ (s : List ℕ) (at : ℕ) (bytes : (i : ℕ) → getD s i 0 < 256) (most : length s ≤ 65536) (inside : at + 3 < length s) where
-  by-plain : (v e : ℕ) → (getD s (at + 1) 0 ≡ 0x03 → ⊥) → measured (length s) (plain (drop (at + 1) s)) ≡ Is v e
-      → take-bytes v (drop e s) ≡ and-then (length-expr 7 (drop (suc at) s)) take-bytes
-  unfolding around
-  by-plain v e other m =
-      let none : 0 ≡ leading-threes 8 (drop (at + 1) s) = sym (threes-other s (at + 1) 8 (omega arith) other) in
-      let is = behind-threes s (at + 1) 0 (omega arith) none (λ q. omega arith) .is in
-      let here : at + 1 + 0 ≡ at + 1 = omega arith in
-      rw (← add-one at)
-      (told-bytes s v e (length-expr 7 (drop (at + 1) s)) most
-      (told-length s (at + 1) v e (all-bytes s bytes) (omega arith) (ap (measured (length s)) (is ∙ ap (λ (k : ℕ). plain (drop k s)) here) ∙ m)))
+module _ (s : List ℕ) (at : ℕ) (inside : at + 3 < length s) where
+  abbrev Gives : ℕ → ℕ → Type 0
+  Gives size e = take-bytes size (drop e s) ≡ and-then (length-expr 7 (drop (suc at) s)) take-bytes
 
-  pub array-int : 0x80 ≤ getD s (at + 1) 0 → getD s (at + 1) 0 < 0xC0
-      → take-bytes (getD s (at + 1) 0 - 0x80) (drop (at + 2) s) ≡ and-then (length-expr 7 (drop (suc at) s)) take-bytes
+  no-array : (getD s (at + 1) 0 ≡ 0x03 → ⊥) → length-expr 7 (drop (suc at) s) ≡ plain (drop (at + 1) s)
+  unfolding length-expr
+  no-array other = rw (← add-one at, first-left s (at + 1) (omega arith), ne-eqb (getD s (at + 1) 0) 0x03 other)
+
+  pub array-int : 0x80 ≤ getD s (at + 1) 0 → getD s (at + 1) 0 < 0xC0 → Gives (getD s (at + 1) 0 - 0x80) (at + 2)
   array-int h l =
-      let e : at + 1 + 1 ≡ at + 2 = omega arith in
-      by-plain _ (at + 2) (λ q. omega arith) (plain-int s (at + 1) (omega arith) h l ∙ ap (Is (getD s (at + 1) 0 - 0x80)) e)
+      let two : at + 1 + 1 ≡ at + 2 = omega arith in rw (no-array (λ q. omega arith), plain-small s (at + 1) (omega arith) h l, two)
 
   -- behind a byte C1 or C2, the number of the bytes that follow
-  of-bytes : (e n : ℕ) → 0xC0 ≤ getD s (at + 1) 0 → e ≡ at + 2 + (getD s (at + 1) 0 - 0xC0) → e ≤ length s → n < 65536
-      → natural 0 (take (e - (at + 2)) (drop (at + 2) s)) ≡ n
-      → take-bytes n (drop e s) ≡ and-then (length-expr 7 (drop (suc at) s)) take-bytes
-  of-bytes e n h end l few is =
+  of-bytes : (n v e : ℕ) → getD s (at + 1) 0 ≡ 0xC0 + n → e ≡ at + 2 + n → e ≤ length s → natural 0 (take n (drop (at + 2) s)) ≡ v → Gives v e
+  of-bytes n v e h end l is =
+      let size : getD s (at + 1) 0 - 0xC0 ≡ n = omega arith in
       let two : at + 1 + 1 ≡ at + 2 = omega arith in
-      let held : min n 65537 ≡ n = omega arith in
-      by-plain n e (λ q. omega arith)
-      (plain-array s (at + 1) (omega arith) h e (omega arith) l
-      ∙ ap (λ (k : ℕ). Is (min (natural 0 (take (e - k) (drop k s))) 65537) e) two
-      ∙ ap (λ (k : ℕ). Is (min k 65537) e) is
-      ∙ ap (λ (k : ℕ). Is k e) held)
+      rw (no-array (λ q. omega arith), plain-bytes s (at + 1) (omega arith) (omega arith), size, two, take-there s (at + 2) n (omega arith) (omega arith), is, ← end)
 
-  pub array-one : getD s (at + 1) 0 ≡ 0xC1 → take-bytes (getD s (at + 2) 0) (drop (at + 3) s) ≡ and-then (length-expr 7 (drop (suc at) s)) take-bytes
+  pub array-one : getD s (at + 1) 0 ≡ 0xC1 → Gives (getD s (at + 2) 0) (at + 3)
+  unfolding natural
   array-one h =
-      of-bytes (at + 3) (getD s (at + 2) 0) (omega arith) (omega arith) (omega arith) (omega (arith, bytes (at + 2)))
-      (natural-step s 0 (at + 2) (at + 3) (omega arith) (omega arith) ∙ natural-end s (0 * 256 + getD s (at + 2) 0) (at + 2 + 1) (at + 3) (omega arith) ∙ omega arith)
+      of-bytes 1 (getD s (at + 2) 0) (at + 3) (omega arith) (omega arith) (omega arith) (rw (first-left s (at + 2) (omega arith)) (omega arith))
 
-  pub array-two : getD s (at + 1) 0 ≡ 0xC2
-      → take-bytes (getD s (at + 2) 0 * 256 + getD s (at + 3) 0) (drop (at + 4) s) ≡ and-then (length-expr 7 (drop (suc at) s)) take-bytes
+  pub array-two : getD s (at + 1) 0 ≡ 0xC2 → Gives (getD s (at + 2) 0 * 256 + getD s (at + 3) 0) (at + 4)
+  unfolding natural
   array-two h =
       let next : at + 2 + 1 ≡ at + 3 = omega arith in
-      of-bytes (at + 4) (getD s (at + 2) 0 * 256 + getD s (at + 3) 0) (omega arith) (omega arith) (omega arith)
-      (omega (arith, bytes (at + 2), bytes (at + 3)))
-      (natural-step s 0 (at + 2) (at + 4) (omega arith) (omega arith)
-      ∙ natural-step s (0 * 256 + getD s (at + 2) 0) (at + 2 + 1) (at + 4) (omega arith) (omega arith)
-      ∙ natural-end s ((0 * 256 + getD s (at + 2) 0) * 256 + getD s (at + 2 + 1) 0) (at + 2 + 1 + 1) (at + 4) (omega arith)
-      ∙ ap (λ (k : ℕ). (0 * 256 + getD s (at + 2) 0) * 256 + getD s k 0) next
-      ∙ omega arith)
+      of-bytes 2 (getD s (at + 2) 0 * 256 + getD s (at + 3) 0) (at + 4) (omega arith) (omega arith) (omega arith)
+      (rw (first-left s (at + 2) (omega arith), next, first-left s (at + 3) (omega arith)) (omega arith))
 
 -- a length that is wrong is wrong for what stands around it
 pub around-wrong : (end k : ℕ) (x : Taken ℕ) (w p : ℕ) → measured end x ≡ Wrong w p → measured end (around k x) ≡ Wrong w p
@@ -402,19 +341,14 @@ module _ (s : List ℕ) (p : ℕ) where
   -- an array whose bytes begin at a place
   pub shown-array : (body size : ℕ) → body ≤ length s → size ≤ length s - body
       → shown-atom p (length s) (and-then (take-bytes size (drop body s)) as-array) ≡ Whole 2 body (body + size)
-  unfolding take-bytes
   shown-array body size h k =
-      let left = length-drop body s in
-      let last : length s - length (drop size (drop body s)) ≡ body + size = simp length-drop (omega arith) in
-      let whole-size : length (take size (drop body s)) ≡ size = simp (length-take, length-drop) (omega arith) in
+      let bytes : length (take size (drop body s)) ≡ size = simp (length-take, length-drop) (omega arith) in
       let first : body + size - size ≡ body = omega arith in
-      rw (le-leb size (length (drop body s)) (omega arith), last, whole-size, first)
+      rw (take-there s body size h k, left-at s (body + size) (omega arith), bytes, first)
 
-  pub shown-short : (body size : ℕ) → body ≤ length s → length s - body < size
+  pub shown-short : (body size : ℕ) → length s - body < size
       → shown-atom p (length s) (and-then (take-bytes size (drop body s)) as-array) ≡ Bad 2 (length s)
-  unfolding take-bytes
-  shown-short body size h k =
-      let left = length-drop body s in rw (lt-leb size (length (drop body s)) (omega arith)) (ap (Bad 2) (omega arith))
+  shown-short body size k = rw (take-short s body size k) (ap (Bad 2) (omega arith))
 
   -- a reference at p whose marker is m, with the name byte at q
   module _ (m q : ℕ) where

@@ -2,14 +2,12 @@
 -- Assumes nothing.
 use borrow.Author.Needs.{needs}
 use Prim.Native.Nat.{ℕ, suc}
-use mathlib.Core.Path.{_≡_, sym, ap, _∙_}
-use mathlib.Core.List.{List}
+use mathlib.Core.Path.{_≡_, sym, _∙_}
 use native.Mathlib.Omega.{arith}
 use native.Mathlib.Numerals.{add-one}
 use lib.ListN.{length, drop}
-use Rattle.spec.specs.Reading.{Taken, and-then, length-expr, as-array}
+use Rattle.spec.specs.Reading.{length-expr}
 use Rattle.laws.proofs.Steps.{all-bytes}
-use Rattle.atoms.specs.Tokens.{shown-atom}
 use Rattle.atoms.specs.declared.Length.the-variants.{Is}
 use Rattle.atoms.proofs.Places.{ToldLength, told-length, told-bytes, array-wrong}
 use Rattle.atoms.proofs.any_array.Statement.{statement}
@@ -35,10 +33,8 @@ returns c =
 returns-2 : tie.Need-returns-2
 returns-2 c =
     let a = c .before .before .before .before .before .before .args in
-    let s = a .s .now in
     let t = at-length (c .before .before .before .before) _ _ (c .before .before .value .given .1) in
-    c .bytes-at .ensures (a .at)
-    ∙ ap (λ (y : Taken (List ℕ)). shown-atom (a .at) (length s) (and-then y as-array)) (told-bytes s _ _ _ (omega arith) t)
+    rw (told-bytes (a .s .now) _ _ _ (omega arith) t) at (c .bytes-at .ensures (a .at))
 
 pub any-array-spec : {M : Type 1} → statement M
 any-array-spec =

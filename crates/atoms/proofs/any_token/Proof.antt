@@ -3,14 +3,9 @@
 use borrow.Author.Needs.{needs}
 use mathlib.Core.Path.{sym, _∙_}
 use native.Mathlib.Omega.{arith}
-use native.Mathlib.Numerals.{add-one}
 use Rattle.atoms.proofs.First.{first-nil, first-opening, first-closing, first-array, first-reserved, first-short, first-long, first-int, first-small}
 use Rattle.atoms.proofs.any_token.Statement.{statement}
 use Rattle.atoms.proofs.any_token.Tie as tie
-
-cast-bytes-at : tie.Need-cast-bytes-at
-cast-bytes-at c =
-    omega (arith, c .before .before .before .before .shared-slice-known2 .given (c .before .before .before .before .before .before .args .at))
 
 returns : tie.Need-returns
 returns c = let a = c .before .before .before .args in sym (first-nil (a .s .now) (a .at) (omega arith) (c .match .keys1))
@@ -34,30 +29,23 @@ returns-5 c =
 returns-6 : tie.Need-returns-6
 returns-6 c =
     let a = c .before .before .before .before .args in
-    let no = c .before .match .rest in
-    sym (first-reserved (a .s .now) (a .at) (omega arith) (no .0 .0 .0 .0 .1) (no .0 .1) (no .0 .0 .0 .1) (no .0 .0 .1) (c .if1 .taken))
+    let no = c .before .match .rest .0 in
+    sym (first-reserved (a .s .now) (a .at) (omega arith) (omega (arith, no .0 .0 .0 .1, no .0 .0 .1, no .0 .1, no .1)) (c .if1 .taken))
 
 returns-7 : tie.Need-returns-7
 returns-7 c =
     let a = c .before .before .before .before .before .before .args in
-    let no = c .before .before .before .match .rest in
-    rw (add-one (a .at)) at (c .reference .ensures)
-    ∙ sym (first-short (a .s .now) (a .at) (omega arith) (no .0 .0 .0 .0 .1) (no .0 .1) (no .0 .0 .0 .1) (no .0 .0 .1) (c .before .before .if1 .left) (c .before .if2 .taken))
+    c .reference .ensures ∙ sym (first-short (a .s .now) (a .at) (omega arith) (c .before .before .if1 .left) (c .before .if2 .taken))
 
 returns-8 : tie.Need-returns-8
 returns-8 c =
     let a = c .before .before .before .before .before .before .args in
-    let no = c .before .before .before .match .rest in
-    sym
-    (first-int (a .s .now) (a .at) (omega arith) (no .0 .0 .0 .0 .1) (no .0 .1) (no .0 .0 .0 .1) (no .0 .0 .1) (c .before .before .if1 .left)
-    (omega (arith, no .1, c .before .if2 .left)) (c .if3 .taken))
+    sym (first-int (a .s .now) (a .at) (omega arith) (omega (arith, c .before .before .before .match .rest .1, c .before .if2 .left)) (c .if3 .taken))
 
 returns-9 : tie.Need-returns-9
 returns-9 c =
     let a = c .before .before .before .before .before .before .before .args in
-    let no = c .before .before .before .before .match .rest in
-    rw (add-one (a .at)) at (c .bytes-at .ensures (a .at))
-    ∙ sym (first-small (a .s .now) (a .at) (omega arith) (no .0 .0 .0 .0 .1) (no .0 .1) (no .0 .0 .0 .1) (no .0 .0 .1) (c .before .before .before .if1 .left) (c .before .if3 .left))
+    c .bytes-at .ensures (a .at) ∙ sym (first-small (a .s .now) (a .at) (omega arith) (c .before .if3 .left))
 
 pub any-token-spec : {M : Type 1} → statement M
 any-token-spec =
@@ -72,7 +60,7 @@ any-token-spec =
     (λ c κs. search needs)
     (λ c. search needs)
     (λ c. search needs)
-    cast-bytes-at
+    (λ c. omega (arith, c .before .before .before .before .shared-slice-known2 .given (c .before .before .before .before .before .before .args .at)))
     (λ c κs. search needs)
     returns
     returns-2

@@ -1,46 +1,30 @@
 -- `atoms::array_at` meets its contract: the bytes that a short length gives, and `any_array` for the others.
 -- Assumes nothing.
 use borrow.Author.Needs.{needs}
-use Prim.Native.Nat.{ℕ, _+_}
-use mathlib.Core.Path.{_≡_, ap, _∙_}
-use mathlib.Core.List.{List}
+use Prim.Native.Nat.{_+_}
 use native.Mathlib.Omega.{arith}
-use lib.ListN.{length}
-use Rattle.spec.specs.Reading.{Taken, and-then, as-array}
-use Rattle.atoms.specs.Tokens.{shown-atom}
-use Rattle.atoms.specs.declared.Token.{Token}
 use Rattle.atoms.proofs.Places.{array-int, array-one, array-two}
 use Rattle.atoms.proofs.array_at.Statement.{statement}
 use Rattle.atoms.proofs.array_at.Tie as tie
 
--- the array whose bytes these are
-by-bytes : (s : List ℕ) (at : ℕ) {r : Token} {x y : Taken (List ℕ)} → r ≡ shown-atom at (length s) (and-then x as-array) → x ≡ y
-    → r ≡ shown-atom at (length s) (and-then y as-array)
-by-bytes s at told is = told ∙ ap (λ (z : Taken (List ℕ)). shown-atom at (length s) (and-then z as-array)) is
-
-cast-bytes-at : tie.Need-cast-bytes-at
-cast-bytes-at c = omega (arith, c .shared-slice-known3 .given (c .before .before .before .before .before .args .at + 2))
-
-cast-bytes-at-2 : tie.Need-cast-bytes-at-2
-cast-bytes-at-2 c = omega (arith, c .shared-slice-known4 .given (c .before .before .before .before .before .args .at + 2))
-
-mul-bytes-at : tie.Need-mul-bytes-at
-mul-bytes-at c = omega (arith, c .shared-slice-known4 .given (c .before .before .before .before .before .args .at + 2))
-
-cast-bytes-at-3 : tie.Need-cast-bytes-at-3
-cast-bytes-at-3 c = omega (arith, c .shared-slice-known5 .given (c .before .before .before .before .before .before .args .at + 3))
-
 add-bytes-at-6 : tie.Need-add-bytes-at-6
-add-bytes-at-6 c = let a = c .before .before .before .before .before .before .args in omega (arith, c .shared-slice-known5 .given (a .at + 2), c .shared-slice-known5 .given (a .at + 3))
+add-bytes-at-6 c = let a = c .before .before .before .before .before .before .args in
+    omega (arith, c .shared-slice-known5 .given (a .at + 2), c .shared-slice-known5 .given (a .at + 3))
 
 returns-2 : tie.Need-returns-2
-returns-2 c = by-bytes (c .before .before .before .before .before .before .args .s .now) (c .before .before .before .before .before .before .args .at) (c .bytes-at .ensures (c .before .before .before .before .before .before .args .at)) (array-one (c .before .before .before .before .before .before .args .s .now) (c .before .before .before .before .before .before .args .at) (λ i. c .before .before .before .shared-slice-known2 .given i .fits) (omega arith) (omega arith) (c .before .before .match .keys1))
+returns-2 c =
+    let a = c .before .before .before .before .before .before .args in
+    rw (array-one (a .s .now) (a .at) (omega arith) (c .before .before .match .keys1)) at (c .bytes-at .ensures (a .at))
 
 returns-3 : tie.Need-returns-3
-returns-3 c = by-bytes (c .before .before .before .before .before .before .before .args .s .now) (c .before .before .before .before .before .before .before .args .at) (c .bytes-at2 .ensures (c .before .before .before .before .before .before .before .args .at)) (array-two (c .before .before .before .before .before .before .before .args .s .now) (c .before .before .before .before .before .before .before .args .at) (λ i. c .before .before .before .before .shared-slice-known2 .given i .fits) (omega arith) (omega arith) (c .before .before .before .match .keys2))
+returns-3 c =
+    let a = c .before .before .before .before .before .before .before .args in
+    rw (array-two (a .s .now) (a .at) (omega arith) (c .before .before .before .match .keys2)) at (c .bytes-at2 .ensures (a .at))
 
 returns-4 : tie.Need-returns-4
-returns-4 c = by-bytes (c .before .before .before .before .before .before .before .args .s .now) (c .before .before .before .before .before .before .before .args .at) (c .bytes-at3 .ensures (c .before .before .before .before .before .before .before .args .at)) (array-int (c .before .before .before .before .before .before .before .args .s .now) (c .before .before .before .before .before .before .before .args .at) (λ i. c .before .before .before .before .shared-slice-known2 .given i .fits) (omega arith) (omega arith) (c .before .before .if2 .left) (c .before .if3 .taken))
+returns-4 c =
+    let a = c .before .before .before .before .before .before .before .args in
+    rw (array-int (a .s .now) (a .at) (omega arith) (c .before .before .if2 .left) (c .before .if3 .taken)) at (c .bytes-at3 .ensures (a .at))
 
 pub array-at-spec : {M : Type 1} → statement M
 array-at-spec =
@@ -54,16 +38,16 @@ array-at-spec =
     (λ c. search needs)
     (λ c. search needs)
     (λ c. search needs)
-    cast-bytes-at
+    (λ c. omega (arith, c .shared-slice-known3 .given (c .before .before .before .before .before .args .at + 2)))
     (λ c κs. search needs)
     (λ c. search needs)
     (λ c. search needs)
     (λ c. search needs)
-    cast-bytes-at-2
-    mul-bytes-at
+    (λ c. omega (arith, c .shared-slice-known4 .given (c .before .before .before .before .before .args .at + 2)))
+    (λ c. omega (arith, c .shared-slice-known4 .given (c .before .before .before .before .before .args .at + 2)))
     (λ c. search needs)
     (λ c. search needs)
-    cast-bytes-at-3
+    (λ c. omega (arith, c .shared-slice-known5 .given (c .before .before .before .before .before .before .args .at + 3)))
     add-bytes-at-6
     (λ c κs. search needs)
     (λ c. search needs)

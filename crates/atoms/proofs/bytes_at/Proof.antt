@@ -7,7 +7,7 @@ use Rattle.atoms.proofs.bytes_at.Statement.{statement}
 use Rattle.atoms.proofs.bytes_at.Tie as tie
 
 returns : tie.Need-returns
-returns c = let a = c .before .args in λ p. sym (shown-short (a .s .now) p (a .body) (a .size) (c .before .pre) (c .if1 .taken))
+returns c = let a = c .before .args in λ p. sym (shown-short (a .s .now) p (a .body) (a .size) (c .if1 .taken))
 
 returns-2 : tie.Need-returns-2
 returns-2 c = let a = c .before .args in λ p. sym (shown-array (a .s .now) p (a .body) (a .size) (c .before .pre) (c .if1 .left))

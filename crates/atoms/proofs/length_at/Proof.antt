@@ -6,49 +6,41 @@ use mathlib.Core.Path.{_≡_, sym, ap, _∙_}
 use mathlib.Core.List.{List}
 use native.Mathlib.Omega.{arith}
 use lib.ListN.{length, drop, length-drop}
-use lib.Seq.{drop-drop}
-use Rattle.spec.specs.Reading.{Taken, taken, failed}
+use Rattle.spec.specs.Reading.{Taken, taken}
 use Rattle.laws.proofs.Steps.{all-bytes}
-use Rattle.atoms.specs.Tokens.{measured, around}
-use Rattle.atoms.proofs.Places.{measured-wrong, threes-few, length-many, behind-threes, around-wrong, around-held, ToldLength, told-plain}
+use Rattle.atoms.specs.Tokens.{measured, plain, around}
+use Rattle.atoms.specs.declared.Length.the-variants.{Is}
+use Rattle.atoms.proofs.Places.{too-many-threes, BehindThrees, behind-threes, around-wrong, around-held, ToldLength, told-plain}
 use Rattle.atoms.proofs.length_at.Statement.{statement}
 use Rattle.atoms.proofs.length_at.Tie as tie
 
 returns : tie.Need-returns
 returns c =
     let a = c .before .before .before .args in
-    let s = a .s .now in
-    let count = c .before .threes .ensures in
-    let few = threes-few 8 (drop (a .at) s) in
-    let size = length-drop (a .at) s in
-    sym
-    (ap (measured (length s)) (length-many 7 (drop (a .at) s) (sym count ∙ c .if1 .taken) ∙ ap (failed 6) (drop-drop 7 (a .at) s))
-    ∙ measured-wrong s 6 (a .at + 7) (omega (arith, c .if1 .taken)))
+    sym (too-many-threes (a .s .now) (a .at) _ (omega arith) (c .before .threes .ensures) (c .if1 .taken))
 
-add-plain-length : tie.Need-add-plain-length
-add-plain-length c =
-    let a = c .before .before .before .args in
-    omega (arith, behind-threes (a .s .now) (a .at) _ (omega arith) (c .before .threes .ensures) (c .if1 .left) .inside)
+-- what stands behind the bytes 03
+behind : (c : tie.Else1) → let a = c .before .before .before .args in BehindThrees (a .s .now) (a .at) (c .before .threes .result)
+behind c = let a = c .before .before .before .args in behind-threes (a .s .now) (a .at) _ (omega arith) (c .before .threes .ensures) (c .if1 .left)
 
-plain-length-requires : tie.Need-plain-length-requires
-plain-length-requires c κs =
-    let a = c .before .before .before .args in
-    behind-threes (a .s .now) (a .at) _ (omega arith) (c .before .threes .ensures) (c .if1 .left) .inside
+-- the innermost length
+inner : (c : tie.After-plain-length) (v e : ℕ) → c .plain-length .result ≡ Is v e
+    → let a = c .before .before .before .before .args in ToldLength (a .s .now) (plain (drop (a .at + c .before .before .threes .result) (a .s .now))) v e
+inner c v e told =
+    let s = c .before .before .before .before .args .s .now in
+    told-plain s _ v e (all-bytes s (λ i. c .before .before .before .shared-slice-known .given i .fits)) (behind (c .before) .inside)
+    (sym (c .plain-length .ensures) ∙ told)
 
 nested-length-requires : tie.Need-nested-length-requires
 nested-length-requires c κs =
-    let a = c .before .before .before .before .before .before .before .args in
-    let k = behind-threes (a .s .now) (a .at) _ (omega arith) (c .before .before .before .before .before .threes .ensures) (c .before .before .before .before .if1 .left) in
-    let stream = all-bytes (a .s .now) (λ i. c .before .before .before .before .before .before .shared-slice-known .given i .fits) in
-    let t = told-plain (a .s .now) _ _ _ stream (k .inside) (sym (c .before .before .before .plain-length .ensures) ∙ c .before .value .given .1) in
-    (omega arith, t .inside, omega (arith, t .held))
+    let t = inner (c .before .before .before) _ _ (c .before .value .given .1) in (omega arith, t .inside, omega (arith, t .held))
 
 returns-2 : tie.Need-returns-2
 returns-2 c =
-    let a = c .before .before .before .before .before .before .before .args in
-    let s = a .s .now in
-    let k = behind-threes s (a .at) _ (omega arith) (c .before .before .before .before .before .threes .ensures) (c .before .before .before .before .if1 .left) in
-    sym (ap (measured (length s)) (k .is) ∙ around-wrong (length s) _ _ _ _ (sym (c .before .before .before .plain-length .ensures) ∙ c .before .number .given .1))
+    let s = c .before .before .before .before .before .before .before .args .s .now in
+    sym
+    (ap (measured (length s)) (behind (c .before .before .before .before) .is)
+    ∙ around-wrong (length s) _ _ _ _ (sym (c .before .before .before .plain-length .ensures) ∙ c .before .number .given .1))
 
 -- a length that was told serves as well as the exact one
 told-around : (s : List ℕ) (depth v e : ℕ) (x : Taken ℕ) → length s ≤ 65536 → ToldLength s x v e
@@ -62,12 +54,9 @@ told-around s depth v e x h t =
 
 returns-3 : tie.Need-returns-3
 returns-3 c =
-    let a = c .before .before .before .before .before .before .before .before .args in
-    let s = a .s .now in
-    let k = behind-threes s (a .at) _ (omega arith) (c .before .before .before .before .before .before .threes .ensures) (c .before .before .before .before .before .if1 .left) in
-    let stream = all-bytes s (λ i. c .before .before .before .before .before .before .before .shared-slice-known .given i .fits) in
-    let t = told-plain s _ _ _ stream (k .inside) (sym (c .before .before .before .before .plain-length .ensures) ∙ c .before .before .value .given .1) in
-    c .nested-length .ensures ∙ told-around s _ _ _ _ (omega arith) t ∙ sym (ap (measured (length s)) (k .is))
+    let s = c .before .before .before .before .before .before .before .before .args .s .now in
+    let t = inner (c .before .before .before .before) _ _ (c .before .before .value .given .1) in
+    c .nested-length .ensures ∙ told-around s _ _ _ _ (omega arith) t ∙ sym (ap (measured (length s)) (behind (c .before .before .before .before .before) .is))
 
 pub length-at-spec : {M : Type 1} → statement M
 length-at-spec =
@@ -76,8 +65,8 @@ length-at-spec =
     (λ c κs. search needs)
     (λ c. search needs)
     returns
-    add-plain-length
-    plain-length-requires
+    (λ c. omega (arith, behind c .inside))
+    (λ c κs. behind c .inside)
     (λ c. search needs)
     (λ c. search needs)
     nested-length-requires

@@ -4,10 +4,8 @@ use Prim.Native.Nat.{ℕ, suc, _+_, _*_, _-_, _≤_}
 use mathlib.Core.Path.{_≡_, sym, ap, _∙_}
 use native.Mathlib.Omega.{arith}
 use native.Mathlib.Numerals.{add-one}
-use mathlib.Core.List.{List}
 use lib.ListN.{length, drop}
-use Rattle.spec.specs.Reading.{Taken, and-then, marker, name}
-use Rattle.atoms.specs.Tokens.{shown-atom}
+use Rattle.spec.specs.Reading.{marker}
 use Rattle.atoms.specs.declared.Token.the-variants.{Bad}
 use Rattle.atoms.proofs.Places.{marker-end, marker-more, marker-last}
 use Rattle.atoms.proofs.long_reference.Statement.{statement}
@@ -22,23 +20,10 @@ abbrev μ-loop : tie.MeasureT-loop
 loop-holds : tie.Need-loop-holds Inv-loop μ-loop
 loop-holds c = (omega arith, omega arith, ap (λ (p : ℕ). marker 0x7F (drop p (c .before .args .s .now))) (sym (add-one (c .before .args .at))))
 
-cast-sum : tie.Need-cast-sum Inv-loop μ-loop
-cast-sum c = omega (arith, c .shared-slice-known2 .given (c .before .before .loop .p))
-
-add-sum : tie.Need-add-sum Inv-loop μ-loop
-add-sum c = omega (arith, c .shared-slice-known2 .given (c .before .before .loop .p))
-
--- the marker is told, so what follows is the name
-named : (s : List ℕ) (at : ℕ) (x : Taken ℕ) → marker 0x7F (drop (suc at) s) ≡ x
-    → shown-atom at (length s) (and-then (marker 0x7F (drop (suc at) s)) (name (drop at s))) ≡ shown-atom at (length s) (and-then x (name (drop at s)))
-named s at x e = ap (λ (y : Taken ℕ). shown-atom at (length s) (and-then y (name (drop at s)))) e
-
 returns : tie.Need-returns Inv-loop μ-loop
 returns c =
-    let a = c .before .before .before .before .before .before .args in
     let l = c .before .before .before .before .loop in
-    let s = a .s .now in
-    c .reference .ensures ∙ sym (named s (a .at) _ (l .inv .2 ∙ marker-last s (l .p) (l .sum) (omega arith) (c .before .if1 .taken)))
+    rw (l .inv .2 ∙ marker-last _ (l .p) (l .sum) (omega arith) (c .before .if1 .taken)) (c .reference .ensures)
 
 loop-again : tie.Need-loop-again Inv-loop μ-loop
 loop-again c =
@@ -50,11 +35,7 @@ loop-again c =
     )
 
 returns-2 : tie.Need-returns-2 Inv-loop μ-loop
-returns-2 c =
-    let a = c .before .before .before .args in
-    let l = c .before .loop in
-    let s = a .s .now in
-    sym (named s (a .at) _ (l .inv .2 ∙ marker-end s (l .p) (l .sum) (omega arith)) ∙ ap (Bad 2) (omega arith))
+returns-2 c = let l = c .before .loop in rw (l .inv .2 ∙ marker-end _ (l .p) (l .sum) (omega arith)) (ap (Bad 2) (omega arith))
 
 pub long-reference-spec : {M : Type 1} → statement M
 long-reference-spec =
@@ -65,8 +46,8 @@ long-reference-spec =
     (λ c. omega arith)
     loop-holds
     (λ c. omega arith)
-    cast-sum
-    add-sum
+    (λ c. omega (arith, c .shared-slice-known2 .given (c .before .before .loop .p)))
+    (λ c. omega (arith, c .shared-slice-known2 .given (c .before .before .loop .p)))
     (λ c. omega arith)
     (λ c κs. omega arith)
     returns

@@ -21,12 +21,6 @@ abbrev μ-loop : tie.MeasureT-loop
 loop-holds : tie.Need-loop-holds Inv-loop μ-loop
 loop-holds c = (omega arith, omega arith, omega arith, refl)
 
-cast-v : tie.Need-cast-v Inv-loop μ-loop
-cast-v c = omega (arith, c .shared-slice-known .given (c .before .before .loop .i))
-
-add-v : tie.Need-add-v Inv-loop μ-loop
-add-v c = omega (arith, c .shared-slice-known .given (c .before .before .loop .i))
-
 -- where the arms meet, `v` is the next number, held
 held : (c : tie.Joined1 Inv-loop μ-loop)
     → c .if1 .v ≡ min (c .before .before .before .loop .v * 256 + getD (c .before .before .before .before .args .s .now) (c .before .before .before .loop .i) 0) 65537
@@ -61,8 +55,8 @@ number-spec =
     loop-holds
     (λ c. omega arith)
     (λ c. omega arith)
-    cast-v
-    add-v
+    (λ c. omega (arith, c .shared-slice-known .given (c .before .before .loop .i)))
+    (λ c. omega (arith, c .shared-slice-known .given (c .before .before .loop .i)))
     (λ c. omega arith)
     (λ c. omega arith)
     loop-again

@@ -13,9 +13,6 @@ use Rattle.atoms.proofs.plain_length.Tie as tie
 returns : tie.Need-returns
 returns c = let a = c .before .before .args in sym (plain-end (a .s .now) (a .at) (c .if1 .taken))
 
-cast-b : tie.Need-cast-b
-cast-b c = omega (arith, c .shared-slice-known2 .given (c .before .before .before .args .at))
-
 returns-2 : tie.Need-returns-2
 returns-2 c = let a = c .before .before .before .before .args in sym (plain-wrong (a .s .now) (a .at) (omega arith) (c .if2 .taken))
 
@@ -42,7 +39,7 @@ plain-length-spec =
     (tie.spec
     returns
     (λ c. search needs)
-    cast-b
+    (λ c. omega (arith, c .shared-slice-known2 .given (c .before .before .before .args .at)))
     (λ c. search needs)
     returns-2
     returns-3

@@ -46,8 +46,7 @@ returns-3 : tie.Need-returns-3 Inv-loop μ-loop
 returns-3 c =
     let a = c .before .before .args in
     let l = c .before .loop in
-    let none : 8 - l .k ≡ 0 = omega arith in
-    omega (arith, rw none at (l .inv .2), threes-none (drop (a .at + l .k) (a .s .now)))
+    omega (arith, threes-none (8 - l .k) (drop (a .at + l .k) (a .s .now)) (λ h. absurd (omega arith)))
 
 pub threes-spec : {M : Type 1} → statement M
 threes-spec =

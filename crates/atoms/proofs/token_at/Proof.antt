@@ -3,7 +3,7 @@
 use borrow.Author.Needs.{needs}
 use mathlib.Core.Path.{sym}
 use native.Mathlib.Omega.{arith}
-use Rattle.atoms.proofs.First.{first-nil, first-opening, first-closing, int-whole, short-whole, small-whole}
+use Rattle.atoms.proofs.First.{first-nil, first-opening, first-closing, first-int, short-whole, small-whole}
 use Rattle.atoms.proofs.token_at.Statement.{statement}
 use Rattle.atoms.proofs.token_at.Tie as tie
 
@@ -20,10 +20,7 @@ returns-4 : tie.Need-returns-4
 returns-4 c = let a = c .before .before .before .before .before .before .args in sym (short-whole (a .s .now) (a .at) (omega arith) (c .before .before .if1 .left) (c .before .if2 .taken) (c .if3 .taken))
 
 returns-5 : tie.Need-returns-5
-returns-5 c = let a = c .before .before .before .before .before .before .before .args in sym (int-whole (a .s .now) (a .at) (omega arith) (c .before .if4 .left) (c .if5 .taken))
-
-cast-size : tie.Need-cast-size
-cast-size c = omega (arith, c .before .before .before .before .before .shared-slice-known2 .given (c .before .before .before .before .before .before .before .args .at))
+returns-5 c = let a = c .before .before .before .before .before .before .before .args in sym (first-int (a .s .now) (a .at) (omega arith) (c .before .if4 .left) (c .if5 .taken))
 
 returns-6 : tie.Need-returns-6
 returns-6 c = let a = c .before .before .before .before .before .before .before .before .args in sym (small-whole (a .s .now) (a .at) (omega arith) (c .before .if5 .left) (c .if6 .taken))
@@ -42,7 +39,7 @@ token-at-spec =
     returns-4
     (λ c. search needs)
     returns-5
-    cast-size
+    (λ c. omega (arith, c .before .before .before .before .before .shared-slice-known2 .given (c .before .before .before .before .before .before .before .args .at)))
     (λ c. search needs)
     (λ c. search needs)
     (λ c. search needs)

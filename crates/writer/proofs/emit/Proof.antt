@@ -45,8 +45,8 @@ module _ (c : tie.At-loop Inv-loop μ-loop) where
 
   -- the next token: its room, and what holds behind it
   module _ {t : Token} (q : ℕ) (step : tokens-from stream (c .loop .at) ≡ t ∷ tokens-from stream q) where
-    room : c .loop .to + length (bytes-of t) ≤ length (c .loop .out)
-    room = token-room (c .before .before .before .pre .1) (c .loop .inv) q step
+    room : (c .loop .to + length (bytes-of t) ≤ length (c .loop .out)) × (length (c .loop .out) ≡ length (c .before .before .before .args .out .now))
+    room = (token-room (c .before .before .before .pre .1) (c .loop .inv) q step, same)
 
     kept : {new : List ℕ} {past : ℕ} → q ≤ length stream → Put (c .loop .out) (c .loop .to) (bytes-of t) new past
         → Emitted stream (c .before .before .before .args .out .now) new q past
@@ -86,58 +86,25 @@ module _ (c : tie.After-known-told Inv-loop μ-loop) where
   atom-written : atom-bytes (atom-there .atom) ≡ with-head kind part
   atom-written = atom-there .written ∙ ap (λ (n : ℕ). atom-head kind n ++ part) (sym (mid-len body end _ (atom-there .inside)))
 
-loop-holds : tie.Need-loop-holds Inv-loop μ-loop
-loop-holds c = emitted-none _ _ (c .before .before .pre .0)
-
-token-at-requires : tie.Need-token-at-requires Inv-loop μ-loop
-token-at-requires c κs = omega (arith, short (c .before))
-
-slice-write-out : tie.Need-slice-write-out Inv-loop μ-loop
-slice-write-out c = omega (arith, room (c .before .before .before .before) _ (opened c))
-
-add-to : tie.Need-add-to Inv-loop μ-loop
-add-to c =
-    let l = c .before .before .before .before in
-    omega (arith, room l _ (opened c), same l)
-
 loop-again : tie.Need-loop-again Inv-loop μ-loop
 loop-again c =
     let l = c .before .before .before .before in
-    kept l _ (opened c) (omega arith) (stored _ _ _ (room l _ (opened c)))
-
-slice-write-out-2 : tie.Need-slice-write-out-2 Inv-loop μ-loop
-slice-write-out-2 c = omega (arith, room (c .before .before .before .before) _ (closed c))
-
-add-to-2 : tie.Need-add-to-2 Inv-loop μ-loop
-add-to-2 c =
-    let l = c .before .before .before .before in
-    omega (arith, room l _ (closed c), same l)
+    kept l _ (opened c) (omega arith) (stored _ _ _ (room l _ (opened c) .0))
 
 loop-again-2 : tie.Need-loop-again-2 Inv-loop μ-loop
 loop-again-2 c =
     let l = c .before .before .before .before in
-    kept l _ (closed c) (omega arith) (stored _ _ _ (room l _ (closed c)))
-
-sub-put-atom : tie.Need-sub-put-atom Inv-loop μ-loop
-sub-put-atom c = atom-there c .ends
-
-part-put-atom-start : tie.Need-part-put-atom-start Inv-loop μ-loop
-part-put-atom-start c = atom-there c .ends
-
-part-put-atom-end : tie.Need-part-put-atom-end Inv-loop μ-loop
-part-put-atom-end c = atom-there c .inside
+    kept l _ (closed c) (omega arith) (stored _ _ _ (room l _ (closed c) .0))
 
 put-atom-requires : tie.Need-put-atom-requires Inv-loop μ-loop
 put-atom-requires c κs =
     let k = c .before .before in
     let w = atom-there k in
     let l = k .before .before .before .before .before in
-    rw (← atom-written k) (omega (arith, w .shorter, w .inside, short l), room l _ (w .is))
+    rw (← atom-written k) (omega (arith, w .shorter, w .inside, short l), room l _ (w .is) .0)
 
 loop-less-3 : tie.Need-loop-less-3 Inv-loop μ-loop
-loop-less-3 c =
-    let w = atom-there (c .before .before .before .before .before) in
-    omega (arith, w .forward, w .inside)
+loop-less-3 c = let w = atom-there (c .before .before .before .before .before) in omega (arith, w .forward, w .inside)
 
 loop-again-3 : tie.Need-loop-again-3 Inv-loop μ-loop
 loop-again-3 c =
@@ -146,16 +113,10 @@ loop-again-3 c =
     let l = k .before .before .before .before .before in
     kept l _ (w .is) (w .inside) (rw (atom-written k) (c .before .before .put-atom .ensures))
 
-same-length : tie.Need-same-length Inv-loop μ-loop
-same-length c = same (c .before .before .before .before)
-
 returns : tie.Need-returns Inv-loop μ-loop
 returns c =
     let bad = rw (c .enum-told3 .given .1) at (told (c .before .before)) in
     absurd (emitted-bad (c .before .before .before .before .before .before .before .pre .1) (c .before .before .before .before .loop .inv) (bad .1))
-
-same-length-2 : tie.Need-same-length-2 Inv-loop μ-loop
-same-length-2 c = same (c .before)
 
 returns-2 : tie.Need-returns-2 Inv-loop μ-loop
 returns-2 c = emitted-all (c .before .before .before .before .pre .1) (c .before .loop .inv) (c .loop-test .left)
@@ -166,29 +127,29 @@ emit-spec =
     (tie.spec
     Inv-loop
     μ-loop
-    loop-holds
-    token-at-requires
+    (λ c. emitted-none _ _ (c .before .before .pre .0))
+    (λ c κs. omega (arith, short (c .before)))
     (λ c. search needs)
-    slice-write-out
-    add-to
+    (λ c. omega (arith, room (c .before .before .before .before) _ (opened c)))
+    (λ c. omega (arith, room (c .before .before .before .before) _ (opened c)))
     (λ c. omega arith)
     (λ c. omega arith)
     loop-again
     (λ c. search needs)
-    slice-write-out-2
-    add-to-2
+    (λ c. omega (arith, room (c .before .before .before .before) _ (closed c)))
+    (λ c. omega (arith, room (c .before .before .before .before) _ (closed c)))
     (λ c. omega arith)
     (λ c. omega arith)
     loop-again-2
     (λ c. search needs)
-    sub-put-atom
-    part-put-atom-start
-    part-put-atom-end
+    (λ c. atom-there c .ends)
+    (λ c. atom-there c .ends)
+    (λ c. atom-there c .inside)
     put-atom-requires
     loop-less-3
     loop-again-3
     (λ c. search needs)
-    same-length
+    (λ c. same (c .before .before .before .before))
     returns
-    same-length-2
+    (λ c. same (c .before))
     returns-2)
