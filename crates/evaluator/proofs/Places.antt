@@ -31,6 +31,9 @@ slice-take (suc a) (suc b) (x ∷ w) = let less : suc b - suc a ≡ b - a = omeg
 pub stand-size : {w : List ℕ} {from to : ℕ} {vs : Exprs} → Stand w from to vs → length (canonical vs) ≡ to - from
 stand-size {w} {from} {to} there = ap length (sym (there .bytes)) ∙ length-slice from to w (there .inside)
 
+pub stand-part : {w : List ℕ} {from to : ℕ} {vs : Exprs} → Stand w from to vs → take (to - from) (drop from w) ≡ canonical vs
+stand-part {w} {from} {to} there = sym (slice-take from to w) ∙ there .bytes
+
 -- What is left as it was
 
 pub untouched-none : (w : List ℕ) (below from : ℕ) → Untouched w w below from
