@@ -6,9 +6,9 @@ use mathlib.Core.List.{List}
 use lib.ListN.{length, set}
 use native.Mathlib.Omega.{arith}
 use Rattle.spec.specs.Expr.{Atom, array, ref, atom, Exprs, only, deepest}
-use Rattle.spec.specs.Nodes.{Node, leaf, branch, elements, head-word}
+use Rattle.spec.specs.Nodes.{Node, leaf, branch, Nodes, elements, head-word}
 use Rattle.spec.specs.Runs.{step, before}
-use Rattle.spec.specs.Plan.{function, Here, Plan, leave, associate, plan}
+use Rattle.spec.specs.Plan.{function, Here, Plan, refuse, leave, associate, plan}
 use Rattle.spec.specs.Evaluation.{add-namespace, complete, Call, ns-form, perform, eval, eval-all}
 use Rattle.laws.specs.Holding.{ceased, hold}
 use Rattle.laws.proofs.Holding.{hold-give, hold-stop, hold-step, hold-step-none, hold-complete, hold-complete-deep, hold-complete-none}
@@ -105,50 +105,38 @@ fits-with : {w : List ℕ} {st : State} (steps names : ℕ) → Fitting w st
 fits-with steps names f = record { paid = f .paid; below = f .below; short = f .short }
 
 -- an `ns` form's reference and id
-pub record Associates (s t : List ℕ) (row entry : ℕ) (e : Node) (h : Here) : Type 0 where
+pub record Associates (s t : List ℕ) (row entry : ℕ) (q : Plan) : Type 0 where
   pub marker : ℕ
   pub name : ℕ
   pub id : List ℕ
   pub reference : LeafAt s t (row + 2) (ref marker name)
   pub id-at : LeafAt s t (row + 3) (array id)
   pub is : entry ≡ named marker (row + 3)
-  pub plan-is : plan e h ≡ associate marker name id
+  pub plan-is : q ≡ associate marker name id
 
+-- what each task says of the plan
+module _ {s t w : List ℕ} {floor : ℕ} {sc : List Entry} {row : ℕ} {es : Nodes} where
+  refuse-plan : {n : ℕ} {q : Plan} → Planned s t w floor sc row es (Refuse n) q → q ≡ refuse n
+  refuse-plan (refuses _) = refl
+
+  pub own-leaf : {q : Plan} → Planned s t w floor sc row es Own q → (a : Atom) × LeafAt s t row a × (q ≡ leave (only (atom a)))
+  own-leaf (owns a l) = (a, l, refl)
+
+  pub again-stands : {from to : ℕ} {q : Plan} → Planned s t w floor sc row es (Again from to) q → (vs : Exprs) × Stand w from to vs × (q ≡ leave vs)
+  again-stands (repeats _ _ vs stand) = (vs, stand, refl)
+
+  pub ns-associates : {entry : ℕ} {q : Plan} → Planned s t w floor sc row es (Ns entry) q → Associates s t row entry q
+  ns-associates (associates m n id r a) =
+      record { marker = m; name = n; id = id; reference = r; id-at = a; is = refl; plan-is = refl }
+
+  -- a function's key and its code's row are numbers of 32 bits
+  pub function-small : {key code : ℕ} {q : Plan} → Planned s t w floor sc row es (Function key code) q → (key < function-bit) × (code < 65536)
+  function-small (defines m n _ body fits few c) = (omega (arith, fits .0, fits .1, fits .2), c .form .few)
+
+-- what is left
 module _ {s t w names : List ℕ} {sc : List Entry} {st : State} {row : ℕ} {e : Node} {h : Here} where
   pub fits-stepped : {task : Task} → Performing s t w names sc st task row e h → Fitting w (stepped st)
   fits-stepped p = fits-with (st .steps - 1) (st .names) (p .fitting)
-
-  -- what each task says of the plan
-
-  pub own-leaf : Performing s t w names sc st Own row e h → (a : Atom) × LeafAt s t row a × (plan e h ≡ leave (only (atom a)))
-  own-leaf p = go (plan e h) refl (p .planned)
-    where
-      go : (q : Plan) → plan e h ≡ q → Planned s t w (st .floor) sc row (elements e) Own q
-          → (a : Atom) × LeafAt s t row a × (plan e h ≡ leave (only (atom a)))
-      go _ is (owns a l) = (a, l, is)
-
-  pub again-stands : {from to : ℕ} → Performing s t w names sc st (Again from to) row e h → (vs : Exprs) × Stand w from to vs × (plan e h ≡ leave vs)
-  again-stands {from} {to} p = go (plan e h) refl (p .planned)
-    where
-      go : (q : Plan) → plan e h ≡ q → Planned s t w (st .floor) sc row (elements e) (Again from to) q
-          → (vs : Exprs) × Stand w from to vs × (plan e h ≡ leave vs)
-      go _ is (repeats _ _ vs stand) = (vs, stand, is)
-
-  pub ns-associates : {entry : ℕ} → Performing s t w names sc st (Ns entry) row e h → Associates s t row entry e h
-  ns-associates {entry} p = go entry (plan e h) refl (p .planned)
-    where
-      go : (entry : ℕ) (q : Plan) → plan e h ≡ q → Planned s t w (st .floor) sc row (elements e) (Ns entry) q → Associates s t row entry e h
-      go _ _ is (associates m n id r a) =
-          record { marker = m; name = n; id = id; reference = r; id-at = a; is = refl; plan-is = is }
-
-  -- a function's key and its code's row are numbers of 32 bits
-  pub function-small : {key code : ℕ} → Performing s t w names sc st (Function key code) row e h → (key < function-bit) × (code < 65536)
-  function-small {key} {code} p = go key (plan e h) (p .planned)
-    where
-      go : (key : ℕ) (q : Plan) → Planned s t w (st .floor) sc row (elements e) (Function key code) q → (key < function-bit) × (code < 65536)
-      go _ _ (defines m n _ body fits few c) = (omega (arith, fits .0, fits .1, fits .2), c .form .few)
-
-  -- what is left
 
   module _ (run : Call) where
     performed : {task : Task} → Performing s t w names sc st task row e h
@@ -156,11 +144,7 @@ module _ {s t w names : List ℕ} {sc : List Entry} {st : State} {row : ℕ} {e 
     performed p = eval-step s t row run h e (p .node) (st .steps) (st .room) (p .steps)
 
     pub refuse-begun : {n : ℕ} → Performing s t w names sc st (Refuse n) row e h → hold (st .steps) (st .room) (eval run e h) ≡ ceased n row
-    refuse-begun {n} p = performed p ∙ go (plan e h) (p .planned)
-      where
-        go : (q : Plan) → Planned s t w (st .floor) sc row (elements e) (Refuse n) q
-            → hold (st .steps - 1) (st .room) (perform run row (eval-all run (elements e)) h q) ≡ ceased n row
-        go _ (refuses _) = hold-stop (st .steps - 1) (st .room) n row
+    refuse-begun {n} p = performed p ∙ rw (refuse-plan (p .planned)) (hold-stop (st .steps - 1) (st .room) n row)
 
     pub leave-begun : {task : Task} (vs : Exprs) (w′ : List ℕ) (out : Out) → Performing s t w names sc st task row e h → plan e h ≡ leave vs
         → Completed w w′ (stepped st) (st .top) row vs out → LeftBy s t w w′ names sc st h (hold (st .steps) (st .room) (eval run e h)) (as-left out)
@@ -170,7 +154,7 @@ module _ {s t w names : List ℕ} {sc : List Entry} {st : State} {row : ℕ} {e 
         (p .namespaces) (p .counted) (p .most) c)
 
     pub associate-begun : {entry : ℕ} (w′ : List ℕ) (out : Out) → length names ≡ 64 → Performing s t w names sc st (Ns entry) row e h
-        → (a : Associates s t row entry e h)
+        → (a : Associates s t row entry (plan e h))
         → Completed w w′ (one-named (stepped st)) (st .top) row (ns-form (a .marker) (a .name) (a .id)) out
         → LeftBy s t w w′ (set names (st .names) entry) sc st h (hold (st .steps) (st .room) (eval run e h)) (as-left out)
     associate-begun {entry} w′ out size p a c =
@@ -209,16 +193,8 @@ module _ {s t w names : List ℕ} {sc : List Entry} {st : State} {row : ℕ} {e 
       where
         go : (q : Plan) → plan e h ≡ q → Planned s t w (st .floor) sc row (elements e) (Inside first after) q
             → GoesInside s t w sc st (stepped st) row first e h after
-        go _ is (goes-inside _ k place f _ nodes finishes) = record {
-          skipped = k;
-          place = place;
-          finish = f;
-          some-steps = p .steps;
-          state = refl;
-          plan-is = is;
-          nodes = nodes;
-          finishes = finishes;
-        }
+        go _ is (goes-inside _ k place f _ nodes finishes) =
+            record { skipped = k; place = place; finish = f; some-steps = p .steps; state = refl; plan-is = is; nodes = nodes; finishes = finishes }
 
     pub inside-begun : {first : ℕ} (after : After) → Performing s t w names sc st (Inside first after) row e h
         → Begun s t w w names names sc st row e h (hold (st .steps) (st .room) (eval run e h)) (going (stepped st) first after)

@@ -5,7 +5,7 @@ use mathlib.Core.Path.{_≡_, refl, sym, ap, _∙_, subst}
 use mathlib.Core.List.{List}
 use native.Mathlib.Omega.{arith}
 use lib.ListN.{length, take, drop, length-drop}
-use lib.Seq.{slice, length-slice}
+use lib.Seq.{slice}
 use Rattle.spec.specs.Expr.{if_then_else_, form, Exprs, only, size, deepest, canonical}
 use Rattle.spec.specs.Nodes.{Nodes}
 use Rattle.spec.specs.Runs.{done}
@@ -26,7 +26,7 @@ use Rattle.evaluator.specs.declared.values.State.{State}
 use Rattle.evaluator.specs.declared.values.Out.{Out}
 use Rattle.evaluator.specs.declared.values.Out.the-variants.{Done, Refused}
 use Rattle.evaluator.specs.declared.plan.Stands.the-variants.{Inner}
-use Rattle.evaluator.proofs.Places.{slice-take, untouched-less}
+use Rattle.evaluator.proofs.Places.{slice-take, stand-size, stand-part, untouched-less}
 use Rattle.evaluator.proofs.Begins.{completed-left}
 use Rattle.evaluator.proofs.Insides.{left-from}
 
@@ -41,12 +41,10 @@ module _ {s t : List ℕ} {bound codes : ℕ} {w names : List ℕ} {sc : List En
   part = take (st .top - start) (drop start w)
 
   pub part-is : part ≡ canonical vs
-  part-is = sym (slice-take start (st .top) w) ∙ c .stand .bytes
+  part-is = stand-part (c .stand)
 
   pub part-size : start + length part ≡ st .top
-  part-size =
-      let size = ap (λ (l : List ℕ). length l) (slice-take start (st .top) w) in
-      omega (arith, size, length-slice start (st .top) w (c .stand .inside), c .stand .order)
+  part-size = omega (arith, ap length part-is ∙ stand-size (c .stand), c .stand .order)
 
   pub call-arguments : (count : ℕ) (args : List ℕ)
       → ((u : List ℕ) (us : Exprs) → slice start (start + length part) u ≡ part → part ≡ canonical us → FitsAll us → deepest us ≤ 64

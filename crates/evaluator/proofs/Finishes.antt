@@ -5,7 +5,6 @@ use mathlib.Core.Path.{_≡_, refl, sym, ap, _∙_}
 use mathlib.Core.List.{List, [], _∷_, _++_}
 use mathlib.Core.Bool.{false, not}
 use lib.ListN.{length, length-append}
-use lib.Seq.{length-slice}
 use lib.Dec.{eqb}
 use native.Mathlib.Omega.{arith}
 use Rattle.spec.specs.Expr.{nil, array, int, ref, Expr, atom, form, Exprs, none, more, only, array-head, marker-bytes, atom-bytes, bytes, canonical}
@@ -32,6 +31,7 @@ use Rattle.evaluator.specs.declared.plan.After.the-variants.{Form, Defin
 use Rattle.evaluator.specs.declared.element.Left.the-variants.{Defined}
 use Rattle.evaluator.proofs.Nodes.{MoreAt, nodes-done, nodes-more}
 use Rattle.evaluator.proofs.Keys.{headed-by-key, head-fits}
+use Rattle.evaluator.proofs.Places.{stand-size}
 use Rattle.evaluator.proofs.Begins.{completed-left}
 
 -- Values that stand
@@ -48,10 +48,9 @@ bytes-some (form es) = omega arith
 -- so has one value
 single-stands : {w : List ℕ} {from to : ℕ} {vs : Exprs} → Single vs → Stand w from to vs → from < to
 unfolding bytes
-single-stands {w} {from} {to} one there =
+single-stands one there =
     let v = one .value in
-    let size = ap (λ (l : List ℕ). length l) (there .bytes ∙ ap canonical (one .is)) in
-    omega (arith, bytes-some v, length-append (bytes v) [], size, length-slice from to w (there .inside))
+    omega (arith, bytes-some v, length-append (bytes v) [], ap length (ap canonical (one .is)), stand-size there)
 
 -- What may be finished
 

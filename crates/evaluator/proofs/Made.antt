@@ -25,8 +25,8 @@ use Rattle.evaluator.specs.Completed.{Fitting, Stand, Untouched, with-to
 use Rattle.evaluator.specs.declared.forms.Bytes.{Bytes}
 use Rattle.evaluator.specs.declared.forms.Bytes.the-variants.{Array, Other}
 use Rattle.evaluator.specs.declared.values.State.{State}
-use Rattle.evaluator.proofs.Places.{slice-take, untouched-then, slice-below, put-untouched, slice-put, put-before, moved}
-use Rattle.evaluator.proofs.Completing.{complete-written, unkept, only-atom}
+use Rattle.evaluator.proofs.Places.{slice-take, stand-size, untouched-then, slice-below, put-untouched, slice-put, put-before, moved}
+use Rattle.evaluator.proofs.Completing.{Sized, written, only-atom}
 use Rattle.evaluator.proofs.Spread.{slice-rest}
 
 -- The form of values
@@ -39,48 +39,33 @@ form-depth : (vs : Exprs) → deepest (only (form vs)) ≡ 1 + deepest vs
 unfolding depth
 form-depth vs = omega arith
 
--- values moved one place up at least, then 01 before and 02 behind them
-form-put : (w : List ℕ) (start from to : ℕ) → start ≤ from → from ≤ to → to + 2 ≤ length w → let n : ℕ = to - from + 2 in
-    set (set (moved w from to (start + 1)) start 0x01) (start + n - 1) 0x02 ≡ put-at w start (0x01 ∷ (slice from to w ++ (0x02 ∷ [])))
-form-put w start from to h h′ room =
-    let bs = slice from to w in
-    let opened : List ℕ = 0x01 ∷ bs in
-    let size : length bs ≡ to - from = length-slice from to w (omega arith) in
-    let upper : start + 1 + length bs ≤ length w = omega (arith, size) in
-    let front : set (put-at w (start + 1) bs) start 0x01 ≡ put-at w start opened =
-    stored (put-at w (start + 1) bs) start (0x01 ∷ []) (omega (arith, length-put-at w (start + 1) bs upper)) .is
-    ∙ put-before w start (0x01 ∷ []) bs upper in
-    let past : start + (to - from + 2) - 1 ≡ start + length opened = omega (arith, size) in
-    let lower : start + length opened ≤ length w = omega (arith, size) in
-    rw (front, past)
-    (stored (put-at w start opened) (start + length opened) (0x02 ∷ []) (omega (arith, length-put-at w start opened lower, size)) .is
-    ∙ put-at-more w start opened lower (0x02 ∷ []))
+module _ {w : List ℕ} {from to : ℕ} {vs : Exprs} (there : Stand w from to vs) where
+  pub form-deep : {st : State} {row : ℕ} → leb (deepest vs) 63 ≡ false → (row ≡ row) × Incomplete st (only (form vs)) 6
+  form-deep h = (refl, too-deep (omega (arith, form-depth vs, leb-false (deepest vs) 63 h)))
 
-module _ {w : List ℕ} (st : State) {from : ℕ} {vs : Exprs} (there : Stand w from (st .top) vs) where
-  form-size : length (canonical (only (form vs))) ≡ st .top - from + 2
-  form-size =
-      let size : length (canonical vs) ≡ st .top - from = ap (λ (l : List ℕ). length l) (sym (there .bytes)) ∙ length-slice from (st .top) w (there .inside) in
-      ap (λ (l : List ℕ). length l) (form-bytes vs) ∙ simp length-append (omega (arith, size))
+  pub form-sized : leb (deepest vs) 63 ≡ true → Sized (only (form vs)) (to - from + 2)
+  form-sized h = record {
+    shallow = omega (arith, form-depth vs, leb-true (deepest vs) 63 h);
+    size = ap length (form-bytes vs) ∙ simp length-append (omega (arith, stand-size there));
+  }
 
-  pub form-deep : leb (deepest vs) 63 ≡ false → Incomplete st (only (form vs)) 6
-  form-deep h = too-deep (omega (arith, form-depth vs, leb-false (deepest vs) 63 h))
-
-  module _ (shallow : leb (deepest vs) 63 ≡ true) where
-    form-shallow : deepest (only (form vs)) ≤ 64
-    form-shallow = omega (arith, form-depth vs, leb-true (deepest vs) 63 shallow)
-
-    pub form-unkept : st .room < st .top - from + 2 → Incomplete st (only (form vs)) 17
-    form-unkept h = unkept (st .top - from + 2) form-shallow form-size h
-
-    pub form-kept : {w₁ : List ℕ} {start : ℕ} → Fitting w st → start ≤ from → let n : ℕ = st .top - from + 2 in n ≤ st .room
-        → w₁ ≡ moved w from (st .top) (start + 1)
-        → Complete w (set (set w₁ start 0x01) (start + n - 1) 0x02) st start (only (form vs)) (with-top st (st .room - n) (start + n))
-    form-kept {w₁} {start} fits h paid is =
-        let n : ℕ = st .top - from + 2 in
-        let same : 0x01 ∷ (slice from (st .top) w ++ (0x02 ∷ [])) ≡ canonical (only (form vs)) = rw (there .bytes) (sym (form-bytes vs)) in
-        let put : set (set w₁ start 0x01) (start + n - 1) 0x02 ≡ put-at w start (canonical (only (form vs))) =
-        rw is (form-put w start from (st .top) h (there .order) (omega (arith, fits .paid, fits .below)) ∙ ap (put-at w start) same) in
-        complete-written form-shallow n (canonical (only (form vs))) fits (omega (arith, there .order)) refl form-size paid put
+  -- the values moved one place up at least, then 01 before and 02 behind them
+  pub form-written : {w₁ : List ℕ} (start : ℕ) → start ≤ from → to + 2 ≤ length w → w₁ ≡ moved w from to (start + 1)
+      → let n : ℕ = to - from + 2 in set (set w₁ start 0x01) (start + n - 1) 0x02 ≡ put-at w start (canonical (only (form vs)))
+  form-written {w₁} start h room is =
+      let bs = slice from to w in
+      let opened : List ℕ = 0x01 ∷ bs in
+      let order = there .order in
+      let size : length bs ≡ to - from = length-slice from to w (omega arith) in
+      let upper : start + 1 + length bs ≤ length w = omega (arith, size) in
+      let front : set w₁ start 0x01 ≡ put-at w start opened =
+      rw is (stored (put-at w (start + 1) bs) start (0x01 ∷ []) (omega (arith, length-put-at w (start + 1) bs upper)) .is
+      ∙ put-before w start (0x01 ∷ []) bs upper) in
+      let past : start + (to - from + 2) - 1 ≡ start + length opened = omega (arith, size) in
+      let lower : start + length opened ≤ length w = omega (arith, size) in
+      rw (front, past, form-bytes vs, ← there .bytes)
+      (stored (put-at w start opened) (start + length opened) (0x02 ∷ []) (omega (arith, length-put-at w start opened lower, size)) .is
+      ∙ put-at-more w start opened lower (0x02 ∷ []))
 
 -- The join of two arrays
 
@@ -109,52 +94,45 @@ join-length a b c d = (b - a) + (d - c)
 -- two parts below the top as one array, which has n bytes with its head
 module _ (w : List ℕ) (st : State) (a b c d : ℕ) (fits : Fitting w st) (inside : b ≤ st .top) (inside′ : d ≤ st .top)
     (n : ℕ) (sized : n ≡ length (array-head (join-length a b c d)) + join-length a b c d) where
-  abbrev join-values : Exprs
-  join-values = only (atom (array (slice a b w ++ slice c d w)))
+  abbrev both : List ℕ
+  both = slice a b w ++ slice c d w
 
   abbrev head : List ℕ
   head = array-head (join-length a b c d)
 
-  parts-length : (length (slice a b w) ≡ b - a) × (length (slice c d w) ≡ d - c)
-  parts-length = (
-    length-slice a b w (omega (arith, fits .paid, fits .below)),
-    length-slice c d w (omega (arith, fits .paid, fits .below)),
-  )
+  first-size : length (slice a b w) ≡ b - a
+  first-size = length-slice a b w (omega (arith, fits .paid, fits .below))
 
-  join-bytes : canonical join-values ≡ head ++ (slice a b w ++ slice c d w)
+  both-size : length both ≡ join-length a b c d
+  both-size = length-append (slice a b w) (slice c d w) ∙ rw (first-size, length-slice c d w (omega (arith, fits .paid, fits .below)))
+
+  join-bytes : canonical (only (atom (array both))) ≡ head ++ both
   unfolding atom-bytes
-  join-bytes =
-      let size : length (slice a b w ++ slice c d w) ≡ join-length a b c d =
-      length-append (slice a b w) (slice c d w) ∙ omega (arith, parts-length .0, parts-length .1) in
-      only-atom (array (slice a b w ++ slice c d w)) .0 ∙ rw size
+  join-bytes = only-atom (array both) .0 ∙ rw both-size
 
-  join-size : length (canonical join-values) ≡ n
-  join-size =
-      ap (λ (l : List ℕ). length l) join-bytes ∙ simp length-append (omega (arith, parts-length .0, parts-length .1))
-
-  pub join-unkept : st .room < n → Incomplete st join-values 17
-  join-unkept h = unkept n (only-atom (array (slice a b w ++ slice c d w)) .1) join-size h
+  pub join-sized : Sized (only (atom (array both))) n
+  join-sized = record {
+    shallow = only-atom (array both) .1;
+    size = ap length join-bytes ∙ length-append head both ∙ omega (arith, both-size);
+  }
 
   -- the head above the top, behind it the two parts, then all of it moved down
   pub join-kept : {start : ℕ} {w₁ w₂ w₃ w′ : List ℕ} {at : ℕ} → start ≤ st .top → n ≤ st .room → Put w (st .top) head w₁ at
       → w₂ ≡ moved w₁ a b at → w₃ ≡ moved w₂ c d (at + (b - a)) → w′ ≡ moved w₃ (st .top) (st .top + n) start
-      → Complete w w′ st start join-values (with-top st (st .room - n) (start + n))
+      → Complete w w′ st start (only (atom (array both))) (with-top st (st .room - n) (start + n))
   join-kept {start} {w₁} {w₂} {w₃} {w′} {at} h paid headed first second down =
       let top : ℕ = st .top in
-      let all = canonical join-values in
-      let size = join-size in
-      let first-size = parts-length .0 in
+      let all = canonical (only (atom (array both))) in
+      let size = join-sized .size in
       let room : top + length all ≤ length w = omega (arith, fits .paid, fits .below) in
-      let both : length (head ++ slice a b w) ≡ length head + (b - a) = length-append head (slice a b w) ∙ omega arith in
+      let part : length (head ++ slice a b w) ≡ length head + (b - a) = length-append head (slice a b w) ∙ omega (arith, first-size) in
       let one : Put w top (head ++ slice a b w) w₂ (at + (b - a)) = rw first (put-behind w w₁ top a b at head headed inside (omega arith)) in
       let two = put-behind w w₂ top c d (at + (b - a)) (head ++ slice a b w) one inside′ (omega arith) in
-      let put : w₃ ≡ put-at w top all =
-      second ∙ two .is ∙ ap (put-at w top) (append-assoc head (slice a b w) (slice c d w) ∙ sym join-bytes) in
+      let put : w₃ ≡ put-at w top all = second ∙ two .is ∙ ap (put-at w top) (append-assoc head (slice a b w) (slice c d w) ∙ sym join-bytes) in
       let back : slice top (top + n) w₃ ≡ all = rw (put, ← size) (slice-put w top all room) in
       let others : Untouched w w₃ start (st .floor) = rw put (put-untouched w top all room start (st .floor) h (omega (arith, fits .paid))) in
       let fits₃ : Fitting w₃ st = record { paid = fits .paid; below = omega (arith, others .size, fits .below); short = omega (arith, others .size, fits .short) } in
-      let shallow = only-atom (array (slice a b w ++ slice c d w)) .1 in
-      kept-since others (complete-written shallow n all fits₃ h refl size paid (down ∙ ap (put-at w₃ start) back))
+      kept-since others (written join-sized fits₃ h paid (down ∙ ap (put-at w₃ start) back))
 
 -- Whether a value is an array
 
@@ -251,8 +229,7 @@ module _ {w : List ℕ} {start top : ℕ} {a b : Expr} (there : Stand w start to
   second-end : mid + length (bytes b) ≡ top
   unfolding bytes
   second-end =
-      let size : length (canonical (more a (only b))) ≡ top - start = ap (λ (l : List ℕ). length l) (sym (there .bytes)) ∙ length-slice start top w (there .inside) in
-      omega (arith, there .order, size, length-append (bytes a) (bytes b ++ []), length-append (bytes b) [])
+      omega (arith, there .order, stand-size there, length-append (bytes a) (bytes b ++ []), length-append (bytes b) [])
 
   first-operand : Operand w mid a (array-at w start)
   first-operand = operand w start a (bytes b ++ rest) (fits .0) first-here

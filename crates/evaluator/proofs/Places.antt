@@ -9,7 +9,7 @@ use native.Mathlib.Omega.{arith}
 use native.Mathlib.Numerals.{add-one}
 use Rattle.writer.specs.Bytes.{put-at, Put}
 use Rattle.writer.proofs.Puts.{length-upto, length-put-at, put-at-more, stored}
-use Rattle.spec.specs.Expr.{Exprs}
+use Rattle.spec.specs.Expr.{Exprs, canonical}
 use Rattle.evaluator.specs.Completed.{Stand, Untouched}
 
 -- Parts
@@ -27,6 +27,12 @@ slice-take zero b w = let all : b - 0 ≡ b = omega arith in rw all
 slice-take (suc a) zero w = let no : 0 - suc a ≡ 0 = omega arith in rw no
 slice-take (suc a) (suc b) [] = sym (take-nil (suc b - suc a))
 slice-take (suc a) (suc b) (x ∷ w) = let less : suc b - suc a ≡ b - a = omega arith in slice-take a b w ∙ rw less
+
+pub stand-size : {w : List ℕ} {from to : ℕ} {vs : Exprs} → Stand w from to vs → length (canonical vs) ≡ to - from
+stand-size {w} {from} {to} there = ap length (sym (there .bytes)) ∙ length-slice from to w (there .inside)
+
+pub stand-part : {w : List ℕ} {from to : ℕ} {vs : Exprs} → Stand w from to vs → take (to - from) (drop from w) ≡ canonical vs
+stand-part {w} {from} {to} there = sym (slice-take from to w) ∙ there .bytes
 
 -- What is left as it was
 

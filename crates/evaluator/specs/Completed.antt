@@ -3,10 +3,11 @@
 -- charged, so that a charge that fits is room enough. Document 01: "Workspace". Assumes nothing.
 use Prim.Native.Nat.{ℕ, _+_, _-_, _≤_, _<_}
 use mathlib.Core.Path.{_≡_}
-use mathlib.Core.List.{List, _++_}
+use mathlib.Core.List.{List, [], _∷_, _++_}
 use lib.ListN.{length, take, drop, getD}
 use lib.Seq.{slice}
 use Rattle.spec.specs.Expr.{array, Expr, atom, Exprs, none, more, only, deepest, bytes, canonical}
+use Rattle.writer.specs.Bytes.{with-head}
 use Rattle.evaluator.specs.Entries.{pack}
 use Rattle.evaluator.specs.declared.values.State.{State}
 use Rattle.evaluator.specs.declared.values.Out.{Out}
@@ -50,6 +51,13 @@ pub record Complete (w w′ : List ℕ) (st : State) (start : ℕ) (vs : Exprs) 
 pub data Incomplete (st : State) (vs : Exprs) : ℕ → Type 0 where
   too-deep : 64 < deepest vs → Incomplete st vs 6
   too-long : deepest vs ≤ 64 → st .room < length (canonical vs) → Incomplete st vs 17
+
+-- the bytes of an `ns` form, by its reference's and its id's
+abbrev pub ns-front : List ℕ
+ns-front = 0x01 ∷ 0x20 ∷ 0x06 ∷ []
+
+abbrev pub ns-bytes : List ℕ → List ℕ → List ℕ
+ns-bytes reference id = ns-front ++ with-head 4 reference ++ with-head 2 id ++ (0x02 ∷ [])
 
 -- completing the values of the expression at a row
 abbrev pub Completed : List ℕ → List ℕ → State → ℕ → ℕ → Exprs → Out → Type 0

@@ -12,8 +12,9 @@ ghost use lib.ListN.{length};
 ghost use Rattle.spec.specs.Expr.{array, ref, if-array, Atom, atom, Exprs, only, deepest};
 ghost use Rattle.spec.specs.Evaluation.{ns-form};
 ghost use Rattle.evaluator.specs.Stands.{cell, LeafAt};
+ghost use Rattle.writer.specs.Bytes.{put-at};
 ghost use Rattle.evaluator.specs.declared.values.Out.the-variants.{Done};
-ghost use Rattle.evaluator.specs.Completed.{Fitting, Stand, with-top, Completed, Defined};
+ghost use Rattle.evaluator.specs.Completed.{Fitting, Stand, with-top, Completed, Defined, ns-bytes};
 
 // Steps and workspace that are left, where the finished values end, where the definitions' begin, and how many namespaces there are.
 pub struct State {
@@ -73,6 +74,19 @@ pub fn own(s: &[u8], table: &[u32], w: &mut [u8], state: State, row: usize) -> O
     charged(state, n, top + n)
 }
 
+// The bytes of an ns form, at a place.
+fn put_ns(reference: &[u8], id: &[u8], w: &mut [u8], at: usize)
+    requires { ⌜ (at + length (ns-bytes (now reference) (now id)) ≤ length (now w)) × (length (now w) ≤ 65536) ⌝ }
+    ensures { λ _. ⌜ now (w .exit) ≡ put-at (now (w .entry)) at (ns-bytes (now (reference .entry)) (now (id .entry))) ⌝ }
+{
+    w[at] = 0x01;
+    w[at + 1] = Core::MARKER_BYTE;
+    w[at + 2] = Core::NS_BYTE;
+    let next = writer::put_atom(Kind::REFERENCE, reference, w, at + 3);
+    let end = writer::put_atom(Kind::ARRAY, id, w, next);
+    w[end] = 0x02;
+}
+
 // The value of an ns form: the form of three atoms, as it is written.
 pub fn own_ns(s: &[u8], table: &[u32], w: &mut [u8], state: State, row: usize) -> Out
     requires { ⌜ Fitting (now w) state ⌝ }
@@ -88,12 +102,7 @@ pub fn own_ns(s: &[u8], table: &[u32], w: &mut [u8], state: State, row: usize) -
     if state.room < n {
         return Out::Refused(17, row);
     }
-    w[top] = 0x01;
-    w[top + 1] = Core::MARKER_BYTE;
-    w[top + 2] = Core::NS_BYTE;
-    let at = writer::put_atom(Kind::REFERENCE, &s[reference..past], w, top + 3);
-    let end = writer::put_atom(Kind::ARRAY, &s[id..to], w, at);
-    w[end] = 0x02;
+    put_ns(&s[reference..past], &s[id..to], w, top);
     charged(state, n, top + n)
 }
 

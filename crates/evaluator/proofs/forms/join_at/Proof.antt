@@ -1,10 +1,10 @@
 -- `evaluator::forms::join_at` meets its contract: refused if there is no room, else put together above the top and moved down.
 -- Assumes nothing.
 use borrow.Author.Needs.{needs}
-use mathlib.Core.Path.{refl}
 use native.Mathlib.Omega.{arith}
 use Rattle.laws.proofs.Atoms.{head-bounds}
-use Rattle.evaluator.proofs.Made.{join-length, join-unkept, join-kept}
+use Rattle.evaluator.proofs.Completing.{unpaid}
+use Rattle.evaluator.proofs.Made.{join-length, join-sized, join-kept}
 use Rattle.evaluator.proofs.forms.join_at.Statement.{statement}
 use Rattle.evaluator.proofs.forms.join_at.Tie as tie
 
@@ -13,7 +13,7 @@ returns c =
     let h = c .before .before in
     let a = h .before .before .args in
     let p = h .before .before .pre in
-    (refl, join-unkept (a .w .now) (a .state) (a .a) (a .b) (a .c) (a .d) (p .0 .0) (p .1 .1) (p .1 .3) _ (h .atom-size .ensures) (c .if1 .taken))
+    unpaid (join-sized (a .w .now) (a .state) (a .a) (a .b) (a .c) (a .d) (p .0 .0) (p .1 .1) (p .1 .3) _ (h .atom-size .ensures)) (c .if1 .taken)
 
 put-head-requires : tie.Need-put-head-requires
 put-head-requires c κs =
