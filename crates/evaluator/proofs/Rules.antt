@@ -253,58 +253,9 @@ module _ (s t : List ℕ) (row : ℕ) (es : Nodes) (h : Here) (place : TopAt s t
       let two = g .behind-one in
       (omega arith, omega arith)
 
--- an array's size, by where it ends and where its bytes begin
-pub array-size : (s t : List ℕ) (r : ℕ) (bs : List ℕ) (end body : ℕ) → LeafAt s t r (array bs) → end ≡ cell t r 2 → body ≡ cell t r 2 - length bs
-    → (body ≤ end) × (end - body ≡ length bs)
-array-size s t r bs end body l e q = let size = leaf-array l .1 in (omega arith, omega arith)
-
 -- a reference's key, and its marker
 pub reference-key : (s t : List ℕ) (r key m n : ℕ) → Bytes s → LeafAt s t r (ref m n) → key ≡ key-of m n → key / 256 ≡ m
 reference-key s t r key m n b l e = rw e (key-marker m n (leaf-fits b l .2))
-
-module _ (s t : List ℕ) (row m n : ℕ) (id : List ℕ) (a b : ℕ) (head : Node) (h : Here) (place : TopAt s t row (h .place)) where
-  abbrev own : Plan
-  own = plan-ns (h .place) (cons head (cons (leaf a (ref m n)) (cons (leaf b (array id)) empty))) h
-
-  own-rule : own ≡ ns-rule (place .earlier) h m n id
-  own-rule = ap (λ (p : Place). plan-ns p (cons head (cons (leaf a (ref m n)) (cons (leaf b (array id)) empty))) h) (place .is)
-
-  pub ns-empty : length id < 1 → own ≡ refuse 11
-  ns-empty l = own-rule ∙ rw (lt-ltb (length id) 1 l)
-
-  module _ (some-bytes : 1 ≤ length id) where
-    pub ns-long : 64 < length id → own ≡ refuse 11
-    ns-long l = own-rule ∙ rw (le-ltb (length id) 1 some-bytes, lt-ltb 64 (length id) l)
-
-    module _ (few : length id ≤ 64) where
-      sized : own ≡ (if eqb m core || some (eqb m) (place .earlier) || some (λ k. same (k .id) id) (h .namespaces) then refuse 14 else
-          if leb 64 (length (h .namespaces)) then refuse 19 else associate m n id)
-      sized = own-rule ∙ rw (le-ltb (length id) 1 some-bytes, le-ltb 64 (length id) few)
-
-      pub ns-core : m ≡ core → own ≡ refuse 14
-      ns-core e = sized ∙ rw (eq-eqb m core e)
-
-      module _ (not-core : m ≡ core → ⊥) where
-        pub ns-borne : some (eqb m) (markers-all (place .before)) ≡ true → own ≡ refuse 14
-        ns-borne e = sized ∙ rw (ne-eqb m core not-core, place .same-markers m, e)
-
-        module _ (not-borne : some (eqb m) (markers-all (place .before)) ≡ false) where
-          pub ns-used : some (λ k. same (k .id) id) (h .namespaces) ≡ true → own ≡ refuse 14
-          ns-used e = sized ∙ rw (ne-eqb m core not-core, place .same-markers m, not-borne, e)
-
-          module _ (not-used : some (λ k. same (k .id) id) (h .namespaces) ≡ false) where
-            pub ns-full : 64 ≤ length (h .namespaces) → own ≡ refuse 19
-            ns-full l = sized ∙ rw (ne-eqb m core not-core, place .same-markers m, not-borne, not-used, le-leb 64 (length (h .namespaces)) l)
-
-            pub ns-new : length (h .namespaces) < 64 → (w : List ℕ) (floor : ℕ) (sc : List Entry) (es : Nodes) (marker : ℕ) → marker ≡ m → LeafAt s t a (ref m n)
-                → LeafAt s t b (array id) → a ≡ row + 2 → b ≡ row + 3 → Planned s t w floor sc row es (Ns (named marker b)) own
-            ns-new l w floor sc es marker e one two first second =
-                let is : own ≡ associate m n id =
-                sized ∙ rw (ne-eqb m core not-core, place .same-markers m, not-borne, not-used, lt-leb 64 (length (h .namespaces)) l) in
-                let task : Ns (named m (row + 3)) ≡ Ns (named marker b) = rw (e, second) in
-                planned-as is
-                (subst (λ (r : Task). Planned s t w floor sc row es r (associate m n id)) task
-                (associates m n id (subst (λ (k : ℕ). LeafAt s t k (ref m n)) first one) (subst (λ (k : ℕ). LeafAt s t k (array id)) second two)))
 
 -- define
 
