@@ -265,11 +265,11 @@ fn written(s: &[u8], table: &[u32], row: usize) -> usize
     rows::small(s, table, p.second)
 }
 
-fn arg(s: &[u8], table: &[u32], args: &[u32; 64], code: Code, row: usize) -> Task
+// An arg form, or a rest form.
+fn arguments(s: &[u8], table: &[u32], args: &[u32; 64], code: Code, row: usize, rest: bool) -> Task
     requires { ⌜ FormAt (now s) (now table) row ⌝ }
-    requires { ⌜ ((w : List ℕ) × (top : ℕ) × (xs : Arguments) × ArgumentsOf w (now args) code top xs) ⌝ }
     ensures { λ r. ⌜ ((w : List ℕ) (floor top q : ℕ) (sc : List Entry) (es : Nodes) (xs : Arguments) → NodeAt (now (s .entry)) (now (table .entry)) row (branch q es) → ArgumentsOf w (now (args .entry)) code top xs
-        → Planned (now (s .entry)) (now (table .entry)) w floor sc row es r (expect-one es λ a. expect-int a λ n. plan-arg n xs)) ⌝ }
+        → Planned (now (s .entry)) (now (table .entry)) w floor sc row es r (expect-one es λ a. expect-int a λ n. if rest then plan-rest n xs else plan-arg n xs)) ⌝ }
 {
     let n = written(s, table, row);
     if 64 <= n {
@@ -278,42 +278,25 @@ fn arg(s: &[u8], table: &[u32], args: &[u32; 64], code: Code, row: usize) -> Tas
     if code.depth == 0 {
         return Task::Refuse(15);
     }
-    if code.count <= n {
-        return Task::Refuse(15);
-    }
-    let place = args[n];
-    Task::Again {
-        from: scope::packed_from(place),
-        to: scope::packed_to(place),
-    }
-}
-
-fn rest(s: &[u8], table: &[u32], args: &[u32; 64], code: Code, row: usize) -> Task
-    requires { ⌜ FormAt (now s) (now table) row ⌝ }
-    requires { ⌜ ((w : List ℕ) × (top : ℕ) × (xs : Arguments) × ArgumentsOf w (now args) code top xs) ⌝ }
-    ensures { λ r. ⌜ ((w : List ℕ) (floor top q : ℕ) (sc : List Entry) (es : Nodes) (xs : Arguments) → NodeAt (now (s .entry)) (now (table .entry)) row (branch q es) → ArgumentsOf w (now (args .entry)) code top xs
-        → Planned (now (s .entry)) (now (table .entry)) w floor sc row es r (expect-one es λ a. expect-int a λ n. plan-rest n xs)) ⌝ }
-{
-    let n = written(s, table, row);
-    if 64 <= n {
-        return Task::Refuse(11);
-    }
-    if code.depth == 0 {
-        return Task::Refuse(15);
+    let to = code.to;
+    if n < code.count {
+        let place = args[n];
+        let from = scope::packed_from(place);
+        if rest {
+            return Task::Again { from, to };
+        }
+        return Task::Again {
+            from,
+            to: scope::packed_to(place),
+        };
     }
     if code.count < n {
         return Task::Refuse(15);
     }
-    if code.count == n {
-        return Task::Again {
-            from: code.to,
-            to: code.to,
-        };
+    if rest {
+        return Task::Again { from: to, to };
     }
-    Task::Again {
-        from: scope::packed_from(args[n]),
-        to: code.to,
-    }
+    Task::Refuse(15)
 }
 
 // A data form.
@@ -391,8 +374,8 @@ fn form(
         Core::DEFINE => define(s, table, names, count, stands, scope.len, row),
         Core::SUBST => Task::Refuse(12),
         Core::CONCAT => concat(s, table, row),
-        Core::ARG => arg(s, table, args, code, row),
-        Core::REST => rest(s, table, args, code, row),
+        Core::ARG => arguments(s, table, args, code, row, false),
+        Core::REST => arguments(s, table, args, code, row, true),
         rows::NO_KEY => unnamed(s, table, scope.len, row),
         _ => named(keys, places, scope, head, row),
     }

@@ -1,30 +1,21 @@
 -- `evaluator::plan::define` meets its contract: the place is looked at first. Assumes nothing.
 use borrow.Author.Needs.{needs}
-use mathlib.Core.Path.{ap}
-use Rattle.spec.specs.Plan.{Place, plan-define}
-use Rattle.evaluator.proofs.Rules.{refused, planned-as, is-top, is-element, is-inner}
+use Rattle.evaluator.specs.Planned.{refuses}
+use Rattle.evaluator.proofs.Rules.{is-top, is-element, is-inner}
 use Rattle.evaluator.proofs.plan.define.Statement.{statement}
 use Rattle.evaluator.proofs.plan.define.Tie as tie
 
 returns : tie.Need-returns
 returns c = λ w floor q sc es h at placed names counted seen visible.
-    let a = c .before .before .before .before .args in
-    refused 13
-    (ap (λ (p : Place). plan-define p es h) (is-inner (a .s .now) (a .table .now) (a .row) (a .stands) (h .place) placed (c .enum-told .given .1)))
+    rw (is-inner _ _ _ _ _ placed (c .enum-told .given .1)) (refuses 13)
 
 returns-2 : tie.Need-returns-2
 returns-2 c = λ w floor q sc es h at placed names counted seen visible.
-    let a = c .before .before .before .before .before .args in
-    planned-as
-    (ap (λ (p : Place). plan-define p es h) (is-element (a .s .now) (a .table .now) (a .row) (a .stands) (h .place) placed (c .before .enum-told2 .given .1)))
-    (c .definition .ensures w floor q sc es h at names counted seen visible)
+    rw (is-element _ _ _ _ _ placed (c .before .enum-told2 .given .1)) (c .definition .ensures w floor q sc es h at names counted seen visible)
 
 returns-3 : tie.Need-returns-3
 returns-3 c = λ w floor q sc es h at placed names counted seen visible.
-    let a = c .before .before .before .before .before .args in
-    planned-as
-    (ap (λ (p : Place). plan-define p es h) (is-top (a .s .now) (a .table .now) (a .row) (a .stands) (h .place) placed (c .before .enum-told3 .given .1) .is))
-    (c .definition2 .ensures w floor q sc es h at names counted seen visible)
+    rw (is-top _ _ _ _ _ placed (c .before .enum-told3 .given .1) .is) (c .definition2 .ensures w floor q sc es h at names counted seen visible)
 
 pub define-spec : {M : Type 1} → statement M
 define-spec =

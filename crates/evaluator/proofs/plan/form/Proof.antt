@@ -44,9 +44,6 @@ module _ (start : tie.Start) where
       let set = known .setting in
       record { namespaces = known .here .namespaces; are = set .namespaces; counted = set .counted; most = set .most }
 
-  lent : let a = start .args in (w : List ℕ) × (top : ℕ) × (xs : Arguments) × ArgumentsOf w (a .args .now) (a .code) top xs
-  lent = (known .work, known .top, known .here .arguments, known .setting .arguments)
-
 -- the key is none that the match names
 module _ (c : tie.At-match-rest) where
   unlisted : Plain (c .before .head .result)
@@ -70,11 +67,11 @@ define-requires c κs = let start = c .before .before .before .before in (start 
 concat-requires : tie.Need-concat-requires
 concat-requires c κs = c .before .before .before .before .pre .0
 
-arg-requires : tie.Need-arg-requires
-arg-requires c κs = let start = c .before .before .before .before in (start .pre .0, lent start)
+arguments-requires : tie.Need-arguments-requires
+arguments-requires c κs = c .before .before .before .before .pre .0
 
-rest-requires : tie.Need-rest-requires
-rest-requires c κs = let start = c .before .before .before .before in (start .pre .0, lent start)
+arguments-requires-2 : tie.Need-arguments-requires-2
+arguments-requires-2 c κs = c .before .before .before .before .pre .0
 
 unnamed-requires : tie.Need-unnamed-requires
 unnamed-requires c κs = c .before .before .before .before .pre .0
@@ -120,12 +117,12 @@ returns-4 c = λ w floor top q es h at set.
 returns-5 : tie.Need-returns-5
 unfolding plan-form
 returns-5 c = λ w floor top q es h at set.
-    rw (as-word (c .before .before) q es at h arg (omega arith) (c .before .match .keys5)) (c .arg .ensures w floor top q _ es (h .arguments) at (set .arguments))
+    rw (as-word (c .before .before) q es at h arg (omega arith) (c .before .match .keys5)) (c .arguments .ensures w floor top q _ es (h .arguments) at (set .arguments))
 
 returns-6 : tie.Need-returns-6
 unfolding plan-form
 returns-6 c = λ w floor top q es h at set.
-    rw (as-word (c .before .before) q es at h rest (omega arith) (c .before .match .keys6)) (c .rest .ensures w floor top q _ es (h .arguments) at (set .arguments))
+    rw (as-word (c .before .before) q es at h rest (omega arith) (c .before .match .keys6)) (c .arguments2 .ensures w floor top q _ es (h .arguments) at (set .arguments))
 
 returns-7 : tie.Need-returns-7
 returns-7 c = λ w floor top q es h at set.
@@ -156,8 +153,8 @@ form-spec =
     ns-requires
     define-requires
     concat-requires
-    arg-requires
-    rest-requires
+    arguments-requires
+    arguments-requires-2
     unnamed-requires
     named-requires
     returns

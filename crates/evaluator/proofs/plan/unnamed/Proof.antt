@@ -15,7 +15,7 @@ use Rattle.evaluator.proofs.plan.unnamed.Tie as tie
 row-at : (c : tie.After-shared-slice-known2) → let a = c .before .before .args in RowAt (a .s .now) (a .table .now) (a .row) 1
 row-at c =
     let start = c .before .before in
-    form-row (start .args .s .now) (start .args .table .now) (start .args .row) (start .pre .number) (start .pre .elements) (start .pre .at)
+    form-row _ _ _ _ _ (start .pre .at)
 
 next-requires : tie.Need-next-requires
 next-requires c κs = row-at c .inside
