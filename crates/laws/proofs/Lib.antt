@@ -13,6 +13,7 @@ pub mod Steps
 pub mod Items
 pub mod Runs
 pub mod Charges
+pub mod Walk
 pub mod Singles
 pub mod Holding
 pub mod Values
