@@ -7,10 +7,9 @@ use lib.ListN.{length, set}
 use native.Mathlib.Omega.{arith}
 use Rattle.spec.specs.Expr.{Atom, array, ref, atom, Exprs, only}
 use Rattle.spec.specs.Nodes.{Node, leaf, branch, elements}
-use Rattle.spec.specs.Runs.{step, before}
+use Rattle.spec.specs.Runs.{step, before, ceased, hold}
 use Rattle.spec.specs.Plan.{function, Here, Plan, leave, associate, plan}
 use Rattle.spec.specs.Evaluation.{add-namespace, complete, Call, ns-form, perform, eval, eval-all}
-use Rattle.laws.specs.Holding.{ceased, hold}
 use Rattle.laws.proofs.Holding.{hold-give, hold-stop, hold-step, hold-step-none, hold-complete, hold-complete-deep, hold-complete-none}
 use Rattle.laws.proofs.Singles.{plan-counted}
 use Rattle.laws.proofs.Values.{plan-sound}

@@ -6,10 +6,10 @@ use mathlib.Core.List.{List}
 use native.Mathlib.Omega.{arith}
 use lib.ListN.{length, drop}
 use Rattle.spec.specs.Nodes.{Node, leaf, branch, Nodes, empty, cons, elements}
-use Rattle.spec.specs.Runs.{done, Run}
+use Rattle.spec.specs.Runs.{done, Run, Held, ceased, hold}
 use Rattle.spec.specs.Plan.{Scope as Definitions, Place, Here, Finish, as-call, inside, plan}
 use Rattle.spec.specs.Evaluation.{Left, Call, finish, eval, run-code}
-use Rattle.laws.specs.Holding.{Held, ceased, hold, and-hold, NotTop, in-list, skip}
+use Rattle.laws.specs.Holding.{and-hold, NotTop, in-list, skip}
 use Rattle.laws.proofs.Holding.{hold-kept, hold-step, hold-inside}
 use Rattle.laws.proofs.Singles.{SingleScope, call-single, in-list-single, in-list-pair, in-list-stays}
 use Rattle.laws.proofs.Values.{FitsNodes, elements-fit, call-sound, in-list-left}
