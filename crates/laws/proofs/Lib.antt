@@ -2,12 +2,12 @@ pub mod Basics
 pub mod Fits
 pub mod Canonical
 pub mod Spelling
+pub mod Shortest
 pub mod Atoms
 pub mod Tokens
 pub mod Rows
 pub mod Reading
 pub mod Parsing
-pub mod Shortest
 pub mod Written
 pub mod Steps
 pub mod Items

@@ -13,6 +13,7 @@ use Rattle.spec.specs.Reading.{Taken, taken, failed, read-atom, Token, opening,
 use Rattle.laws.specs.Demands.{Bytes}
 use Rattle.laws.specs.Grammar.{Spells, SpellsAll}
 use Rattle.laws.proofs.Basics.{impossible}
+use Rattle.laws.proofs.Fits.{bytes-back}
 use Rattle.laws.proofs.Spelling.{atom-taken}
 use Rattle.laws.proofs.Tokens.{right-opening, right-closing, right-whole, right-bad}
 use Rattle.laws.proofs.Rows.{rows-count}
@@ -99,10 +100,6 @@ from-whole a q k from-bad e = impossible (cc)
 close-spells : (ls : List Exprs) (s : List ℕ) → SpellsLists ls s → SpellsLists (none ∷ ls) (0x02 ∷ s)
 close-spells [] s h = absurd h
 close-spells (es ∷ ls) s h = ([], s, refl, refl, h)
-
-bytes-back : (x s : List ℕ) → Bytes (x ++ s) → Bytes s
-bytes-back [] s b = b
-bytes-back (c ∷ x) s b = bytes-back x s (b .1)
 
 module _ (end room : ℕ) where
   tokens-spell : (ts : List Token) (p : ℕ) (s : List ℕ) (d n : ℕ) → Bytes s → tokens p 0 s ≡ ts → check end room ts d n ≡ right
