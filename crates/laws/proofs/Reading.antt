@@ -11,13 +11,13 @@ use borrow.Author.Tests.{ltb-false, le-ltb, lt-leb, ne-eqb}
 use native.Mathlib.Omega.{arith}
 use native.Mathlib.Numerals.{add-one}
 use Rattle.spec.specs.Expr.{if_then_else_, Atom, Expr, atom, form, Exprs, none, more, rows, rows-all, depth, deepest, bytes, canonical}
-use Rattle.spec.specs.Reading.{Token, opening, closing, whole, bad, token, tokens, Verdict, right, wrong, check, put, wrap, lists, Row, rows-of, refused, readable, by-verdict, read}
+use Rattle.spec.specs.Reading.{Token, opening, closing, whole, token, tokens, Verdict, right, wrong, check, put, wrap, lists, Row, rows-of, refused, readable, by-verdict, read}
 use Rattle.laws.specs.Demands.{Bytes, meaning-of}
 use Rattle.laws.proofs.Basics.{impossible}
 use Rattle.laws.proofs.Fits.{FitsExpr, FitsAll}
 use Rattle.laws.specs.Grammar.{SpellsAtom, Spells, SpellsAll}
 use Rattle.laws.proofs.Spelling.{Front, front, canonical-atom}
-use Rattle.laws.proofs.Tokens.{right-end, right-opening, right-closing, right-whole, right-bad, Laid, tokens-laid, RefusalInside, check-refusal, tokens-few, check-room}
+use Rattle.laws.proofs.Tokens.{Right, at-end, opens, closes, stands, right-tokens, Laid, tokens-laid, RefusalInside, check-refusal, tokens-few, check-room}
 use Rattle.laws.proofs.Rows.{rows-in, rows-count, rows-room, right-room}
 
 -- What was read
@@ -50,28 +50,21 @@ wrap-sound d (es ∷ ls) s =
     let p = put-sound d (form es) ls (s .0) (omega (arith, s .1)) (s .2) in
     (p .0, simp length-append at (p .1) ∙ omega arith)
 
-module _ (end room : ℕ) where
-  lists-sound : (ts : List Token) (p d n : ℕ) → d ≤ 64 → Laid p ts end → check end room ts d n ≡ right
-      → ListsFit d (lists ts) × (p + weight (lists ts) ≤ end + 1)
-  unfolding lists depth bytes
-  lists-sound [] p d n h l c =
-      let z = right-end end room d n c in
-      (subst (λ (x : ℕ). ListsFit x (none ∷ [])) (sym z) (tt, omega arith), omega arith)
-  lists-sound (opening q ∷ ts) p d n h l c =
-      let k = right-opening end room ts q d n c in
-      let a = lists-sound ts (q + 1) (d + 1) (n + 1) (omega (arith, k .0)) (l .1) (k .2) in
-      let b = wrap-sound d (lists ts) (rw (add-one d) at (a .0)) in
-      (b .0, omega (arith, a .1, b .1, l .0))
-  lists-sound (closing q ∷ ts) p zero n h l c = absurd (omega (arith, right-closing end room ts q 0 n c .0))
-  lists-sound (closing q ∷ ts) p (suc d) n h l c =
-      let back : suc d - 1 ≡ d = omega arith in
-      let a = lists-sound ts (q + 1) d n (omega arith) (l .1) (rw back at (right-closing end room ts q (suc d) n c .1)) in
-      ((tt, omega arith, a .0), omega (arith, a .1, l .0))
-  lists-sound (whole x q e ∷ ts) p d n h l c =
-      let a = lists-sound ts e d (n + 1) h (l .4) (right-whole end room ts x q e d n c .1) in
-      let b = put-sound d (atom x) (lists ts) (l .3) (omega arith) (a .0) in
-      (b .0, omega (arith, a .1, b .1, l .0, l .2))
-  lists-sound (bad w q ∷ ts) p d n h l c = absurd (right-bad end room ts w q d n c)
+lists-sound : {room : ℕ} {ts : List Token} {d n : ℕ} → Right room ts d n → (end p : ℕ) → d ≤ 64 → Laid p ts end
+    → ListsFit d (lists ts) × (p + weight (lists ts) ≤ end + 1)
+unfolding lists depth bytes
+lists-sound at-end end p h l = ((tt, omega arith), omega arith)
+lists-sound (opens {ts} {q} {d} g k c) end p h l =
+    let a = lists-sound c end (q + 1) (omega arith) (l .1) in
+    let b = wrap-sound d (lists ts) (rw (add-one d) at (a .0)) in
+    (b .0, omega (arith, a .1, b .1, l .0))
+lists-sound (closes {q = q} c) end p h l =
+    let a = lists-sound c end (q + 1) (omega arith) (l .1) in
+    ((tt, omega arith, a .0), omega (arith, a .1, l .0))
+lists-sound (stands {ts} {a} {e = e} {d} k c) end p h l =
+    let s = lists-sound c end e h (l .4) in
+    let b = put-sound d (atom a) (lists ts) (l .3) (omega arith) (s .0) in
+    (b .0, omega (arith, s .1, b .1, l .0, l .2))
 
 pub stream-laid : (s : List ℕ) → Bytes s → Laid 0 (tokens 0 0 s) (length s)
 stream-laid s b = subst (λ (x : ℕ). Laid 0 (tokens 0 0 s) x) (omega arith) (tokens-laid s 0 0 b (omega arith))
@@ -80,6 +73,7 @@ stream-laid s b = subst (λ (x : ℕ). Laid 0 (tokens 0 0 s) x) (omega arith) (t
 pub record Readable (s : List ℕ) (room : ℕ) (rs : List Row) (es : Exprs) : Type 0 where
   pub short : length s ≤ 65536
   pub passes : check (length s) room (tokens 0 0 s) 0 0 ≡ right
+  pub well : Right room (tokens 0 0 s) 0 0
   pub rows-are : rs ≡ rows-of (tokens 0 0 s)
   pub means : es ≡ meaning-of s
 
@@ -90,7 +84,7 @@ read-readable s room rs es h = go (ltb 65536 (length s)) refl (check (length s) 
     go : (b : Bool) → ltb 65536 (length s) ≡ b → (v : Verdict) → check (length s) room (tokens 0 0 s) 0 0 ≡ v
         → (if b then refused 1 0 else by-verdict v (tokens 0 0 s)) ≡ readable rs es → Readable s room rs es
     go true e v k h = impossible (cc)
-    go false e right k h = record { short = ltb-false 65536 (length s) e; passes = k; rows-are = cc; means = cc }
+    go false e right k h = record { short = ltb-false 65536 (length s) e; passes = k; well = right-tokens (length s) room (tokens 0 0 s) 0 0 k; rows-are = cc; means = cc }
     go false e (wrong w p) k h = impossible (cc)
 
 readable-read : (s : List ℕ) (room : ℕ) → length s ≤ 65536 → check (length s) room (tokens 0 0 s) 0 0 ≡ right
@@ -130,7 +124,7 @@ pub read-enough : (s : List ℕ) (room : ℕ) (rs : List Row) (es : Exprs) → r
 read-enough s room rs es h room′ k =
     let r = read-readable s room rs es h in
     let size : length rs ≡ length (rows-of (tokens 0 0 s)) = ap length (r .rows-are) in
-    rw (r .rows-are, r .means) (readable-read s room′ (r .short) (right-room (length s) room (tokens 0 0 s) 0 0 (r .passes) room′ (omega arith)))
+    rw (r .rows-are, r .means) (readable-read s room′ (r .short) (right-room (r .well) (length s) room′ (omega arith)))
 
 -- what holds of a meaning that was read: its canonical bytes can be read too, in as many rows, and are no more than the stream's
 pub record Meant (s : List ℕ) (room : ℕ) (rs : List Row) (es : Exprs) : Type 0 where
@@ -143,11 +137,11 @@ pub record Meant (s : List ℕ) (room : ℕ) (rs : List Row) (es : Exprs) : Type
 pub read-meant : (s : List ℕ) (room : ℕ) (rs : List Row) (es : Exprs) → Bytes s → Readable s room rs es → Meant s room rs es
 read-meant s room rs es b r =
     let ts = tokens 0 0 s in
-    let sound = lists-sound (length s) room ts 0 0 0 (omega arith) (stream-laid s b) (r .passes) in
+    let sound = lists-sound (r .well) (length s) 0 (omega arith) (stream-laid s b) in
     let size : length rs ≡ length (rows-of ts) = ap length (r .rows-are) in
     subst (λ (x : Exprs). Meant s room rs x) (sym (r .means))
-    (only-list (lists ts) (sound .0) (sound .1) (size ∙ rows-count (length s) room ts 0 0 (r .passes) .0)
-    (omega (arith, size, rows-room (length s) room ts 0 0 (r .passes) (omega arith))))
+    (only-list (lists ts) (sound .0) (sound .1) (size ∙ rows-count (r .well) .0)
+    (omega (arith, size, rows-room (r .well) (omega arith))))
   where
     only-list : (ls : List Exprs) → ListsFit 0 ls → 0 + weight ls ≤ length s + 1 → length rs ≡ rows-in ls → length rs ≤ room
         → Meant s room rs (getD ls 0 none)

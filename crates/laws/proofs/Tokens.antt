@@ -58,6 +58,25 @@ module _ (end room : ℕ) where
   unfolding check
   right-bad ts w p d n h = impossible (cc)
 
+-- tokens that `check` finds right, with d forms open and n of the rows taken
+pub data Right (room : ℕ) : List Token → ℕ → ℕ → Type 0 where
+  at-end : {n : ℕ} → Right room [] 0 n
+  opens : {ts : List Token} {q d n : ℕ} → d < 64 → n < room → Right room ts (d + 1) (n + 1) → Right room (opening q ∷ ts) d n
+  closes : {ts : List Token} {q d n : ℕ} → Right room ts d n → Right room (closing q ∷ ts) (suc d) n
+  stands : {ts : List Token} {a : Atom} {q e d n : ℕ} → n < room → Right room ts d (n + 1) → Right room (whole a q e ∷ ts) d n
+
+pub right-tokens : (end room : ℕ) (ts : List Token) (d n : ℕ) → check end room ts d n ≡ right → Right room ts d n
+right-tokens end room [] d n c = rw (right-end end room d n c) at-end
+right-tokens end room (opening p ∷ ts) d n c =
+    let k = right-opening end room ts p d n c in opens (k .0) (k .1) (right-tokens end room ts (d + 1) (n + 1) (k .2))
+right-tokens end room (closing p ∷ ts) zero n c = absurd (omega (arith, right-closing end room ts p 0 n c .0))
+right-tokens end room (closing p ∷ ts) (suc d) n c =
+    let back : suc d - 1 ≡ d = omega arith in
+    closes (right-tokens end room ts d n (rw back at (right-closing end room ts p (suc d) n c .1)))
+right-tokens end room (whole a p e ∷ ts) d n c =
+    let k = right-whole end room ts a p e d n c in stands (k .0) (right-tokens end room ts d (n + 1) (k .1))
+right-tokens end room (bad w p ∷ ts) d n c = absurd (right-bad end room ts w p d n c)
+
 -- Where tokens lie
 
 -- Tokens that lie one after the other from place p on in a stream that ends at `end`. An atom fits, and takes no fewer bytes than its
