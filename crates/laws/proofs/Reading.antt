@@ -195,6 +195,33 @@ form-end x p = simp length-append (omega arith)
 pub more-end : (x y : List ℕ) (p : ℕ) → p + length x + length y ≡ p + length (x ++ y)
 more-end x y p = simp length-append (omega arith)
 
+-- the tokens of spelled expressions, from place p on, in front of others
+unfoldable mutual
+  pub expr-tokens : (e : Expr) (x : List ℕ) → Spells e x → ℕ → List Token → List Token
+  expr-tokens (atom a) x sp p ts = whole a p (p + length x) ∷ ts
+  expr-tokens (form es) x sp p ts = opening p ∷ all-tokens es (sp .0) (sp .2) (p + 1) (closing (p + 1 + length (sp .0)) ∷ ts)
+
+  pub all-tokens : (es : Exprs) (x : List ℕ) → SpellsAll es x → ℕ → List Token → List Token
+  all-tokens none x sp p ts = ts
+  all-tokens (more e es) x sp p ts = expr-tokens e (sp .0) (sp .3) p (all-tokens es (sp .1) (sp .4) (p + length (sp .0)) ts)
+
+mutual
+  unfolding expr-tokens
+
+  pub tokens-expr : (e : Expr) (x : List ℕ) (sp : Spells e x) (p : ℕ) (s : List ℕ) → tokens p 0 (x ++ s) ≡ expr-tokens e x sp p (tokens (p + length x) 0 s)
+  tokens-expr (atom a) x sp p s = tokens-atom a x sp p s
+  tokens-expr (form es) x sp p s =
+      let y = sp .0 in
+      rw (sp .1, tokens-form y p s, tokens-all es y (sp .2) (p + 1) (0x02 ∷ s), tokens-closing (p + 1 + length y) s, form-end y p)
+
+  pub tokens-all : (es : Exprs) (x : List ℕ) (sp : SpellsAll es x) (p : ℕ) (s : List ℕ)
+      → tokens p 0 (x ++ s) ≡ all-tokens es x sp p (tokens (p + length x) 0 s)
+  tokens-all none x sp p s = rw sp (ap (λ (q : ℕ). tokens q 0 s) (omega arith))
+  tokens-all (more e es) x sp p s =
+      let y = sp .0 in
+      let z = sp .1 in
+      rw (sp .2, append-assoc y z s, tokens-expr e y (sp .3) p (z ++ s), tokens-all es z (sp .4) (p + length y) s, more-end y z p)
+
 -- a list of expressions in front of the lists that tokens fill
 abbrev put-all : Exprs → List Exprs → List Exprs
 put-all none ls = ls
@@ -205,64 +232,40 @@ put-all-none none ls = refl
 put-all-none (more e es) ls = ap (put e) (put-all-none es ls)
 
 mutual
-  unfolding lists
+  unfolding lists expr-tokens
 
-  lists-expr : (e : Expr) (x : List ℕ) → Spells e x → (p : ℕ) (s : List ℕ) → lists (tokens p 0 (x ++ s)) ≡ put e (lists (tokens (p + length x) 0 s))
-  lists-expr (atom a) x sp p s = ap lists (tokens-atom a x sp p s)
-  lists-expr (form es) x sp p s =
-      let y = sp .0 in
-      rw (sp .1)
-      (ap lists (tokens-form y p s)
-      ∙ ap wrap (lists-all es y (sp .2) (p + 1) (0x02 ∷ s) ∙ ap (λ z. put-all es (lists z)) (tokens-closing (p + 1 + length y) s) ∙ put-all-none es _)
-      ∙ ap (λ (q : ℕ). put (form es) (lists (tokens q 0 s))) (form-end y p))
+  lists-expr : (e : Expr) (x : List ℕ) (sp : Spells e x) (p : ℕ) (ts : List Token) → lists (expr-tokens e x sp p ts) ≡ put e (lists ts)
+  lists-expr (atom a) x sp p ts = refl
+  lists-expr (form es) x sp p ts = ap wrap (lists-all es (sp .0) (sp .2) (p + 1) _ ∙ put-all-none es (lists ts))
 
-  lists-all : (es : Exprs) (x : List ℕ) → SpellsAll es x → (p : ℕ) (s : List ℕ)
-      → lists (tokens p 0 (x ++ s)) ≡ put-all es (lists (tokens (p + length x) 0 s))
-  lists-all none x sp p s = rw sp (ap (λ (q : ℕ). lists (tokens q 0 s)) (omega arith))
-  lists-all (more e es) x sp p s =
-      let y = sp .0 in
-      let z = sp .1 in
-      rw (sp .2, append-assoc y z s)
-      (lists-expr e y (sp .3) p (z ++ s)
-      ∙ ap (put e) (lists-all es z (sp .4) (p + length y) s ∙ ap (λ (q : ℕ). put-all es (lists (tokens q 0 s))) (more-end y z p)))
+  lists-all : (es : Exprs) (x : List ℕ) (sp : SpellsAll es x) (p : ℕ) (ts : List Token) → lists (all-tokens es x sp p ts) ≡ put-all es (lists ts)
+  lists-all none x sp p ts = refl
+  lists-all (more e es) x sp p ts = lists-expr e (sp .0) (sp .3) p _ ∙ ap (put e) (lists-all es (sp .1) (sp .4) _ ts)
 
 module _ (end room : ℕ) where
   mutual
-    unfolding check rows depth
+    unfolding check rows depth expr-tokens
 
-    check-expr : (e : Expr) (x : List ℕ) → Spells e x → (p d n : ℕ) (s : List ℕ) → depth e + d ≤ 64 → n + rows e ≤ room
-        → check end room (tokens p 0 (x ++ s)) d n ≡ check end room (tokens (p + length x) 0 s) d (n + rows e)
-    check-expr (atom a) x sp p d n s h k = rw (tokens-atom a x sp p s, lt-leb room n (omega arith))
-    check-expr (form es) x sp p d n s h k =
-        let y = sp .0 in
+    check-expr : (e : Expr) (x : List ℕ) (sp : Spells e x) (p d n : ℕ) (ts : List Token) → depth e + d ≤ 64 → n + rows e ≤ room
+        → check end room (expr-tokens e x sp p ts) d n ≡ check end room ts d (n + rows e)
+    check-expr (atom a) x sp p d n ts h k = rw (lt-leb room n (omega arith))
+    check-expr (form es) x sp p d n ts h k =
         let back : d + 1 - 1 ≡ d = omega arith in
         let count : n + 1 + rows-all es ≡ n + (1 + rows-all es) = omega arith in
-        rw (
-          sp .1,
-          tokens-form y p s,
-          lt-leb 64 d (omega arith),
-          lt-leb room n (omega arith),
-          check-all es y (sp .2) (p + 1) (d + 1) (n + 1) (0x02 ∷ s) (omega arith) (omega arith),
-          tokens-closing (p + 1 + length y) s,
-          ne-eqb (d + 1) 0 (λ z. omega arith),
-          back,
-          count,
-          form-end y p,
-        )
+        let inner = check-list es (sp .0) (sp .2) (p + 1) (d + 1) (n + 1) (closing (p + 1 + length (sp .0)) ∷ ts) (omega arith) (omega arith) in
+        rw (lt-leb 64 d (omega arith), lt-leb room n (omega arith), inner, ne-eqb (d + 1) 0 (λ z. omega arith), back, count)
 
-    pub check-all : (es : Exprs) (x : List ℕ) → SpellsAll es x → (p d n : ℕ) (s : List ℕ) → deepest es + d ≤ 64 → n + rows-all es ≤ room
-        → check end room (tokens p 0 (x ++ s)) d n ≡ check end room (tokens (p + length x) 0 s) d (n + rows-all es)
-    check-all none x sp p d n s h k =
-        let place : p + 0 ≡ p = omega arith in
-        let count : n + 0 ≡ n = omega arith in
-        rw (sp, place, count)
-    check-all (more e es) x sp p d n s h k =
-        let y = sp .0 in
-        let z = sp .1 in
-        let count : n + rows e + rows-all es ≡ n + (rows e + rows-all es) = omega arith in
-        rw (sp .2, append-assoc y z s, ← more-end y z p, ← count)
-        (check-expr e y (sp .3) p d n (z ++ s) (omega arith) (omega arith)
-        ∙ check-all es z (sp .4) (p + length y) d (n + rows e) s (omega arith) (omega arith))
+    check-list : (es : Exprs) (x : List ℕ) (sp : SpellsAll es x) (p d n : ℕ) (ts : List Token) → deepest es + d ≤ 64 → n + rows-all es ≤ room
+        → check end room (all-tokens es x sp p ts) d n ≡ check end room ts d (n + rows-all es)
+    check-list none x sp p d n ts h k = ap (check end room ts d) (omega arith)
+    check-list (more e es) x sp p d n ts h k =
+        check-expr e (sp .0) (sp .3) p d n _ (omega arith) (omega arith)
+        ∙ check-list es (sp .1) (sp .4) (p + length (sp .0)) d (n + rows e) ts (omega arith) (omega arith)
+        ∙ ap (check end room ts d) (omega arith)
+
+  pub check-all : (es : Exprs) (x : List ℕ) → SpellsAll es x → (p d n : ℕ) (s : List ℕ) → deepest es + d ≤ 64 → n + rows-all es ≤ room
+      → check end room (tokens p 0 (x ++ s)) d n ≡ check end room (tokens (p + length x) 0 s) d (n + rows-all es)
+  check-all es x sp p d n s h k = rw (tokens-all es x sp p s) (check-list es x sp p d n _ h k)
 
 -- bytes that spell expressions are read as these
 pub read-spelled : (es : Exprs) (s : List ℕ) (room : ℕ) → SpellsAll es s → deepest es ≤ 64 → length s ≤ 65536 → rows-all es ≤ room
@@ -272,7 +275,7 @@ read-spelled es s room sp h l r =
     let passes : check (length s) room (tokens 0 0 s) 0 0 ≡ right =
     ap (λ (x : List ℕ). check (length s) room (tokens 0 0 x) 0 0) (sym (append-nil s)) ∙ check-all (length s) room es s sp 0 0 0 [] (omega arith) (omega arith) in
     let means : meaning-of s ≡ es =
-    ap (λ (x : List ℕ). meaning-of x) (sym (append-nil s)) ∙ ap (λ (ls : List Exprs). getD ls 0 none) (lists-all es s sp 0 [] ∙ put-all-none es []) in
+    ap (λ (x : List ℕ). meaning-of x) (sym (append-nil s)) ∙ rw (tokens-all es s sp 0 [], lists-all es s sp 0 [], put-all-none es []) in
     readable-read s room l passes ∙ ap (readable (rows-of (tokens 0 0 s))) means
 
 -- canonical bytes spell
