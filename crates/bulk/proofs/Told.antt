@@ -49,7 +49,7 @@ told s room v stream e = rw e (go (read s room) refl)
           can = read-enough s room rs es h (length s) few ∙ as-told;
           is = h ∙ as-told;
           counted = count;
-          fits = omega (arith, rows-room (length s) room (tokens 0 0 s) 0 0 (r .passes) (omega arith));
+          fits = omega (arith, rows-room (r .well) (omega arith));
           sized = ap (λ (x : Exprs). length (canonical x)) (r .means);
         }
 

@@ -5,15 +5,14 @@ use mathlib.Core.Path.{_≡_, refl, sym, _∙_}
 use mathlib.Core.List.{List}
 use lib.ListN.{length, set}
 use native.Mathlib.Omega.{arith}
-use Rattle.spec.specs.Expr.{Atom, array, ref, atom, Exprs, only, deepest}
-use Rattle.spec.specs.Nodes.{Node, leaf, branch, Nodes, elements, head-word}
-use Rattle.spec.specs.Runs.{step, before}
+use Rattle.spec.specs.Expr.{Atom, array, ref, atom, Exprs, only}
+use Rattle.spec.specs.Nodes.{Node, leaf, branch, Nodes, elements}
+use Rattle.spec.specs.Runs.{step, before, ceased, hold}
 use Rattle.spec.specs.Plan.{function, Here, Plan, refuse, leave, associate, plan}
 use Rattle.spec.specs.Evaluation.{add-namespace, complete, Call, ns-form, perform, eval, eval-all}
-use Rattle.laws.specs.Holding.{ceased, hold}
 use Rattle.laws.proofs.Holding.{hold-give, hold-stop, hold-step, hold-step-none, hold-complete, hold-complete-deep, hold-complete-none}
 use Rattle.laws.proofs.Singles.{plan-counted}
-use Rattle.laws.proofs.Values.{FitsNode, SoundHere, SoundPlan, leaves, plan-atom-sound, plan-form-sound}
+use Rattle.laws.proofs.Values.{plan-sound}
 use Rattle.evaluator.specs.Stands.{LeafAt, NodeAt}
 use Rattle.evaluator.specs.Entries.{function-bit, Entry}
 use Rattle.evaluator.specs.Named.{named, Named}
@@ -85,17 +84,6 @@ module _ (s t : List ℕ) (row : ℕ) (run : Call) (h : Here) where
 
     eval-step : 0 < steps → hold steps w (eval run e h) ≡ hold (steps - 1) w (perform run row (eval-all run (elements e)) h (plan e h))
     eval-step l = rw (eval-plan e n) (hold-step steps w row _ l)
-
--- the values that a plan says are left are no deeper than 64 forms
-plan-shallow : (bound : ℕ) (e : Node) (h : Here) (vs : Exprs) → FitsNode bound e → SoundHere bound h → plan e h ≡ leave vs → deepest vs ≤ 64
-plan-shallow bound e h vs f s q = go (rw q at (sound e f))
-  where
-    sound : (e : Node) → FitsNode bound e → SoundPlan bound (plan e h)
-    sound (leaf r a) f = plan-atom-sound bound a (h .scope) (f .1) (s .0)
-    sound (branch r es) f = plan-form-sound bound (head-word es) es h (f .1) s
-
-    go : SoundPlan bound (leave vs) → deepest vs ≤ 64
-    go (leaves v) = v .1
 
 -- Tasks
 
@@ -216,6 +204,6 @@ begin-performs {bound = bound} {st = st} {e = e} {h = h} b steps p = record {
   namespaces = b .setting .namespaces;
   counted = b .setting .counted;
   most = b .setting .most;
-  shallow = λ vs q. plan-shallow bound e h vs (b .fit) (b .sound) q;
+  shallow = λ vs q. rw q at (plan-sound bound e h (b .fit) (b .sound)) .1;
   fewer = λ m n id q. omega (arith, plan-counted e h m n id q, b .setting .counted);
 }

@@ -12,16 +12,16 @@ use native.Mathlib.Omega.{arith}
 use Rattle.spec.specs.Expr.{same, nil, array, int, ref, Expr, atom, form, Exprs, none, more, rows, rows-all, canonical}
 use Rattle.spec.specs.Reading.{Row, row-width, readable}
 use Rattle.spec.specs.Nodes.{core, version, Node, elements, number, number-all, empty, markers-all}
-use Rattle.spec.specs.Runs.{End, stopped, cut, steps-in, give}
+use Rattle.spec.specs.Runs.{End, stopped, give, Held, kept, ceased, hold-events, hold, forget, cut, steps-in}
 use Rattle.spec.specs.Plan.{top}
 use Rattle.spec.specs.Evaluation.{Left, run-code, start, run, result}
 use Rattle.spec.specs.Calls.{filled, reading, is-versioned, version-bytes, end-answer, Evaluate}
 use Rattle.laws.specs.Demands.{Bytes, Lent}
-use Rattle.laws.specs.Holding.{Held, kept, ceased, hold-events, hold, and-hold, forget, in-list}
+use Rattle.laws.specs.Holding.{and-hold, in-list}
 use Rattle.laws.proofs.Basics.{impossible}
 use Rattle.laws.proofs.Reading.{Meant, read-readable, read-meant}
 use Rattle.laws.proofs.Values.{number-all-fits, run-proper}
-use Rattle.laws.proofs.Holding.{hold-bind, hold-cut, hold-kept, hold-ceased-row, hold-run}
+use Rattle.laws.proofs.Holding.{hold-bind, hold-kept, hold-ceased-row, hold-run}
 use Rattle.laws.proofs.Calls.{unversioned, wrong-version, runs, evaluation-answered, cut-refused, not-accepted}
 use Rattle.evaluator.specs.Stands.{cell, NodeAt, NodesAt, key-of, head-key}
 use Rattle.evaluator.specs.Entries.{Entry}
@@ -143,7 +143,7 @@ module _ (s t u : List ℕ) (n : ℕ) (rs : List Row) (es : Exprs) (b : Bytes s)
             let k = hold-kept steps (length w) (run es) ls a c e in
             record {
               left = ls;
-              is = hold-cut steps (length w) (run es) ∙ ap forget e;
+              is = ap forget e;
               inside = over .stand .inside;
               bytes = over .stand .bytes ∙ ap canonical (sym values);
               fewer = omega (arith, k .1, left);
@@ -159,7 +159,7 @@ module _ (s t u : List ℕ) (n : ℕ) (rs : List Row) (es : Exprs) (b : Bytes s)
         go (kept ls a c) e q = impossible (cc)
         go (ceased x y) e q =
             let stops : hold steps (length w) (run es) ≡ ceased v r = cc in
-            let cuts : cut steps (length w) (run es .events) (run es .end) ≡ stopped v r = hold-cut steps (length w) (run es) ∙ ap forget stops in
+            let cuts : cut steps (length w) (run es .events) (run es .end) ≡ stopped v r = ap forget stops in
             let low = hold-ceased-row (rows-all es) steps (length w) (run es) v r (run-proper es (meant .fits)) stops in
             (omega (arith, not-accepted v (cut-refused es (meant .fits) steps (length w) v r cuts)), omega (arith, low, meant .counted), cuts)
 

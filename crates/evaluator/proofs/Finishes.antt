@@ -9,11 +9,10 @@ use lib.Dec.{eqb}
 use native.Mathlib.Omega.{arith}
 use Rattle.spec.specs.Expr.{nil, array, int, ref, Expr, atom, form, Exprs, none, more, only, array-head, marker-bytes, atom-bytes, bytes, canonical}
 use Rattle.spec.specs.Nodes.{rest, Node, Nodes, cons, elements}
-use Rattle.spec.specs.Runs.{stop}
+use Rattle.spec.specs.Runs.{stop, hold}
 use Rattle.spec.specs.Plan.{Definition, value, Here, Finish}
 use Rattle.spec.specs.Evaluation.{add-definition, complete, join, one-value}
 use Rattle.laws.specs.Demands.{Bytes}
-use Rattle.laws.specs.Holding.{hold}
 use Rattle.laws.proofs.Atoms.{head-bounds}
 use Rattle.laws.proofs.Fits.{FitsAll}
 use Rattle.laws.proofs.Holding.{hold-give, hold-stop}

@@ -6,13 +6,13 @@ use mathlib.Core.List.{List}
 use native.Mathlib.Omega.{arith}
 use lib.ListN.{length, drop}
 use Rattle.spec.specs.Nodes.{Node, leaf, branch, Nodes, empty, cons, elements}
-use Rattle.spec.specs.Runs.{done, Run}
+use Rattle.spec.specs.Runs.{done, Run, Held, ceased, hold}
 use Rattle.spec.specs.Plan.{Scope as Definitions, Place, Here, Finish, as-call, inside, plan}
 use Rattle.spec.specs.Evaluation.{Left, Call, finish, eval, run-code}
-use Rattle.laws.specs.Holding.{Held, ceased, hold, and-hold, NotTop, in-list, skip}
+use Rattle.laws.specs.Holding.{and-hold, NotTop, in-list, skip}
 use Rattle.laws.proofs.Holding.{hold-kept, hold-step, hold-inside}
 use Rattle.laws.proofs.Singles.{SingleScope, call-single, in-list-single, in-list-pair, in-list-stays}
-use Rattle.laws.proofs.Values.{FitsNode, FitsNodes, call-sound, in-list-left}
+use Rattle.laws.proofs.Values.{FitsNodes, elements-fit, call-sound, in-list-left}
 use Rattle.evaluator.specs.Stands.{next, row-of}
 use Rattle.evaluator.specs.Entries.{Entry}
 use Rattle.evaluator.specs.Named.{Named}
@@ -48,10 +48,6 @@ unfolding skip
 fits-skip bound zero es f = f
 fits-skip bound (suc k) empty f = f
 fits-skip bound (suc k) (cons e es) f = fits-skip bound k es (f .1)
-
-fits-elements : (bound : ℕ) (e : Node) → FitsNode bound e → FitsNodes bound (elements e)
-fits-elements bound (leaf r a) f = tt
-fits-elements bound (branch r es) f = f .1
 
 -- where what is inside stands
 module _ {s t w : List ℕ} {floor : ℕ} {sc : List Entry} {es : Nodes} where
@@ -170,7 +166,7 @@ module _ {s t : List ℕ} {bound codes : ℕ} {args : List ℕ} {stands : Stands
             place = inside-placed first (i .finishes);
           };
           fitting = record { paid = r .fitting .paid; below = r .fitting .below; short = r .fitting .short };
-          fit = fits-skip bound (i .skipped) (elements head) (fits-elements bound head (b .fit));
+          fit = fits-skip bound (i .skipped) (elements head) (elements-fit bound head (b .fit));
           sound = r .sound;
           single = r .single;
           entered = r .entered;

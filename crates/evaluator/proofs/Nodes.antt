@@ -1,19 +1,18 @@
 -- Laws of `NodeAt` and `NodesAt`: what the row of a node tells of it, and of nodes one after the other, one for each thing that code asks of
 -- a row. Document 01: "Table". Assumes nothing.
-use Prim.Native.Nat.{ℕ, suc, _+_, _-_, _*_, _≤_, _<_}
+use Prim.Native.Nat.{ℕ, _+_, _-_, _*_, _≤_, _<_}
 use mathlib.Core.Path.{_≡_, refl, sym, ap, _∙_, subst}
-use mathlib.Core.List.{List, [], _∷_, _++_, append-assoc, append-nil}
+use mathlib.Core.List.{List, [], _∷_, _++_, append-assoc}
 use lib.ListN.{length, take, drop, length-append}
 use lib.Seq.{slice, length-slice, drop-drop, drop-at}
 use native.Mathlib.Omega.{arith}
 use Rattle.spec.specs.Expr.{Atom, nil, array, int, ref, atom-bytes}
-use Rattle.spec.specs.Reading.{Taken, taken, read-atom, atom-kind, row-width}
+use Rattle.spec.specs.Reading.{atom-kind, row-width}
 use Rattle.spec.specs.Nodes.{Node, leaf, branch, Nodes, empty, cons, elements, markers, markers-all}
 use Rattle.laws.specs.Demands.{Bytes}
-use Rattle.laws.specs.Grammar.{SpellsArray, small, generic, SpellsAtom}
+use Rattle.laws.specs.Grammar.{SpellsArray, small, generic}
 use Rattle.laws.proofs.Fits.{bytes-take, bytes-drop, Fits}
-use Rattle.laws.proofs.Spelling.{front}
-use Rattle.laws.proofs.Atoms.{Off, AtomOf, off-atom}
+use Rattle.laws.proofs.Shortest.{spelled-fits}
 use Rattle.evaluator.specs.Stands.{cell, next, RowAt, LeafAt, NodeAt, NodesAt, row-of}
 
 -- Atoms
@@ -47,16 +46,6 @@ no-form (ref m n) h = omega arith
 spelled-array : (bs x : List ℕ) → SpellsArray bs x → (head : List ℕ) × (x ≡ head ++ bs) × (1 ≤ length head)
 spelled-array bs x (small h e) = ((0xC0 + length bs) ∷ [], e, omega arith)
 spelled-array bs x (generic y h e) = (0x03 ∷ y, e, omega arith)
-
--- an atom that bytes spell fits, and has no more canonical bytes
-spelled-fits : (a : Atom) (x : List ℕ) → Bytes x → SpellsAtom a x → Fits a × (length (atom-bytes a) ≤ length x)
-spelled-fits a x b sp =
-    let f = front a x sp in
-    let own = subst Bytes (f .is) b in
-    let n : ℕ = suc (length (f .others)) in
-    let reads : read-atom (f .byte) (f .others) ≡ taken a [] = ap (read-atom (f .byte)) (sym (append-nil (f .others))) ∙ f .reads [] in
-    let off = subst (λ (y : Taken Atom). Off (AtomOf n) n y) reads (off-atom (f .byte) (f .others) (own .0) (own .1)) in
-    (off .0 .0, omega (arith, off .0 .1, ap (λ (l : List ℕ). length l) (f .is)))
 
 module _ {s t : List ℕ} {r : ℕ} where
   -- how many bytes a row has

@@ -9,10 +9,10 @@ use lib.Seq.{slice, slice-empty}
 use lib.Dec.{eqb}
 use Rattle.spec.specs.Expr.{some, Exprs, none, append, canonical}
 use Rattle.spec.specs.Nodes.{Node, Nodes, empty, cons, markers, markers-all}
-use Rattle.spec.specs.Runs.{done}
+use Rattle.spec.specs.Runs.{done, Held, kept, ceased, hold}
 use Rattle.spec.specs.Plan.{Place, top, element, inner, Here}
 use Rattle.spec.specs.Evaluation.{Left, standing, add-definition, eval, run-code}
-use Rattle.laws.specs.Holding.{Held, kept, ceased, hold, and-hold, beyond, together, in-list}
+use Rattle.laws.specs.Holding.{and-hold, beyond, together, in-list}
 use Rattle.laws.proofs.Canonical.{canonical-append}
 use Rattle.laws.proofs.Prefix.{append-append}
 use Rattle.laws.proofs.Holding.{and-hold-same, and-hold-twice, hold-kept, hold-list, hold-list-empty}

@@ -6,9 +6,10 @@ use mathlib.Core.List.{List}
 use lib.ListN.{length, drop}
 use Rattle.spec.specs.Expr.{if_then_else_, ref, Expr, form, Exprs, none, more, only}
 use Rattle.spec.specs.Nodes.{Node, Nodes, elements}
+use Rattle.spec.specs.Runs.{Held, kept, ceased, hold}
 use Rattle.spec.specs.Plan.{Definition, Scope as Definitions, Place, Here, Finish, as-form, as-definition, as-concat, as-call, inside, plan}
 use Rattle.spec.specs.Evaluation.{Left, standing, add-definition, Call, one-value, finish, run-code}
-use Rattle.laws.specs.Holding.{Held, kept, ceased, hold, skip}
+use Rattle.laws.specs.Holding.{skip}
 use Rattle.laws.proofs.Fits.{Fits}
 use Rattle.laws.proofs.Singles.{Single, SingleScope}
 use Rattle.laws.proofs.Values.{Sound, FitsNode, FitsNodes, SoundScope, SoundHere}

@@ -73,7 +73,7 @@ filled-length : (s t : List ℕ) (rs : List Row) (es : Exprs) → reading s t �
 filled-length s t rs es e =
     let r = read-readable s (length t / 4) rs es e in
     let size : length rs ≡ length (rows-of (tokens 0 0 s)) = ap length (r .rows-are) in
-    let room = rows-room (length s) (length t / 4) (tokens 0 0 s) 0 0 (r .passes) (omega arith) in
+    let room = rows-room (r .well) (omega arith) in
     over-length (numbers rs rs) t (omega (arith, numbers-length rs rs))
 
 pub put-out-bytes : (bs : List ℕ) (k : ℕ) (t o : List ℕ) → result-bytes (acceptance (length bs) k t (over bs o)) ≡ bs
@@ -104,7 +104,7 @@ read-within s t =
     once-read-cases (λ (a : Answer). row-width * a .given ≤ length t) s t [] (λ rs es. acceptance (length rs) 0 (filled rs t) []) (λ w p e. omega arith)
     (λ rs es e. let r = read-readable s (length t / row-width) rs es e in
     let size : length rs ≡ length (rows-of (tokens 0 0 s)) = ap length (r .rows-are) in
-    omega (arith, rows-room (length s) (length t / row-width) (tokens 0 0 s) 0 0 (r .passes) (omega arith)))
+    omega (arith, rows-room (r .well) (omega arith)))
 
 module _ (s t o : List ℕ) (rs : List Row) (es : Exprs) (reads : reading s t ≡ readable rs es) where
   pub write-out : length (canonical es) ≤ length o → Write s t o ≡ acceptance (length (canonical es)) 0 (filled rs t) (over (canonical es) o)

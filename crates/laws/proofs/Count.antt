@@ -16,7 +16,7 @@ use Rattle.spec.specs.Calls.{Answer, refusal, filled, row-at, end-answer}
 use Rattle.laws.specs.Demands.{Bytes, Lent, evaluation, step-rows, step-places, all-steps, with-steps, Counted}
 use Rattle.laws.proofs.Basics.{impossible}
 use Rattle.laws.proofs.Reading.{read-refused}
-use Rattle.laws.proofs.Runs.{all-step-rows, cut-enough, cut-short, cut-own}
+use Rattle.laws.proofs.Runs.{cut-enough, cut-short, cut-own}
 use Rattle.laws.proofs.Values.{not-rule, run-proper}
 use Rattle.laws.proofs.Calls.{Put, too-short, fits, put-out-is, Way, unread, unversioned, wrong-version, runs, way, answered, evaluation-answered, reading-fits, Ran}
 use Rattle.laws.proofs.Results.{ran, ran-means}
@@ -154,8 +154,7 @@ ran-all-steps s l h r = go (way s (l .table))
         let meant : r .meaning ≡ es = cc (r .reads, e) in
         let places = ap length (steps-stepped s (l .table) (runs rs es e x y) (l .work)) in
         let size = length-map (step-rows w (run es .events)) (λ k. row-at rs k .start) in
-        let all = all-step-rows (run (r .meaning) .events) w (r .within .work) in
-        sym (places ∙ size ∙ ap (λ (fs : Exprs). length (step-rows w (run fs .events))) (sym meant) ∙ all)
+        sym (places ∙ size ∙ ap (λ (fs : Exprs). length (step-rows w (run fs .events))) (sym meant) ∙ r .within .all)
 
 -- the whole of what is counted
 pub counted : (s : List ℕ) (l : Lent) → Bytes s → Counted s l

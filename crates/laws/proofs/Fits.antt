@@ -20,6 +20,15 @@ pub bytes-append : (s t : List ℕ) → Bytes s → Bytes t → Bytes (s ++ t)
 bytes-append [] t b c = c
 bytes-append (x ∷ s) t b c = (b .0, bytes-append s t (b .1) c)
 
+-- bytes in two parts
+pub bytes-front : (s t : List ℕ) → Bytes (s ++ t) → Bytes s
+bytes-front [] t b = tt
+bytes-front (x ∷ s) t b = (b .0, bytes-front s t (b .1))
+
+pub bytes-back : (s t : List ℕ) → Bytes (s ++ t) → Bytes t
+bytes-back [] t b = b
+bytes-back (x ∷ s) t b = bytes-back s t (b .1)
+
 abbrev pub Fits : Atom → Type 0
 Fits nil = Unit {0}
 Fits (array bs) = Bytes bs

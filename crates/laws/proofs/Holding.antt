@@ -1,22 +1,21 @@
--- Laws of `hold`: how a run in two parts is held, what one event costs, and that it ends as `cut` says. And how a list of nodes is held:
--- a form's elements, a call's code, the top level. Document 01: "Steps", "Workspace". Assumes nothing.
+-- Laws of `hold`: how a run in two parts is held, and what one event costs. And how a list of nodes is held: a form's elements, a call's code, the top level. Document 01: "Steps", "Workspace". Assumes nothing.
 use Prim.Native.Nat.{ℕ, zero, suc, _+_, _-_, _≤_, _<_}
 use mathlib.Core.Path.{_≡_, refl, sym, ap, _∙_}
 use mathlib.Core.List.{List, [], _∷_, _++_}
 use mathlib.Core.Bool.{Bool, true, false}
 use lib.ListN.{length, drop}
 use lib.Dec.{ltb, eqb}
-use borrow.Author.Tests.{ltb-false, eqb-false, lt-ltb, le-ltb, ne-eqb}
+use borrow.Author.Tests.{lt-ltb, le-ltb, ne-eqb}
 use native.Mathlib.Omega.{arith}
 use Rattle.spec.specs.Expr.{if_then_else_, Exprs, none, append, deepest, canonical}
 use Rattle.spec.specs.Nodes.{Node, Nodes, empty, cons, number-all, markers}
-use Rattle.spec.specs.Runs.{Event, step, charge, End, done, stopped, Run, give, stop, before, follow, bind, cut, steps-in}
+use Rattle.spec.specs.Runs.{Event, step, charge, End, done, stopped, Run, give, stop, before, follow, bind, Held, kept, ceased, hold-events, hold, steps-in}
 use Rattle.spec.specs.Plan.{Place, top, element, inner, Here}
 use Rattle.spec.specs.Evaluation.{Left, standing, complete, Call, in-order, eval, eval-all, run-code, top-level, start, run, result}
-use Rattle.laws.specs.Holding.{Held, kept, ceased, hold-events, hold, and-hold, forget, beyond, NotTop, together, in-list, skip}
+use Rattle.laws.specs.Holding.{and-hold, beyond, NotTop, together, in-list, skip}
 use Rattle.laws.specs.Sanity.{RowsBelow, Proper}
-use Rattle.laws.proofs.Basics.{impossible}
-use Rattle.laws.proofs.Runs.{charges}
+use Rattle.laws.proofs.Basics.{impossible, by-test}
+use Rattle.laws.proofs.Runs.{charges, Holds, ends, lacks-step, lacks-work, holds}
 use Rattle.laws.proofs.Singles.{eval-place}
 
 -- and-hold
@@ -116,51 +115,19 @@ module _ (s w r : ℕ) (vs : Exprs) (h : Here) where
 -- hold, by its answer
 
 module _ {A : Type 0} where
-  forget-if : (b : Bool) (v r : ℕ) {x : End A} (y : Held A) → x ≡ forget y → (if b then stopped v r else x) ≡ forget (if b then ceased v r else y)
-  forget-if true v r y h = refl
-  forget-if false v r y h = h
-
-  hold-events-cut : (es : List Event) (e : End A) (s w : ℕ) → cut s w es e ≡ forget (hold-events s w es e)
-  unfolding cut hold-events
-  hold-events-cut [] (done a) s w = refl
-  hold-events-cut [] (stopped v r) s w = refl
-  hold-events-cut (step r ∷ es) e s w = forget-if (eqb s 0) 16 r (hold-events (s - 1) w es e) (hold-events-cut es e (s - 1) w)
-  hold-events-cut (charge r n ∷ es) e s w = forget-if (ltb w n) 17 r (hold-events s (w - n) es e) (hold-events-cut es e s (w - n))
-
-  pub hold-cut : (s w : ℕ) (run : Run A) → cut s w (run .events) (run .end) ≡ forget (hold s w run)
-  hold-cut s w run = hold-events-cut (run .events) (run .end) s w
-
-  not-ceased : (b : Bool) (v r : ℕ) (x : Held A) (a : A) (s w : ℕ) → (if b then ceased v r else x) ≡ kept a s w → (b ≡ false) × (x ≡ kept a s w)
-  not-ceased true v r x a s w h = impossible (cc)
-  not-ceased false v r x a s w h = (refl, h)
-
-  hold-events-kept : (es : List Event) (e : End A) (s w : ℕ) (a : A) (s′ w′ : ℕ) → hold-events s w es e ≡ kept a s′ w′
-      → (e ≡ done a) × (s′ + steps-in es ≡ s) × (w′ + charges es ≡ w)
-  unfolding hold-events steps-in charges
-  hold-events-kept [] (done b) s w a s′ w′ h =
-      let p : b ≡ a = cc in let q : s ≡ s′ = cc in let t : w ≡ w′ = cc in
-      (rw p, omega arith, omega arith)
-  hold-events-kept [] (stopped v r) s w a s′ w′ h = impossible (cc)
-  hold-events-kept (step r ∷ es) e s w a s′ w′ h =
-      let k = not-ceased (eqb s 0) 16 r (hold-events (s - 1) w es e) a s′ w′ h in
-      let on = hold-events-kept es e (s - 1) w a s′ w′ (k .1) in
-      (on .0, omega (arith, eqb-false s 0 (k .0), on .1), on .2)
-  hold-events-kept (charge r n ∷ es) e s w a s′ w′ h =
-      let k = not-ceased (ltb w n) 17 r (hold-events s (w - n) es e) a s′ w′ h in
-      let on = hold-events-kept es e s (w - n) a s′ w′ (k .1) in
-      (on .0, on .1, omega (arith, ltb-false w n (k .0), on .2))
-
   pub hold-kept : (s w : ℕ) (run : Run A) (a : A) (s′ w′ : ℕ) → hold s w run ≡ kept a s′ w′
       → (run .end ≡ done a) × (s′ + steps-in (run .events) ≡ s) × (w′ + charges (run .events) ≡ w)
-  hold-kept s w run a s′ w′ h = hold-events-kept (run .events) (run .end) s w a s′ w′ h
+  hold-kept s w run a s′ w′ = go (run .end) (holds (run .events) (run .end) s w)
+    where
+      go : (e : End A) {x : Held A} → Holds s w (run .events) e x → x ≡ kept a s′ w′
+          → (e ≡ done a) × (s′ + steps-in (run .events) ≡ s) × (w′ + charges (run .events) ≡ w)
+      go (done b) (ends n m p q l) h = let t : n ≡ s′ = cc in let u : m ≡ w′ = cc in (cc, omega arith, omega arith)
+      go (stopped v r) (ends n m p q l) h = impossible (cc)
+      go e (lacks-step r p l q) h = impossible (cc)
+      go e (lacks-work r p l q) h = impossible (cc)
 
   -- the row named is one of the run's
   module _ (n : ℕ) (e : End A) (stops : (v r : ℕ) → e ≡ stopped v r → r < n) where
-    ceased-choice : (b : Bool) (u q : ℕ) (x : Held A) (v r : ℕ) → q < n → (x ≡ ceased v r → r < n)
-        → (if b then ceased u q else x) ≡ ceased v r → r < n
-    ceased-choice true u q x v r l f h = let p : q ≡ r = cc in omega arith
-    ceased-choice false u q x v r l f h = f h
-
     hold-events-row : (es : List Event) (s w v r : ℕ) → RowsBelow n es → hold-events s w es e ≡ ceased v r → r < n
     unfolding hold-events
     hold-events-row [] s w v r b h = go e refl h
@@ -169,9 +136,11 @@ module _ {A : Type 0} where
         go (done a) p h = impossible (cc)
         go (stopped u q) p h = stops v r (cc)
     hold-events-row (step q ∷ es) s w v r b h =
-        ceased-choice (eqb s 0) 16 q (hold-events (s - 1) w es e) v r (b .0) (λ k. hold-events-row es (s - 1) w v r (b .1) k) h
+        by-test (λ (x : Held A). x ≡ ceased v r → r < n) (eqb s 0) (λ t k. let p : q ≡ r = cc in omega arith)
+        (λ t k. hold-events-row es (s - 1) w v r (b .1) k) h
     hold-events-row (charge q m ∷ es) s w v r b h =
-        ceased-choice (ltb w m) 17 q (hold-events s (w - m) es e) v r (b .0) (λ k. hold-events-row es s (w - m) v r (b .1) k) h
+        by-test (λ (x : Held A). x ≡ ceased v r → r < n) (ltb w m) (λ t k. let p : q ≡ r = cc in omega arith)
+        (λ t k. hold-events-row es s (w - m) v r (b .1) k) h
 
   pub hold-ceased-row : (n s w : ℕ) (run : Run A) (v r : ℕ) → Proper n run → hold s w run ≡ ceased v r → r < n
   hold-ceased-row n s w run v r p h = hold-events-row n (run .end) (λ v r q. p .stops v r q .1) (run .events) s w v r (p .rows-below) h

@@ -4,34 +4,25 @@ use Prim.Native.Nat.{ℕ, zero, suc, _+_, _≤_, _<_}
 use mathlib.Core.Path.{_≡_, refl, sym, ap, _∙_}
 use mathlib.Core.List.{List, [], _∷_, _++_, append-assoc, append-nil}
 use native.Mathlib.Omega.{arith}
-use lib.ListN.{length, drop, getD, length-append}
+use lib.ListN.{length, drop, length-append}
 use lib.Seq.{drop-at}
 use Rattle.spec.specs.Expr.{Expr, atom, form, Exprs, none, more, only, size, first, without, rows, rows-all}
-use Rattle.spec.specs.Reading.{tokens, Row, ends, rows-of}
+use Rattle.spec.specs.Reading.{Token, closing, tokens, Row, ends, rows-of}
 use Rattle.spec.specs.Calls.{Buffer, Part, part, no-part, row-at, item}
 use Rattle.laws.specs.Grammar.{Spells, SpellsAll, Piece, SpellsItem, expr-rows, all-rows}
-use Rattle.laws.proofs.Reading.{tokens-atom, tokens-form, tokens-closing, form-end, more-end}
+use Rattle.laws.proofs.Reading.{form-end, expr-tokens, all-tokens, tokens-expr, tokens-all}
 
 -- the ends of forms that are still open are not changed by whole expressions
 mutual
-  unfolding ends
+  unfolding ends expr-tokens
 
-  ends-expr : (e : Expr) (x : List ℕ) → Spells e x → (p : ℕ) (s : List ℕ) → ends (tokens p 0 (x ++ s)) ≡ ends (tokens (p + length x) 0 s)
-  ends-expr (atom a) x sp p s = ap ends (tokens-atom a x sp p s)
-  ends-expr (form es) x sp p s =
-      let y = sp .0 in
-      rw (sp .1)
-      (ap ends (tokens-form y p s)
-      ∙ ap (drop 1) (ends-all es y (sp .2) (p + 1) (0x02 ∷ s) ∙ ap ends (tokens-closing (p + 1 + length y) s))
-      ∙ ap (λ (q : ℕ). ends (tokens q 0 s)) (form-end y p))
+  ends-expr : (e : Expr) (x : List ℕ) (sp : Spells e x) (p : ℕ) (ts : List Token) → ends (expr-tokens e x sp p ts) ≡ ends ts
+  ends-expr (atom a) x sp p ts = refl
+  ends-expr (form es) x sp p ts = ap (drop 1) (ends-all es (sp .0) (sp .2) (p + 1) _)
 
-  ends-all : (es : Exprs) (x : List ℕ) → SpellsAll es x → (p : ℕ) (s : List ℕ) → ends (tokens p 0 (x ++ s)) ≡ ends (tokens (p + length x) 0 s)
-  ends-all none x sp p s = rw sp (ap (λ (q : ℕ). ends (tokens q 0 s)) (omega arith))
-  ends-all (more e es) x sp p s =
-      let y = sp .0 in
-      let z = sp .1 in
-      rw (sp .2, append-assoc y z s)
-      (ends-expr e y (sp .3) p (z ++ s) ∙ ends-all es z (sp .4) (p + length y) s ∙ ap (λ (q : ℕ). ends (tokens q 0 s)) (more-end y z p))
+  ends-all : (es : Exprs) (x : List ℕ) (sp : SpellsAll es x) (p : ℕ) (ts : List Token) → ends (all-tokens es x sp p ts) ≡ ends ts
+  ends-all none x sp p ts = refl
+  ends-all (more e es) x sp p ts = ends-expr e (sp .0) (sp .3) p _ ∙ ends-all es (sp .1) (sp .4) _ ts
 
 mutual
   unfolding expr-rows rows
@@ -46,52 +37,37 @@ mutual
       length-append (expr-rows e (sp .0) (sp .3) p) (all-rows es (sp .1) (sp .4) (p + length (sp .0)))
       ∙ omega (arith, expr-rows-count e (sp .0) (sp .3) p, all-rows-count es (sp .1) (sp .4) (p + length (sp .0)))
 
--- a form's row in front of others
-abbrev form-row : ℕ → ℕ → List Row → List Row
-form-row p e rs = record { kind = 1; start = p; end = e } ∷ rs
-
 mutual
-  unfolding rows-of expr-rows ends
+  unfolding rows-of expr-rows ends expr-tokens
 
-  pub rows-expr : (e : Expr) (x : List ℕ) (sp : Spells e x) (p : ℕ) (s : List ℕ)
-      → rows-of (tokens p 0 (x ++ s)) ≡ expr-rows e x sp p ++ rows-of (tokens (p + length x) 0 s)
-  rows-expr (atom a) x sp p s = ap rows-of (tokens-atom a x sp p s)
-  rows-expr (form es) x sp p s =
+  expr-tokens-rows : (e : Expr) (x : List ℕ) (sp : Spells e x) (p : ℕ) (ts : List Token) → rows-of (expr-tokens e x sp p ts) ≡ expr-rows e x sp p ++ rows-of ts
+  expr-tokens-rows (atom a) x sp p ts = refl
+  expr-tokens-rows (form es) x sp p ts =
       let y = sp .0 in
-      let behind = tokens (p + 1) 0 (y ++ (0x02 ∷ s)) in
+      let last : List Token = closing (p + 1 + length y) ∷ ts in
       let place : p + 1 + length y + 1 ≡ p + length x = form-end y p ∙ ap (λ (z : List ℕ). p + length z) (sym (sp .1)) in
-      let close = tokens-closing (p + 1 + length y) s in
-      let end : getD (ends behind) 0 0 ≡ p + length x = ap (λ (l : List ℕ). getD l 0 0) (ends-all es y (sp .2) (p + 1) (0x02 ∷ s) ∙ ap ends close) ∙ place in
-      let inner : rows-of behind ≡ all-rows es y (sp .2) (p + 1) ++ rows-of (tokens (p + length x) 0 s) =
-      rows-list es y (sp .2) (p + 1) (0x02 ∷ s)
-      ∙ ap (λ l. all-rows es y (sp .2) (p + 1) ++ rows-of l) close
-      ∙ ap (λ (q : ℕ). all-rows es y (sp .2) (p + 1) ++ rows-of (tokens q 0 s)) place in
-      ap (λ (z : List ℕ). rows-of (tokens p 0 (z ++ s))) (sp .1)
-      ∙ ap rows-of (tokens-form y p s)
-      ∙ ap (λ (z : ℕ). form-row p z (rows-of behind)) end
-      ∙ ap (form-row p (p + length x)) inner
+      rw (ends-all es y (sp .2) (p + 1) last, all-tokens-rows es y (sp .2) (p + 1) last, place)
 
-  rows-list : (es : Exprs) (x : List ℕ) (sp : SpellsAll es x) (p : ℕ) (s : List ℕ)
-      → rows-of (tokens p 0 (x ++ s)) ≡ all-rows es x sp p ++ rows-of (tokens (p + length x) 0 s)
-  rows-list none x sp p s = rw sp (ap (λ (q : ℕ). rows-of (tokens q 0 s)) (omega arith))
-  rows-list (more e es) x sp p s =
-      let y = sp .0 in
-      let z = sp .1 in
-      let place : p + length y + length z ≡ p + length x = more-end y z p ∙ ap (λ (u : List ℕ). p + length u) (sym (sp .2)) in
-      let front = expr-rows e y (sp .3) p in
-      let back = all-rows es z (sp .4) (p + length y) in
-      ap (λ (u : List ℕ). rows-of (tokens p 0 (u ++ s))) (sp .2)
-      ∙ ap (λ (u : List ℕ). rows-of (tokens p 0 u)) (append-assoc y z s)
-      ∙ rows-expr e y (sp .3) p (z ++ s)
-      ∙ ap (λ (l : List Row). front ++ l) (rows-list es z (sp .4) (p + length y) s)
-      ∙ sym (append-assoc front back (rows-of (tokens (p + length y + length z) 0 s)))
-      ∙ ap (λ (q : ℕ). (front ++ back) ++ rows-of (tokens q 0 s)) place
+  all-tokens-rows : (es : Exprs) (x : List ℕ) (sp : SpellsAll es x) (p : ℕ) (ts : List Token) → rows-of (all-tokens es x sp p ts) ≡ all-rows es x sp p ++ rows-of ts
+  all-tokens-rows none x sp p ts = refl
+  all-tokens-rows (more e es) x sp p ts =
+      let front = expr-rows e (sp .0) (sp .3) p in
+      let back = all-rows es (sp .1) (sp .4) (p + length (sp .0)) in
+      expr-tokens-rows e (sp .0) (sp .3) p _
+      ∙ ap (λ (l : List Row). front ++ l) (all-tokens-rows es (sp .1) (sp .4) _ ts)
+      ∙ sym (append-assoc front back (rows-of ts))
+
+pub rows-expr : (e : Expr) (x : List ℕ) (sp : Spells e x) (p : ℕ) (s : List ℕ)
+    → rows-of (tokens p 0 (x ++ s)) ≡ expr-rows e x sp p ++ rows-of (tokens (p + length x) 0 s)
+rows-expr e x sp p s = rw (tokens-expr e x sp p s) (expr-tokens-rows e x sp p _)
 
 -- the rows of a stream that spells expressions
 pub spelled-rows : (es : Exprs) (s : List ℕ) (sp : SpellsAll es s) → rows-of (tokens 0 0 s) ≡ all-rows es s sp 0
 unfolding rows-of tokens
 spelled-rows es s sp =
-    ap (λ (x : List ℕ). rows-of (tokens 0 0 x)) (sym (append-nil s)) ∙ rows-list es s sp 0 [] ∙ append-nil (all-rows es s sp 0)
+    ap (λ (x : List ℕ). rows-of (tokens 0 0 x)) (sym (append-nil s))
+    ∙ rw (tokens-all es s sp 0 []) (all-tokens-rows es s sp 0 [])
+    ∙ append-nil (all-rows es s sp 0)
 
 -- Item
 

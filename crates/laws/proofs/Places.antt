@@ -6,7 +6,7 @@ use mathlib.Core.List.{List, []}
 use lib.ListN.{length}
 use native.Mathlib.Omega.{arith}
 use Rattle.spec.specs.Expr.{Exprs, canonical}
-use Rattle.spec.specs.Reading.{tokens, Row, readable, read}
+use Rattle.spec.specs.Reading.{Row, readable, read}
 use Rattle.spec.specs.Runs.{End, done, stopped, cut, steps-in}
 use Rattle.spec.specs.Evaluation.{run, result}
 use Rattle.spec.specs.Calls.{Answer, acceptance, filled, row-at, end-answer, Read, Write}
@@ -24,11 +24,11 @@ module _ (s : List ℕ) (room : ℕ) (rs : List Row) (es : Exprs) (stream : Byte
 
   pub read-order : (i j : ℕ) → i < j → j < length rs → row-at rs i .start < row-at rs j .start
   read-order i j h k =
-      let order = rows-ordered (length s) room (tokens 0 0 s) 0 0 0 (stream-laid s stream) (is-readable .passes) in
+      let order = rows-ordered (length s) (is-readable .well) 0 (stream-laid s stream) in
       ordered-starts _ 0 rs (rw (is-readable .rows-are) order) i j h k
 
   pub read-inside : Inside (length s) rs
-  read-inside = rw (is-readable .rows-are) (rows-inside (length s) room (tokens 0 0 s) 0 0 0 (stream-laid s stream) (is-readable .passes))
+  read-inside = rw (is-readable .rows-are) (rows-inside (length s) (is-readable .well) 0 (stream-laid s stream))
 
 -- Refusals
 

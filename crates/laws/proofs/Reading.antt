@@ -11,13 +11,13 @@ use borrow.Author.Tests.{ltb-false, le-ltb, lt-leb, ne-eqb}
 use native.Mathlib.Omega.{arith}
 use native.Mathlib.Numerals.{add-one}
 use Rattle.spec.specs.Expr.{if_then_else_, Atom, Expr, atom, form, Exprs, none, more, rows, rows-all, depth, deepest, bytes, canonical}
-use Rattle.spec.specs.Reading.{Token, opening, closing, whole, bad, token, tokens, Verdict, right, wrong, check, put, wrap, lists, Row, rows-of, refused, readable, by-verdict, read}
+use Rattle.spec.specs.Reading.{Token, opening, closing, whole, token, tokens, Verdict, right, wrong, check, put, wrap, lists, Row, rows-of, refused, readable, by-verdict, read}
 use Rattle.laws.specs.Demands.{Bytes, meaning-of}
 use Rattle.laws.proofs.Basics.{impossible}
 use Rattle.laws.proofs.Fits.{FitsExpr, FitsAll}
 use Rattle.laws.specs.Grammar.{SpellsAtom, Spells, SpellsAll}
 use Rattle.laws.proofs.Spelling.{Front, front, canonical-atom}
-use Rattle.laws.proofs.Tokens.{right-end, right-opening, right-closing, right-whole, right-bad, Laid, tokens-laid, RefusalInside, check-refusal, tokens-few, check-room}
+use Rattle.laws.proofs.Tokens.{Right, at-end, opens, closes, stands, right-tokens, Laid, tokens-laid, RefusalInside, check-refusal, tokens-few, check-room}
 use Rattle.laws.proofs.Rows.{rows-in, rows-count, rows-room, right-room}
 
 -- What was read
@@ -50,28 +50,21 @@ wrap-sound d (es ∷ ls) s =
     let p = put-sound d (form es) ls (s .0) (omega (arith, s .1)) (s .2) in
     (p .0, simp length-append at (p .1) ∙ omega arith)
 
-module _ (end room : ℕ) where
-  lists-sound : (ts : List Token) (p d n : ℕ) → d ≤ 64 → Laid p ts end → check end room ts d n ≡ right
-      → ListsFit d (lists ts) × (p + weight (lists ts) ≤ end + 1)
-  unfolding lists depth bytes
-  lists-sound [] p d n h l c =
-      let z = right-end end room d n c in
-      (subst (λ (x : ℕ). ListsFit x (none ∷ [])) (sym z) (tt, omega arith), omega arith)
-  lists-sound (opening q ∷ ts) p d n h l c =
-      let k = right-opening end room ts q d n c in
-      let a = lists-sound ts (q + 1) (d + 1) (n + 1) (omega (arith, k .0)) (l .1) (k .2) in
-      let b = wrap-sound d (lists ts) (rw (add-one d) at (a .0)) in
-      (b .0, omega (arith, a .1, b .1, l .0))
-  lists-sound (closing q ∷ ts) p zero n h l c = absurd (omega (arith, right-closing end room ts q 0 n c .0))
-  lists-sound (closing q ∷ ts) p (suc d) n h l c =
-      let back : suc d - 1 ≡ d = omega arith in
-      let a = lists-sound ts (q + 1) d n (omega arith) (l .1) (rw back at (right-closing end room ts q (suc d) n c .1)) in
-      ((tt, omega arith, a .0), omega (arith, a .1, l .0))
-  lists-sound (whole x q e ∷ ts) p d n h l c =
-      let a = lists-sound ts e d (n + 1) h (l .4) (right-whole end room ts x q e d n c .1) in
-      let b = put-sound d (atom x) (lists ts) (l .3) (omega arith) (a .0) in
-      (b .0, omega (arith, a .1, b .1, l .0, l .2))
-  lists-sound (bad w q ∷ ts) p d n h l c = absurd (right-bad end room ts w q d n c)
+lists-sound : {room : ℕ} {ts : List Token} {d n : ℕ} → Right room ts d n → (end p : ℕ) → d ≤ 64 → Laid p ts end
+    → ListsFit d (lists ts) × (p + weight (lists ts) ≤ end + 1)
+unfolding lists depth bytes
+lists-sound at-end end p h l = ((tt, omega arith), omega arith)
+lists-sound (opens {ts} {q} {d} g k c) end p h l =
+    let a = lists-sound c end (q + 1) (omega arith) (l .1) in
+    let b = wrap-sound d (lists ts) (rw (add-one d) at (a .0)) in
+    (b .0, omega (arith, a .1, b .1, l .0))
+lists-sound (closes {q = q} c) end p h l =
+    let a = lists-sound c end (q + 1) (omega arith) (l .1) in
+    ((tt, omega arith, a .0), omega (arith, a .1, l .0))
+lists-sound (stands {ts} {a} {e = e} {d} k c) end p h l =
+    let s = lists-sound c end e h (l .4) in
+    let b = put-sound d (atom a) (lists ts) (l .3) (omega arith) (s .0) in
+    (b .0, omega (arith, s .1, b .1, l .0, l .2))
 
 pub stream-laid : (s : List ℕ) → Bytes s → Laid 0 (tokens 0 0 s) (length s)
 stream-laid s b = subst (λ (x : ℕ). Laid 0 (tokens 0 0 s) x) (omega arith) (tokens-laid s 0 0 b (omega arith))
@@ -80,6 +73,7 @@ stream-laid s b = subst (λ (x : ℕ). Laid 0 (tokens 0 0 s) x) (omega arith) (t
 pub record Readable (s : List ℕ) (room : ℕ) (rs : List Row) (es : Exprs) : Type 0 where
   pub short : length s ≤ 65536
   pub passes : check (length s) room (tokens 0 0 s) 0 0 ≡ right
+  pub well : Right room (tokens 0 0 s) 0 0
   pub rows-are : rs ≡ rows-of (tokens 0 0 s)
   pub means : es ≡ meaning-of s
 
@@ -90,7 +84,7 @@ read-readable s room rs es h = go (ltb 65536 (length s)) refl (check (length s) 
     go : (b : Bool) → ltb 65536 (length s) ≡ b → (v : Verdict) → check (length s) room (tokens 0 0 s) 0 0 ≡ v
         → (if b then refused 1 0 else by-verdict v (tokens 0 0 s)) ≡ readable rs es → Readable s room rs es
     go true e v k h = impossible (cc)
-    go false e right k h = record { short = ltb-false 65536 (length s) e; passes = k; rows-are = cc; means = cc }
+    go false e right k h = record { short = ltb-false 65536 (length s) e; passes = k; well = right-tokens (length s) room (tokens 0 0 s) 0 0 k; rows-are = cc; means = cc }
     go false e (wrong w p) k h = impossible (cc)
 
 readable-read : (s : List ℕ) (room : ℕ) → length s ≤ 65536 → check (length s) room (tokens 0 0 s) 0 0 ≡ right
@@ -130,7 +124,7 @@ pub read-enough : (s : List ℕ) (room : ℕ) (rs : List Row) (es : Exprs) → r
 read-enough s room rs es h room′ k =
     let r = read-readable s room rs es h in
     let size : length rs ≡ length (rows-of (tokens 0 0 s)) = ap length (r .rows-are) in
-    rw (r .rows-are, r .means) (readable-read s room′ (r .short) (right-room (length s) room (tokens 0 0 s) 0 0 (r .passes) room′ (omega arith)))
+    rw (r .rows-are, r .means) (readable-read s room′ (r .short) (right-room (r .well) (length s) room′ (omega arith)))
 
 -- what holds of a meaning that was read: its canonical bytes can be read too, in as many rows, and are no more than the stream's
 pub record Meant (s : List ℕ) (room : ℕ) (rs : List Row) (es : Exprs) : Type 0 where
@@ -143,11 +137,11 @@ pub record Meant (s : List ℕ) (room : ℕ) (rs : List Row) (es : Exprs) : Type
 pub read-meant : (s : List ℕ) (room : ℕ) (rs : List Row) (es : Exprs) → Bytes s → Readable s room rs es → Meant s room rs es
 read-meant s room rs es b r =
     let ts = tokens 0 0 s in
-    let sound = lists-sound (length s) room ts 0 0 0 (omega arith) (stream-laid s b) (r .passes) in
+    let sound = lists-sound (r .well) (length s) 0 (omega arith) (stream-laid s b) in
     let size : length rs ≡ length (rows-of ts) = ap length (r .rows-are) in
     subst (λ (x : Exprs). Meant s room rs x) (sym (r .means))
-    (only-list (lists ts) (sound .0) (sound .1) (size ∙ rows-count (length s) room ts 0 0 (r .passes) .0)
-    (omega (arith, size, rows-room (length s) room ts 0 0 (r .passes) (omega arith))))
+    (only-list (lists ts) (sound .0) (sound .1) (size ∙ rows-count (r .well) .0)
+    (omega (arith, size, rows-room (r .well) (omega arith))))
   where
     only-list : (ls : List Exprs) → ListsFit 0 ls → 0 + weight ls ≤ length s + 1 → length rs ≡ rows-in ls → length rs ≤ room
         → Meant s room rs (getD ls 0 none)
@@ -201,6 +195,33 @@ form-end x p = simp length-append (omega arith)
 pub more-end : (x y : List ℕ) (p : ℕ) → p + length x + length y ≡ p + length (x ++ y)
 more-end x y p = simp length-append (omega arith)
 
+-- the tokens of spelled expressions, from place p on, in front of others
+unfoldable mutual
+  pub expr-tokens : (e : Expr) (x : List ℕ) → Spells e x → ℕ → List Token → List Token
+  expr-tokens (atom a) x sp p ts = whole a p (p + length x) ∷ ts
+  expr-tokens (form es) x sp p ts = opening p ∷ all-tokens es (sp .0) (sp .2) (p + 1) (closing (p + 1 + length (sp .0)) ∷ ts)
+
+  pub all-tokens : (es : Exprs) (x : List ℕ) → SpellsAll es x → ℕ → List Token → List Token
+  all-tokens none x sp p ts = ts
+  all-tokens (more e es) x sp p ts = expr-tokens e (sp .0) (sp .3) p (all-tokens es (sp .1) (sp .4) (p + length (sp .0)) ts)
+
+mutual
+  unfolding expr-tokens
+
+  pub tokens-expr : (e : Expr) (x : List ℕ) (sp : Spells e x) (p : ℕ) (s : List ℕ) → tokens p 0 (x ++ s) ≡ expr-tokens e x sp p (tokens (p + length x) 0 s)
+  tokens-expr (atom a) x sp p s = tokens-atom a x sp p s
+  tokens-expr (form es) x sp p s =
+      let y = sp .0 in
+      rw (sp .1, tokens-form y p s, tokens-all es y (sp .2) (p + 1) (0x02 ∷ s), tokens-closing (p + 1 + length y) s, form-end y p)
+
+  pub tokens-all : (es : Exprs) (x : List ℕ) (sp : SpellsAll es x) (p : ℕ) (s : List ℕ)
+      → tokens p 0 (x ++ s) ≡ all-tokens es x sp p (tokens (p + length x) 0 s)
+  tokens-all none x sp p s = rw sp (ap (λ (q : ℕ). tokens q 0 s) (omega arith))
+  tokens-all (more e es) x sp p s =
+      let y = sp .0 in
+      let z = sp .1 in
+      rw (sp .2, append-assoc y z s, tokens-expr e y (sp .3) p (z ++ s), tokens-all es z (sp .4) (p + length y) s, more-end y z p)
+
 -- a list of expressions in front of the lists that tokens fill
 abbrev put-all : Exprs → List Exprs → List Exprs
 put-all none ls = ls
@@ -211,64 +232,40 @@ put-all-none none ls = refl
 put-all-none (more e es) ls = ap (put e) (put-all-none es ls)
 
 mutual
-  unfolding lists
+  unfolding lists expr-tokens
 
-  lists-expr : (e : Expr) (x : List ℕ) → Spells e x → (p : ℕ) (s : List ℕ) → lists (tokens p 0 (x ++ s)) ≡ put e (lists (tokens (p + length x) 0 s))
-  lists-expr (atom a) x sp p s = ap lists (tokens-atom a x sp p s)
-  lists-expr (form es) x sp p s =
-      let y = sp .0 in
-      rw (sp .1)
-      (ap lists (tokens-form y p s)
-      ∙ ap wrap (lists-all es y (sp .2) (p + 1) (0x02 ∷ s) ∙ ap (λ z. put-all es (lists z)) (tokens-closing (p + 1 + length y) s) ∙ put-all-none es _)
-      ∙ ap (λ (q : ℕ). put (form es) (lists (tokens q 0 s))) (form-end y p))
+  lists-expr : (e : Expr) (x : List ℕ) (sp : Spells e x) (p : ℕ) (ts : List Token) → lists (expr-tokens e x sp p ts) ≡ put e (lists ts)
+  lists-expr (atom a) x sp p ts = refl
+  lists-expr (form es) x sp p ts = ap wrap (lists-all es (sp .0) (sp .2) (p + 1) _ ∙ put-all-none es (lists ts))
 
-  lists-all : (es : Exprs) (x : List ℕ) → SpellsAll es x → (p : ℕ) (s : List ℕ)
-      → lists (tokens p 0 (x ++ s)) ≡ put-all es (lists (tokens (p + length x) 0 s))
-  lists-all none x sp p s = rw sp (ap (λ (q : ℕ). lists (tokens q 0 s)) (omega arith))
-  lists-all (more e es) x sp p s =
-      let y = sp .0 in
-      let z = sp .1 in
-      rw (sp .2, append-assoc y z s)
-      (lists-expr e y (sp .3) p (z ++ s)
-      ∙ ap (put e) (lists-all es z (sp .4) (p + length y) s ∙ ap (λ (q : ℕ). put-all es (lists (tokens q 0 s))) (more-end y z p)))
+  lists-all : (es : Exprs) (x : List ℕ) (sp : SpellsAll es x) (p : ℕ) (ts : List Token) → lists (all-tokens es x sp p ts) ≡ put-all es (lists ts)
+  lists-all none x sp p ts = refl
+  lists-all (more e es) x sp p ts = lists-expr e (sp .0) (sp .3) p _ ∙ ap (put e) (lists-all es (sp .1) (sp .4) _ ts)
 
 module _ (end room : ℕ) where
   mutual
-    unfolding check rows depth
+    unfolding check rows depth expr-tokens
 
-    check-expr : (e : Expr) (x : List ℕ) → Spells e x → (p d n : ℕ) (s : List ℕ) → depth e + d ≤ 64 → n + rows e ≤ room
-        → check end room (tokens p 0 (x ++ s)) d n ≡ check end room (tokens (p + length x) 0 s) d (n + rows e)
-    check-expr (atom a) x sp p d n s h k = rw (tokens-atom a x sp p s, lt-leb room n (omega arith))
-    check-expr (form es) x sp p d n s h k =
-        let y = sp .0 in
+    check-expr : (e : Expr) (x : List ℕ) (sp : Spells e x) (p d n : ℕ) (ts : List Token) → depth e + d ≤ 64 → n + rows e ≤ room
+        → check end room (expr-tokens e x sp p ts) d n ≡ check end room ts d (n + rows e)
+    check-expr (atom a) x sp p d n ts h k = rw (lt-leb room n (omega arith))
+    check-expr (form es) x sp p d n ts h k =
         let back : d + 1 - 1 ≡ d = omega arith in
         let count : n + 1 + rows-all es ≡ n + (1 + rows-all es) = omega arith in
-        rw (
-          sp .1,
-          tokens-form y p s,
-          lt-leb 64 d (omega arith),
-          lt-leb room n (omega arith),
-          check-all es y (sp .2) (p + 1) (d + 1) (n + 1) (0x02 ∷ s) (omega arith) (omega arith),
-          tokens-closing (p + 1 + length y) s,
-          ne-eqb (d + 1) 0 (λ z. omega arith),
-          back,
-          count,
-          form-end y p,
-        )
+        let inner = check-list es (sp .0) (sp .2) (p + 1) (d + 1) (n + 1) (closing (p + 1 + length (sp .0)) ∷ ts) (omega arith) (omega arith) in
+        rw (lt-leb 64 d (omega arith), lt-leb room n (omega arith), inner, ne-eqb (d + 1) 0 (λ z. omega arith), back, count)
 
-    pub check-all : (es : Exprs) (x : List ℕ) → SpellsAll es x → (p d n : ℕ) (s : List ℕ) → deepest es + d ≤ 64 → n + rows-all es ≤ room
-        → check end room (tokens p 0 (x ++ s)) d n ≡ check end room (tokens (p + length x) 0 s) d (n + rows-all es)
-    check-all none x sp p d n s h k =
-        let place : p + 0 ≡ p = omega arith in
-        let count : n + 0 ≡ n = omega arith in
-        rw (sp, place, count)
-    check-all (more e es) x sp p d n s h k =
-        let y = sp .0 in
-        let z = sp .1 in
-        let count : n + rows e + rows-all es ≡ n + (rows e + rows-all es) = omega arith in
-        rw (sp .2, append-assoc y z s, ← more-end y z p, ← count)
-        (check-expr e y (sp .3) p d n (z ++ s) (omega arith) (omega arith)
-        ∙ check-all es z (sp .4) (p + length y) d (n + rows e) s (omega arith) (omega arith))
+    check-list : (es : Exprs) (x : List ℕ) (sp : SpellsAll es x) (p d n : ℕ) (ts : List Token) → deepest es + d ≤ 64 → n + rows-all es ≤ room
+        → check end room (all-tokens es x sp p ts) d n ≡ check end room ts d (n + rows-all es)
+    check-list none x sp p d n ts h k = ap (check end room ts d) (omega arith)
+    check-list (more e es) x sp p d n ts h k =
+        check-expr e (sp .0) (sp .3) p d n _ (omega arith) (omega arith)
+        ∙ check-list es (sp .1) (sp .4) (p + length (sp .0)) d (n + rows e) ts (omega arith) (omega arith)
+        ∙ ap (check end room ts d) (omega arith)
+
+  pub check-all : (es : Exprs) (x : List ℕ) → SpellsAll es x → (p d n : ℕ) (s : List ℕ) → deepest es + d ≤ 64 → n + rows-all es ≤ room
+      → check end room (tokens p 0 (x ++ s)) d n ≡ check end room (tokens (p + length x) 0 s) d (n + rows-all es)
+  check-all es x sp p d n s h k = rw (tokens-all es x sp p s) (check-list es x sp p d n _ h k)
 
 -- bytes that spell expressions are read as these
 pub read-spelled : (es : Exprs) (s : List ℕ) (room : ℕ) → SpellsAll es s → deepest es ≤ 64 → length s ≤ 65536 → rows-all es ≤ room
@@ -278,7 +275,7 @@ read-spelled es s room sp h l r =
     let passes : check (length s) room (tokens 0 0 s) 0 0 ≡ right =
     ap (λ (x : List ℕ). check (length s) room (tokens 0 0 x) 0 0) (sym (append-nil s)) ∙ check-all (length s) room es s sp 0 0 0 [] (omega arith) (omega arith) in
     let means : meaning-of s ≡ es =
-    ap (λ (x : List ℕ). meaning-of x) (sym (append-nil s)) ∙ ap (λ (ls : List Exprs). getD ls 0 none) (lists-all es s sp 0 [] ∙ put-all-none es []) in
+    ap (λ (x : List ℕ). meaning-of x) (sym (append-nil s)) ∙ rw (tokens-all es s sp 0 [], lists-all es s sp 0 [], put-all-none es []) in
     readable-read s room l passes ∙ ap (readable (rows-of (tokens 0 0 s))) means
 
 -- canonical bytes spell

@@ -11,7 +11,7 @@ use native.Mathlib.Omega.{arith}
 use Rattle.spec.specs.Expr.{if_then_else_, Expr, atom, form, Exprs, rows, rows-all}
 use Rattle.spec.specs.Reading.{Token, opening, closing, whole, bad, right, check, put, wrap, lists, Row, ends, rows-of, next-row, numbers}
 use Rattle.laws.specs.Sanity.{Inside, FirstFrom}
-use Rattle.laws.proofs.Tokens.{right-end, right-opening, right-closing, right-whole, right-bad, Laid}
+use Rattle.laws.proofs.Tokens.{Right, at-end, opens, closes, stands, Laid}
 
 -- How many
 
@@ -72,88 +72,58 @@ rows-few (closing p ∷ ts) = omega (arith, rows-few ts)
 rows-few (whole x p e ∷ ts) = omega (arith, rows-few ts)
 rows-few (bad w p ∷ ts) = omega (arith, rows-few ts)
 
-module _ (end room : ℕ) where
-  pub rows-count : (ts : List Token) (d n : ℕ) → check end room ts d n ≡ right
-      → (length (rows-of ts) ≡ rows-in (lists ts)) × (length (lists ts) ≡ d + 1)
-  unfolding rows-of lists rows rows-all
-  rows-count [] d n c = let z = right-end end room d n c in omega arith
-  rows-count (opening p ∷ ts) d n c =
-      let a = rows-count ts (d + 1) (n + 1) (right-opening end room ts p d n c .2) in
-      let b = wrap-adds (lists ts) (omega arith) in omega arith
-  rows-count (closing p ∷ ts) d n c =
-      let k = right-closing end room ts p d n c in
-      let a = rows-count ts (d - 1) n (k .1) in omega arith
-  rows-count (whole x p e ∷ ts) d n c =
-      let a = rows-count ts d (n + 1) (right-whole end room ts x p e d n c .1) in
-      let b = put-adds (atom x) (lists ts) (omega arith) in omega arith
-  rows-count (bad w p ∷ ts) d n c = absurd (right-bad end room ts w p d n c)
+pub rows-count : {room : ℕ} {ts : List Token} {d n : ℕ} → Right room ts d n
+    → (length (rows-of ts) ≡ rows-in (lists ts)) × (length (lists ts) ≡ d + 1)
+unfolding rows-of lists rows rows-all
+rows-count at-end = omega arith
+rows-count (opens {ts} h k c) = let a = rows-count c in let b = wrap-adds (lists ts) (omega arith) in omega arith
+rows-count (closes c) = let a = rows-count c in omega arith
+rows-count (stands {ts} {a} h c) = let k = rows-count c in let b = put-adds (atom a) (lists ts) (omega arith) in omega arith
 
-  pub rows-room : (ts : List Token) (d n : ℕ) → check end room ts d n ≡ right → n ≤ room → n + length (rows-of ts) ≤ room
+pub rows-room : {room : ℕ} {ts : List Token} {d n : ℕ} → Right room ts d n → n ≤ room → n + length (rows-of ts) ≤ room
+unfolding rows-of
+rows-room at-end h = omega arith
+rows-room (opens l k c) h = omega (arith, rows-room c (omega arith))
+rows-room (closes c) h = rows-room c h
+rows-room (stands k c) h = omega (arith, rows-room c (omega arith))
+
+-- with as many rows as there are, more or fewer make no difference
+pub right-room : {room : ℕ} {ts : List Token} {d n : ℕ} → Right room ts d n → (end room′ : ℕ) → n + length (rows-of ts) ≤ room′
+    → check end room′ ts d n ≡ right
+unfolding check rows-of
+right-room at-end end room′ h = refl
+right-room (opens {d = d} {n} l k c) end room′ h = rw (lt-leb 64 d l, lt-leb room′ n (omega arith)) (right-room c end room′ (omega arith))
+right-room (closes {d = d} c) end room′ h =
+    let back : suc d - 1 ≡ d = omega arith in rw (ne-eqb (suc d) 0 (λ e. omega arith), back) (right-room c end room′ h)
+right-room (stands {n = n} k c) end room′ h = rw (lt-leb room′ n (omega arith)) (right-room c end room′ (omega arith))
+
+module _ {room : ℕ} (end : ℕ) where
+  pub rows-ordered : {ts : List Token} {d n : ℕ} → Right room ts d n → (p : ℕ) → Laid p ts end → Ordered p (rows-of ts)
   unfolding rows-of
-  rows-room [] d n c h = omega arith
-  rows-room (opening p ∷ ts) d n c h =
-      let k = right-opening end room ts p d n c in
-      let a = rows-room ts (d + 1) (n + 1) (k .2) (omega arith) in omega arith
-  rows-room (closing p ∷ ts) d n c h = rows-room ts (d - 1) n (right-closing end room ts p d n c .1) h
-  rows-room (whole x p e ∷ ts) d n c h =
-      let k = right-whole end room ts x p e d n c in
-      let a = rows-room ts d (n + 1) (k .1) (omega arith) in omega arith
-  rows-room (bad w p ∷ ts) d n c h = absurd (right-bad end room ts w p d n c)
-
-  -- with as many rows as there are, more or fewer make no difference
-  pub right-room : (ts : List Token) (d n : ℕ) → check end room ts d n ≡ right → (room′ : ℕ) → n + length (rows-of ts) ≤ room′
-      → check end room′ ts d n ≡ right
-  unfolding check rows-of
-  right-room [] d n c room′ h = c
-  right-room (opening p ∷ ts) d n c room′ h =
-      let k = right-opening end room ts p d n c in
-      rw (lt-leb 64 d (k .0), lt-leb room′ n (omega arith)) (right-room ts (d + 1) (n + 1) (k .2) room′ (omega arith))
-  right-room (closing p ∷ ts) d n c room′ h =
-      let k = right-closing end room ts p d n c in
-      rw (ne-eqb d 0 (λ e. omega (arith, k .0))) (right-room ts (d - 1) n (k .1) room′ h)
-  right-room (whole x p e ∷ ts) d n c room′ h =
-      rw (lt-leb room′ n (omega arith)) (right-room ts d (n + 1) (right-whole end room ts x p e d n c .1) room′ (omega arith))
-  right-room (bad w p ∷ ts) d n c room′ h = absurd (right-bad end room ts w p d n c)
-
-  pub rows-ordered : (ts : List Token) (p d n : ℕ) → Laid p ts end → check end room ts d n ≡ right → Ordered p (rows-of ts)
-  unfolding rows-of
-  rows-ordered [] p d n l c = tt
-  rows-ordered (opening q ∷ ts) p d n l c = (l .0, rows-ordered ts (q + 1) (d + 1) (n + 1) (l .1) (right-opening end room ts q d n c .2))
-  rows-ordered (closing q ∷ ts) p d n l c =
-      ordered-from-lower p (q + 1) (rows-of ts) (omega arith) (rows-ordered ts (q + 1) (d - 1) n (l .1) (right-closing end room ts q d n c .1))
-  rows-ordered (whole x q e ∷ ts) p d n l c =
-      (l .0, ordered-from-lower (q + 1) e (rows-of ts) (omega arith) (rows-ordered ts e d (n + 1) (l .4) (right-whole end room ts x q e d n c .1)))
-  rows-ordered (bad w q ∷ ts) p d n l c = absurd (right-bad end room ts w q d n c)
+  rows-ordered at-end p l = tt
+  rows-ordered (opens {q = q} h k c) p l = (l .0, rows-ordered c (q + 1) (l .1))
+  rows-ordered (closes {ts} {q} c) p l = ordered-from-lower p (q + 1) (rows-of ts) (omega arith) (rows-ordered c (q + 1) (l .1))
+  rows-ordered (stands {ts} {q = q} {e} k c) p l = (l .0, ordered-from-lower (q + 1) e (rows-of ts) (omega arith) (rows-ordered c e (l .4)))
 
   -- each open form has its end
-  ends-rising : (ts : List Token) (p d n : ℕ) → Laid p ts end → check end room ts d n ≡ right → (length (ends ts) ≡ d) × Rising p (ends ts) end
+  ends-rising : {ts : List Token} {d n : ℕ} → Right room ts d n → (p : ℕ) → Laid p ts end → (length (ends ts) ≡ d) × Rising p (ends ts) end
   unfolding ends
-  ends-rising [] p d n l c = let z = right-end end room d n c in (omega arith, l)
-  ends-rising (opening q ∷ ts) p d n l c =
-      let a = ends-rising ts (q + 1) (d + 1) (n + 1) (l .1) (right-opening end room ts q d n c .2) in
+  ends-rising at-end p l = (refl, l)
+  ends-rising (opens {ts} {q} h k c) p l =
+      let a = ends-rising c (q + 1) (l .1) in
       (simp length-drop (omega arith), rising-from-lower p (q + 1) (drop 1 (ends ts)) end (omega arith) (rising-but-first (q + 1) (ends ts) end (a .1)))
-  ends-rising (closing q ∷ ts) p d n l c =
-      let k = right-closing end room ts q d n c in
-      let a = ends-rising ts (q + 1) (d - 1) n (l .1) (k .1) in (omega arith, (omega arith, a .1))
-  ends-rising (whole x q e ∷ ts) p d n l c =
-      let a = ends-rising ts e d (n + 1) (l .4) (right-whole end room ts x q e d n c .1) in
-      (a .0, rising-from-lower p e (ends ts) end (omega arith) (a .1))
-  ends-rising (bad w q ∷ ts) p d n l c = absurd (right-bad end room ts w q d n c)
+  ends-rising (closes {q = q} c) p l = let a = ends-rising c (q + 1) (l .1) in (omega arith, (omega arith, a .1))
+  ends-rising (stands {ts} {e = e} k c) p l = let a = ends-rising c e (l .4) in (a .0, rising-from-lower p e (ends ts) end (omega arith) (a .1))
 
-  pub rows-inside : (ts : List Token) (p d n : ℕ) → Laid p ts end → check end room ts d n ≡ right → Inside end (rows-of ts)
+  pub rows-inside : {ts : List Token} {d n : ℕ} → Right room ts d n → (p : ℕ) → Laid p ts end → Inside end (rows-of ts)
   unfolding rows-of
-  rows-inside [] p d n l c = tt
-  rows-inside (opening q ∷ ts) p d n l c =
-      let k = right-opening end room ts q d n c .2 in
-      let a = ends-rising ts (q + 1) (d + 1) (n + 1) (l .1) k in
+  rows-inside at-end p l = tt
+  rows-inside (opens {ts} {q} h k c) p l =
+      let a = ends-rising c (q + 1) (l .1) in
       let b = rising-first (q + 1) (ends ts) end (omega arith) (a .1) in
-      (omega arith, b .1, rows-inside ts (q + 1) (d + 1) (n + 1) (l .1) k)
-  rows-inside (closing q ∷ ts) p d n l c = rows-inside ts (q + 1) (d - 1) n (l .1) (right-closing end room ts q d n c .1)
-  rows-inside (whole x q e ∷ ts) p d n l c =
-      let k = right-whole end room ts x q e d n c .1 in
-      let a = ends-rising ts e d (n + 1) (l .4) k in
-      (l .1, rising-low e (ends ts) end (a .1), rows-inside ts e d (n + 1) (l .4) k)
-  rows-inside (bad w q ∷ ts) p d n l c = absurd (right-bad end room ts w q d n c)
+      (omega arith, b .1, rows-inside c (q + 1) (l .1))
+  rows-inside (closes {q = q} c) p l = rows-inside c (q + 1) (l .1)
+  rows-inside (stands {ts} {e = e} k c) p l = (l .1, rising-low e (ends ts) end (ends-rising c e (l .4) .1), rows-inside c e (l .4))
 
 -- Rows by their numbers; `other` is the row that `getD` gives past the last
 

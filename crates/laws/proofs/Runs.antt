@@ -1,15 +1,15 @@
--- Laws of `bind`: how a run in two parts ends. Laws of `cut`: more room changes nothing but refusals 16 and 17; what an accepted run
--- took; when 16 is given. Document 01: "Step count". Assumes nothing.
+-- Laws of `bind`: how a run in two parts ends. Laws of `hold` and `cut`, all from `holds`: more room changes nothing but refusals 16 and
+-- 17; what an accepted run took; when 16 is given. Document 01: "Step count". Assumes nothing.
 use Prim.Native.Nat.{ℕ, zero, suc, _+_, _-_, _≤_, _<_}
-use mathlib.Core.Path.{_≡_, refl, sym}
+use mathlib.Core.Path.{_≡_, refl, sym, _∙_}
 use mathlib.Core.List.{List, [], _∷_}
 use mathlib.Core.Bool.{Bool, true, false}
 use lib.ListN.{length, getD}
-use lib.Dec.{ltb, eqb}
-use borrow.Author.Tests.{ltb-false, eqb-false, le-ltb, ne-eqb}
+use lib.Dec.{ltb}
+use borrow.Author.Tests.{ltb-true, ltb-false, ne-eqb}
 use native.Mathlib.Omega.{arith}
 use Rattle.spec.specs.Expr.{if_then_else_}
-use Rattle.spec.specs.Runs.{Event, step, charge, End, done, stopped, Run, follow, bind, cut, steps-in}
+use Rattle.spec.specs.Runs.{Event, step, charge, End, done, stopped, Run, follow, bind, Held, kept, ceased, hold-events, forget, cut, steps-in}
 use Rattle.laws.specs.Demands.{step-rows}
 use Rattle.laws.proofs.Basics.{impossible}
 
@@ -30,104 +30,61 @@ charges [] = 0
 charges (step r ∷ es) = charges es
 charges (charge r n ∷ es) = n + charges es
 
--- with the workspace that a run takes, all its steps are taken
-pub all-step-rows : (es : List Event) (w : ℕ) → charges es ≤ w → length (step-rows w es) ≡ steps-in es
-unfolding step-rows steps-in charges
-all-step-rows [] w h = refl
-all-step-rows (step r ∷ es) w h = omega (arith, all-step-rows es w h)
-all-step-rows (charge r n ∷ es) w h = rw (le-ltb w n (omega arith)) (all-step-rows es (w - n) (omega arith))
+-- the row of the first charge that does not fit a workspace
+unfoldable pub full-row : ℕ → List Event → ℕ
+full-row w [] = 0
+full-row w (step r ∷ es) = full-row w es
+full-row w (charge r n ∷ es) = if ltb w n then r else full-row (w - n) es
 
 module _ {A : Type 0} where
+  -- a run's own end, with what is left of its bounds
+  abbrev pub ended : End A → ℕ → ℕ → Held A
+  ended (done a) n w = kept a n w
+  ended (stopped v r) n w = ceased v r
+
+  -- how a run is held: it comes to its own end, or it lacks a step, or workspace
+  pub data Holds (n w : ℕ) (es : List Event) (e : End A) : Held A → Type 0 where
+    ends : (n′ w′ : ℕ) → n′ + steps-in es ≡ n → w′ + charges es ≡ w → length (step-rows w es) ≡ steps-in es → Holds n w es e (ended e n′ w′)
+    lacks-step : (r : ℕ) → n < steps-in es → n < length (step-rows w es) → r ≡ getD (step-rows w es) n 0 → Holds n w es e (ceased 16 r)
+    lacks-work : (r : ℕ) → w < charges es → length (step-rows w es) ≤ n → r ≡ full-row w es → Holds n w es e (ceased 17 r)
+
+  pub holds : (es : List Event) (e : End A) (n w : ℕ) → Holds n w es e (hold-events n w es e)
+  unfolding hold-events steps-in charges step-rows full-row
+  holds [] (done a) n w = ends n w (omega arith) (omega arith) refl
+  holds [] (stopped v r) n w = ends n w (omega arith) (omega arith) refl
+  holds (step r ∷ es) e zero w = lacks-step r (omega arith) (omega arith) refl
+  holds (step r ∷ es) e (suc n) w =
+      let less : suc n - 1 ≡ n = omega arith in
+      rw (ne-eqb (suc n) 0 (λ z. omega arith), less) (go (holds es e n w))
+    where
+      go : {x : Held A} → Holds n w es e x → Holds (suc n) w (step r ∷ es) e x
+      go (ends n′ w′ p q l) = ends n′ w′ (omega arith) q (omega arith)
+      go (lacks-step k p l q) = lacks-step k (omega arith) (omega arith) q
+      go (lacks-work k p l q) = lacks-work k p (omega arith) q
+  holds (charge r m ∷ es) e n w = go (ltb w m) refl (holds es e n (w - m))
+    where
+      go : (b : Bool) → ltb w m ≡ b → {x : Held A} → Holds n (w - m) es e x → Holds n w (charge r m ∷ es) e (if b then ceased 17 r else x)
+      go true t y = lacks-work r (omega (arith, ltb-true w m t)) (rw t (omega arith)) (rw t)
+      go false t (ends n′ w′ p q l) = ends n′ w′ p (omega (arith, ltb-false w m t)) (rw t l)
+      go false t (lacks-step k p l q) = lacks-step k p (rw t l) (rw t q)
+      go false t (lacks-work k p l q) = lacks-work k (omega (arith, ltb-false w m t)) (rw t l) (rw t q)
+
+  ended-end : (e : End A) (n w : ℕ) → forget (ended e n w) ≡ e
+  ended-end (done a) n w = refl
+  ended-end (stopped v r) n w = refl
+
   -- the second end is the first, unless the first is for want of steps or workspace
   pub data SameEnd (x y : End A) : Type 0 where
     same-end : x ≡ y → SameEnd x y
     no-steps : (r : ℕ) → x ≡ stopped 16 r → SameEnd x y
     no-work : (r : ℕ) → x ≡ stopped 17 r → SameEnd x y
 
-  pub cut-more : (es : List Event) (e : End A) (n n′ w w′ : ℕ) → n ≤ n′ → w ≤ w′ → SameEnd (cut n w es e) (cut n′ w′ es e)
-  unfolding cut
-  cut-more [] e n n′ w w′ h k = same-end refl
-  cut-more (step r ∷ es) e n n′ w w′ h k = go (eqb n 0) refl (cut-more es e (n - 1) (n′ - 1) w w′ (omega arith) k)
-    where
-      go : (b : Bool) → eqb n 0 ≡ b → SameEnd (cut (n - 1) w es e) (cut (n′ - 1) w′ es e)
-          → SameEnd (if b then stopped 16 r else cut (n - 1) w es e) (if eqb n′ 0 then stopped 16 r else cut (n′ - 1) w′ es e)
-      go true q on = no-steps r refl
-      go false q on = let z = eqb-false n 0 q in rw (ne-eqb n′ 0 (λ e. omega (arith, z))) on
-  cut-more (charge r m ∷ es) e n n′ w w′ h k = go (ltb w m) refl (cut-more es e n n′ (w - m) (w′ - m) h (omega arith))
-    where
-      go : (b : Bool) → ltb w m ≡ b → SameEnd (cut n (w - m) es e) (cut n′ (w′ - m) es e)
-          → SameEnd (if b then stopped 17 r else cut n (w - m) es e) (if ltb w′ m then stopped 17 r else cut n′ (w′ - m) es e)
-      go true q on = no-work r refl
-      go false q on = rw (le-ltb w′ m (omega (arith, ltb-false w m q))) on
-
-  -- an accepted run: it is the run's own end, within the steps and the workspace
+  -- an accepted run: it is the run's own end, within the steps and the workspace, and all its steps are taken
   pub record Within (n w : ℕ) (es : List Event) (e : End A) (a : A) : Type 0 where
     pub ends : e ≡ done a
     pub steps : steps-in es ≤ n
     pub work : charges es ≤ w
-
-  not-stopped : (b : Bool) (w r : ℕ) (x : End A) (a : A) → (if b then stopped w r else x) ≡ done a → (b ≡ false) × (x ≡ done a)
-  not-stopped true w r x a h = impossible (cc)
-  not-stopped false w r x a h = (refl, h)
-
-  pub cut-done : (es : List Event) (e : End A) (n w : ℕ) (a : A) → cut n w es e ≡ done a → Within n w es e a
-  unfolding cut steps-in charges
-  cut-done [] e n w a h = record { ends = h; steps = omega arith; work = omega arith }
-  cut-done (step r ∷ es) e n w a h =
-      let k = not-stopped (eqb n 0) 16 r (cut (n - 1) w es e) a h in
-      let on = cut-done es e (n - 1) w a (k .1) in
-      record { ends = on .ends; steps = omega (arith, on .steps, eqb-false n 0 (k .0)); work = on .work }
-  cut-done (charge r m ∷ es) e n w a h =
-      let k = not-stopped (ltb w m) 17 r (cut n (w - m) es e) a h in
-      let on = cut-done es e n (w - m) a (k .1) in
-      record { ends = on .ends; steps = on .steps; work = omega (arith, on .work, ltb-false w m (k .0)) }
-
-  -- the steps that the workspace allows: with as many or more, steps make no difference; with fewer, it is 16 at the next one
-  pub cut-enough : (es : List Event) (e : End A) (n w : ℕ) → length (step-rows w es) ≤ n → cut n w es e ≡ cut (length (step-rows w es)) w es e
-  unfolding cut step-rows
-  cut-enough [] e n w h = refl
-  cut-enough (step r ∷ es) e n w h =
-      let l : ℕ = length (step-rows w es) in
-      let less : suc l - 1 ≡ l = omega arith in
-      rw (ne-eqb n 0 (λ z. omega arith), ne-eqb (suc l) 0 (λ z. omega arith), less) (cut-enough es e (n - 1) w (omega arith))
-  cut-enough (charge r m ∷ es) e n w h = go (ltb w m) h (λ k. cut-enough es e n (w - m) k)
-    where
-      go : (b : Bool) → length (if b then [] else step-rows (w - m) es) ≤ n
-          → (length (step-rows (w - m) es) ≤ n → cut n (w - m) es e ≡ cut (length (step-rows (w - m) es)) (w - m) es e)
-          → (if b then stopped 17 r else cut n (w - m) es e) ≡ (if b then stopped 17 r else cut (length (if b then [] else step-rows (w - m) es)) (w - m) es e)
-      go true h on = refl
-      go false h on = on h
-
-  pub cut-short : (es : List Event) (e : End A) (n w : ℕ) → n < length (step-rows w es)
-      → cut n w es e ≡ stopped 16 (getD (step-rows w es) n 0)
-  unfolding cut step-rows
-  cut-short [] e n w h = absurd (omega arith)
-  cut-short (step r ∷ es) e zero w h = refl
-  cut-short (step r ∷ es) e (suc n) w h =
-      let less : suc n - 1 ≡ n = omega arith in
-      rw (ne-eqb (suc n) 0 (λ z. omega arith), less) (cut-short es e n w (omega arith))
-  cut-short (charge r m ∷ es) e n w h = go (ltb w m) h (λ k. cut-short es e n (w - m) k)
-    where
-      go : (b : Bool) → n < length (if b then [] else step-rows (w - m) es)
-          → (n < length (step-rows (w - m) es) → cut n (w - m) es e ≡ stopped 16 (getD (step-rows (w - m) es) n 0))
-          → (if b then stopped 17 r else cut n (w - m) es e) ≡ stopped 16 (getD (if b then [] else step-rows (w - m) es) n 0)
-      go true h on = absurd (omega arith)
-      go false h on = on h
-
-  -- with steps enough, 16 would have to be the run's own end
-  pub cut-own : (es : List Event) (e : End A) (w r : ℕ) → cut (length (step-rows w es)) w es e ≡ stopped 16 r → e ≡ stopped 16 r
-  unfolding cut step-rows
-  cut-own [] e w r h = h
-  cut-own (step q ∷ es) e w r h =
-      let l : ℕ = length (step-rows w es) in
-      let less : suc l - 1 ≡ l = omega arith in
-      cut-own es e w r (rw (ne-eqb (suc l) 0 (λ z. omega arith), less) at h)
-  cut-own (charge q m ∷ es) e w r h = go (ltb w m) h (λ k. cut-own es e (w - m) r k)
-    where
-      go : (b : Bool) → (if b then stopped 17 q else cut (length (if b then [] else step-rows (w - m) es)) (w - m) es e) ≡ stopped 16 r
-          → (cut (length (step-rows (w - m) es)) (w - m) es e ≡ stopped 16 r → e ≡ stopped 16 r) → e ≡ stopped 16 r
-      go true h on = absurd (let z : _≡_ {A = ℕ} 17 16 = cc in omega arith)
-      go false h on = on h
+    pub all : length (step-rows w es) ≡ steps-in es
 
   -- why a run that is cut stops
   pub data StoppedBy (e : End A) (v r : ℕ) : Type 0 where
@@ -135,15 +92,59 @@ module _ {A : Type 0} where
     by-work : v ≡ 17 → StoppedBy e v r
     by-rule : e ≡ stopped v r → StoppedBy e v r
 
-  stopped-choice : (e : End A) (b : Bool) (w q : ℕ) (x : End A) (v r : ℕ) → (w ≡ v → StoppedBy e v r) → (x ≡ stopped v r → StoppedBy e v r)
-      → (if b then stopped w q else x) ≡ stopped v r → StoppedBy e v r
-  stopped-choice e true w q x v r f g h = f (cc)
-  stopped-choice e false w q x v r f g h = g h
+  module _ (es : List Event) (e : End A) where
+    pub cut-more : (n n′ w w′ : ℕ) → n ≤ n′ → w ≤ w′ → SameEnd (cut n w es e) (cut n′ w′ es e)
+    cut-more n n′ w w′ h k = go (holds es e n w) (holds es e n′ w′)
+      where
+        go : {x y : Held A} → Holds n w es e x → Holds n′ w′ es e y → SameEnd (forget x) (forget y)
+        go (ends i j p q l) (ends i′ j′ p′ q′ l′) = same-end (ended-end e i j ∙ sym (ended-end e i′ j′))
+        go (ends i j p q l) (lacks-step r p′ l′ q′) = absurd (omega arith)
+        go (ends i j p q l) (lacks-work r p′ l′ q′) = absurd (omega arith)
+        go (lacks-step r p l q) y = no-steps r refl
+        go (lacks-work r p l q) y = no-work r refl
 
-  pub cut-stopped : (es : List Event) (e : End A) (n w v r : ℕ) → cut n w es e ≡ stopped v r → StoppedBy e v r
-  unfolding cut
-  cut-stopped [] e n w v r h = by-rule h
-  cut-stopped (step q ∷ es) e n w v r h =
-      stopped-choice e (eqb n 0) 16 q (cut (n - 1) w es e) v r (λ k. by-steps (sym k)) (λ k. cut-stopped es e (n - 1) w v r k) h
-  cut-stopped (charge q m ∷ es) e n w v r h =
-      stopped-choice e (ltb w m) 17 q (cut n (w - m) es e) v r (λ k. by-work (sym k)) (λ k. cut-stopped es e n (w - m) v r k) h
+    pub cut-done : (n w : ℕ) (a : A) → cut n w es e ≡ done a → Within n w es e a
+    cut-done n w a = go (holds es e n w)
+      where
+        go : {x : Held A} → Holds n w es e x → forget x ≡ done a → Within n w es e a
+        go (ends i j p q l) h = record { ends = sym (ended-end e i j) ∙ h; steps = omega arith; work = omega arith; all = l }
+        go (lacks-step r p l q) h = impossible (cc)
+        go (lacks-work r p l q) h = impossible (cc)
+
+    pub cut-stopped : (n w v r : ℕ) → cut n w es e ≡ stopped v r → StoppedBy e v r
+    cut-stopped n w v r = go (holds es e n w)
+      where
+        go : {x : Held A} → Holds n w es e x → forget x ≡ stopped v r → StoppedBy e v r
+        go (ends i j p q l) h = by-rule (sym (ended-end e i j) ∙ h)
+        go (lacks-step k p l q) h = by-steps (cc)
+        go (lacks-work k p l q) h = by-work (cc)
+
+    -- the steps that the workspace allows: with as many or more, steps make no difference; with fewer, it is 16 at the next one
+    pub cut-enough : (n w : ℕ) → length (step-rows w es) ≤ n → cut n w es e ≡ cut (length (step-rows w es)) w es e
+    cut-enough n w h = go (holds es e n w) (holds es e (length (step-rows w es)) w)
+      where
+        go : {x y : Held A} → Holds n w es e x → Holds (length (step-rows w es)) w es e y → forget x ≡ forget y
+        go (ends i j p q l) (ends i′ j′ p′ q′ l′) = ended-end e i j ∙ sym (ended-end e i′ j′)
+        go (ends i j p q l) (lacks-step r p′ l′ q′) = absurd (omega arith)
+        go (ends i j p q l) (lacks-work r p′ l′ q′) = absurd (omega arith)
+        go (lacks-step r p l q) y = absurd (omega arith)
+        go (lacks-work r p l q) (ends i′ j′ p′ q′ l′) = absurd (omega arith)
+        go (lacks-work r p l q) (lacks-step r′ p′ l′ q′) = absurd (omega arith)
+        go (lacks-work r p l q) (lacks-work r′ p′ l′ q′) = cc
+
+    pub cut-short : (n w : ℕ) → n < length (step-rows w es) → cut n w es e ≡ stopped 16 (getD (step-rows w es) n 0)
+    cut-short n w h = go (holds es e n w)
+      where
+        go : {x : Held A} → Holds n w es e x → forget x ≡ stopped 16 (getD (step-rows w es) n 0)
+        go (ends i j p q l) = absurd (omega arith)
+        go (lacks-step r p l q) = rw q
+        go (lacks-work r p l q) = absurd (omega arith)
+
+    -- with steps enough, 16 would have to be the run's own end
+    pub cut-own : (w r : ℕ) → cut (length (step-rows w es)) w es e ≡ stopped 16 r → e ≡ stopped 16 r
+    cut-own w r = go (holds es e (length (step-rows w es)) w)
+      where
+        go : {x : Held A} → Holds (length (step-rows w es)) w es e x → forget x ≡ stopped 16 r → e ≡ stopped 16 r
+        go (ends i j p q l) h = sym (ended-end e i j) ∙ h
+        go (lacks-step k p l q) h = absurd (omega arith)
+        go (lacks-work k p l q) h = absurd (let z : _≡_ {A = ℕ} 17 16 = cc in omega arith)

@@ -1,13 +1,14 @@
--- A canonical stream is the shortest of its meaning, and the only one of its length. Document 01: "Canonical", against the grammar. Assumes nothing.
+-- A canonical stream is the shortest of its meaning, and the only one of its length; and an atom that bytes spell fits. Document 01: "Canonical", against the grammar. Assumes nothing.
 use Prim.Native.Nat.{ℕ, _+_, _/_, _%_, _≤_, _<_}
 use mathlib.Core.Path.{_≡_, refl, ap, _∙_}
 use mathlib.Core.List.{List, [], _∷_, _++_}
 use native.Mathlib.Omega.{arith}
 use lib.ListN.{length, length-append}
-use Rattle.spec.specs.Expr.{nil, array, int, ref, Expr, atom, form, Exprs, none, more, array-head, atom-bytes, bytes, canonical}
+use Rattle.spec.specs.Expr.{Atom, nil, array, int, ref, Expr, atom, form, Exprs, none, more, array-head, marker-bytes, atom-bytes, bytes, canonical}
 use Rattle.spec.specs.Reading.{natural}
 use Rattle.laws.specs.Demands.{Bytes}
-use Rattle.laws.specs.Grammar.{SpellsLength, as-int, as-small, as-generic, SpellsArray, small, generic, Spells, SpellsAll}
+use Rattle.laws.specs.Grammar.{SpellsLength, as-int, as-small, as-generic, SpellsArray, small, generic, SpellsAtom, Spells, SpellsAll}
+use Rattle.laws.proofs.Fits.{bytes-front, bytes-back, Fits}
 use Rattle.laws.proofs.Canonical.{Head, one-byte, three-bytes, four-bytes, array-head-is}
 
 -- Bytes x that are canonical bytes y, or longer
@@ -32,15 +33,6 @@ joined x x′ y y′ f g =
           let second : y ≡ y′ = g .only (omega (arith, f .no-longer)) in
           ap (λ (z : List ℕ). z ++ y) first ∙ ap (λ (z : List ℕ). x′ ++ z) second;
     }
-
--- bytes in two parts
-front : (x y : List ℕ) → Bytes (x ++ y) → Bytes x
-front [] y b = tt
-front (a ∷ x) y b = (b .0, front x y (b .1))
-
-back : (x y : List ℕ) → Bytes (x ++ y) → Bytes y
-back [] y b = b
-back (a ∷ x) y b = back x y (b .1)
 
 -- Arrays
 
@@ -92,7 +84,7 @@ head-shortest k n x hs b (as-int h e) head = rw e (go head)
 head-shortest k n x hs b (as-small ds h is e) head = let bs : Bytes ds = rw e at b .1 in rw e (by-small n ds hs bs is head)
 head-shortest k n x hs b (as-generic ds y sp is e) head =
     let bs : Bytes (y ++ ds) = rw e at b .1 in
-    rw e (by-generic n ds y hs (back y ds bs) is (some-bytes _ (length ds) y sp) head)
+    rw e (by-generic n ds y hs (bytes-back y ds bs) is (some-bytes _ (length ds) y sp) head)
 
 array-shortest : (bs s : List ℕ) → Bytes s → SpellsArray bs s → Shortest s (array-head (length bs) ++ bs)
 array-shortest bs s b (small h e) = rw e (go (array-head-is (length bs)))
@@ -103,7 +95,7 @@ array-shortest bs s b (small h e) = rw e (go (array-head-is (length bs)))
     go (four-bytes l) = absurd (omega arith)
 array-shortest bs s b (generic x sp e) =
     let all : Bytes (x ++ bs) = rw e at b .1 in
-    rw e (joined (0x03 ∷ x) (array-head (length bs)) bs bs (head-shortest 7 (length bs) x _ (front x bs all) sp (array-head-is (length bs))) (itself bs bs refl))
+    rw e (joined (0x03 ∷ x) (array-head (length bs)) bs bs (head-shortest 7 (length bs) x _ (bytes-front x bs all) sp (array-head-is (length bs))) (itself bs bs refl))
 
 -- Expressions
 
@@ -118,7 +110,7 @@ mutual
   expr-shortest (form es) s b sp =
       let x = sp .0 in
       let bs : Bytes (0x01 ∷ (x ++ (0x02 ∷ []))) = rw (sp .1) at b in
-      let inside = all-shortest es x (front x (0x02 ∷ []) (bs .1)) (sp .2) in
+      let inside = all-shortest es x (bytes-front x (0x02 ∷ []) (bs .1)) (sp .2) in
       let closed = joined x (canonical es) (0x02 ∷ []) (0x02 ∷ []) inside (itself (0x02 ∷ []) (0x02 ∷ []) refl) in
       rw (sp .1) (joined (0x01 ∷ []) (0x01 ∷ []) (x ++ (0x02 ∷ [])) (canonical es ++ (0x02 ∷ [])) (itself (0x01 ∷ []) (0x01 ∷ []) refl) closed)
 
@@ -128,4 +120,20 @@ mutual
       let x = sp .0 in
       let y = sp .1 in
       let bs : Bytes (x ++ y) = rw (sp .2) at b in
-      rw (sp .2) (joined x (bytes e) y (canonical es) (expr-shortest e x (front x y bs) (sp .3)) (all-shortest es y (back x y bs) (sp .4)))
+      rw (sp .2) (joined x (bytes e) y (canonical es) (expr-shortest e x (bytes-front x y bs) (sp .3)) (all-shortest es y (bytes-back x y bs) (sp .4)))
+
+-- an atom that bytes spell fits, and has no more canonical bytes
+
+array-fits : (bs x : List ℕ) → Bytes x → SpellsArray bs x → Bytes bs
+array-fits bs x b (small h e) = rw e at b .1
+array-fits bs x b (generic y l e) = bytes-back y bs (rw e at b .1)
+
+atom-fits : (a : Atom) (x : List ℕ) → Bytes x → SpellsAtom a x → Fits a
+atom-fits nil x b sp = tt
+atom-fits (array bs) x b sp = array-fits bs x b sp
+atom-fits (int v) x b sp = sp .0
+atom-fits (ref m n) x b sp = (sp .0, sp .1, bytes-back (marker-bytes m) (n ∷ []) (rw (sp .2) at b) .0)
+
+pub spelled-fits : (a : Atom) (x : List ℕ) → Bytes x → SpellsAtom a x → Fits a × (length (atom-bytes a) ≤ length x)
+unfolding bytes
+spelled-fits a x b sp = (atom-fits a x b sp, expr-shortest (atom a) x b sp .no-longer)

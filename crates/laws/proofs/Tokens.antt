@@ -1,11 +1,11 @@
 -- Laws of `tokens` and `check`: how the tokens of a stream lie in it, and what holds of tokens that are right.
 -- Document 01: "Bytes to expressions", refusals 2 to 7. Assumes nothing.
 use Prim.Native.Nat.{ℕ, zero, suc, _+_, _-_, _≤_, _<_}
-use mathlib.Core.Path.{_≡_, refl, ap, subst}
+use mathlib.Core.Path.{_≡_, refl, sym, ap, _∙_, subst}
 use mathlib.Core.Logic.{_⊎_, inl, inr}
 use mathlib.Core.List.{List, [], _∷_}
 use mathlib.Core.Bool.{Bool, true, false}
-use lib.ListN.{length}
+use lib.ListN.{length, length-append}
 use lib.Dec.{leb, eqb}
 use borrow.Author.Tests.{leb-true, leb-false, eqb-true, eqb-false, lt-leb}
 use native.Mathlib.Omega.{arith}
@@ -13,9 +13,10 @@ use Rattle.spec.specs.Expr.{if_then_else_, Atom, atom-bytes}
 use Rattle.spec.specs.Reading.{Taken, taken, failed, read-atom, Token, opening, closing, whole, bad, atom-token, token, further, tokens, Verdict, right, wrong, check}
 use Rattle.laws.specs.Demands.{Bytes}
 use Rattle.laws.proofs.Basics.{impossible}
-use Rattle.laws.proofs.Fits.{Fits}
-use Rattle.laws.proofs.Spelling.{front, canonical-atom}
-use Rattle.laws.proofs.Atoms.{Off, AtomOf, off-atom}
+use Rattle.laws.proofs.Fits.{bytes-front, Fits}
+use Rattle.laws.proofs.Spelling.{front, atom-taken}
+use Rattle.laws.proofs.Shortest.{spelled-fits}
+use Rattle.laws.proofs.Atoms.{Off, off-atom}
 
 -- a verdict is right only by way of the branch that does not refuse
 not-refused : (b : Bool) (w p : ℕ) (v : Verdict) → (if b then wrong w p else v) ≡ right → (b ≡ false) × (v ≡ right)
@@ -57,6 +58,25 @@ module _ (end room : ℕ) where
   unfolding check
   right-bad ts w p d n h = impossible (cc)
 
+-- tokens that `check` finds right, with d forms open and n of the rows taken
+pub data Right (room : ℕ) : List Token → ℕ → ℕ → Type 0 where
+  at-end : {n : ℕ} → Right room [] 0 n
+  opens : {ts : List Token} {q d n : ℕ} → d < 64 → n < room → Right room ts (d + 1) (n + 1) → Right room (opening q ∷ ts) d n
+  closes : {ts : List Token} {q d n : ℕ} → Right room ts d n → Right room (closing q ∷ ts) (suc d) n
+  stands : {ts : List Token} {a : Atom} {q e d n : ℕ} → n < room → Right room ts d (n + 1) → Right room (whole a q e ∷ ts) d n
+
+pub right-tokens : (end room : ℕ) (ts : List Token) (d n : ℕ) → check end room ts d n ≡ right → Right room ts d n
+right-tokens end room [] d n c = rw (right-end end room d n c) at-end
+right-tokens end room (opening p ∷ ts) d n c =
+    let k = right-opening end room ts p d n c in opens (k .0) (k .1) (right-tokens end room ts (d + 1) (n + 1) (k .2))
+right-tokens end room (closing p ∷ ts) zero n c = absurd (omega (arith, right-closing end room ts p 0 n c .0))
+right-tokens end room (closing p ∷ ts) (suc d) n c =
+    let back : suc d - 1 ≡ d = omega arith in
+    closes (right-tokens end room ts d n (rw back at (right-closing end room ts p (suc d) n c .1)))
+right-tokens end room (whole a p e ∷ ts) d n c =
+    let k = right-whole end room ts a p e d n c in stands (k .0) (right-tokens end room ts d (n + 1) (k .1))
+right-tokens end room (bad w p ∷ ts) d n c = absurd (right-bad end room ts w p d n c)
+
 -- Where tokens lie
 
 -- Tokens that lie one after the other from place p on in a stream that ends at `end`. An atom fits, and takes no fewer bytes than its
@@ -75,7 +95,7 @@ laid-at p q ts end end′ e e′ l = subst (λ (x : ℕ). Laid x ts end′) e (s
 laid-first : (p b : ℕ) (s : List ℕ) → b < 256 → Bytes s → ((k : ℕ) → k ≤ length s → Laid (p + 1 + k) (tokens (p + 1) k s) (p + 1 + length s))
     → Laid p (token p b s ∷ tokens (p + 1) (further (token p b s)) s) (p + 1 + length s)
 unfolding token
-laid-first p b s h bs rest = go (eqb b 0x01) (eqb b 0x02) (read-atom b s) (off-atom b s h bs)
+laid-first p b s h bs rest = go (eqb b 0x01) (eqb b 0x02) (read-atom b s) refl (off-atom b s)
   where
     end : ℕ
     end = p + 1 + length s
@@ -83,28 +103,30 @@ laid-first p b s h bs rest = go (eqb b 0x01) (eqb b 0x02) (read-atom b s) (off-a
     next : Laid (p + 1) (tokens (p + 1) 0 s) end
     next = laid-at (p + 1 + 0) (p + 1) (tokens (p + 1) 0 s) end end (omega arith) refl (rest 0 (omega arith))
 
-    atomic : (x : Taken Atom) → Off (AtomOf (suc (length s))) (suc (length s)) x
+    atomic : (x : Taken Atom) → read-atom b s ≡ x → Off (suc (length s)) x
         → Laid p (atom-token p end x ∷ tokens (p + 1) (further (atom-token p end x)) s) end
-    atomic (taken a t) o =
-        let size = ap length (front a (atom-bytes a) (canonical-atom a (o .0 .0)) .is) in
-        let l : length t ≤ length s = omega (arith, size, o .0 .1) in
+    atomic (taken a t) e o =
+        let split = atom-taken b s a t h bs e in
+        let fits = spelled-fits a (split .front) (bytes-front (split .front) t (subst Bytes (split .is) (h, bs))) (split .holds) in
+        let some = ap length (front a (split .front) (split .holds) .is) in
+        let size : length (split .front) + length t ≡ suc (length s) = sym (length-append (split .front) t) ∙ ap length (sym (split .is)) in
         let k : ℕ = end - length t - p - 1 in (
           omega arith,
           omega arith,
-          omega (arith, o .0 .1),
-          o .0 .0,
+          omega (arith, fits .1),
+          fits .0,
           laid-at (p + 1 + k) (end - length t) (tokens (p + 1) k s) end end (omega arith) refl (rest k (omega arith)),
         )
-    atomic (failed w t) o = omega arith
+    atomic (failed w t) e o = omega arith
 
     kind : Bool → Bool → Taken Atom → Token
     kind c d x = if c then opening p else if d then closing p else atom-token p end x
 
-    go : (c d : Bool) (x : Taken Atom) → Off (AtomOf (suc (length s))) (suc (length s)) x
+    go : (c d : Bool) (x : Taken Atom) → read-atom b s ≡ x → Off (suc (length s)) x
         → Laid p (kind c d x ∷ tokens (p + 1) (further (kind c d x)) s) end
-    go true d x o = (omega arith, next)
-    go false true x o = (omega arith, next)
-    go false false x o = atomic x o
+    go true d x e o = (omega arith, next)
+    go false true x e o = (omega arith, next)
+    go false false x e o = atomic x e o
 
 pub tokens-laid : (s : List ℕ) (p k : ℕ) → Bytes s → k ≤ length s → Laid (p + k) (tokens p k s) (p + length s)
 unfolding tokens

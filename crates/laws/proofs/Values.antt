@@ -7,10 +7,10 @@ use mathlib.Core.List.{List, [], _∷_, _++_}
 use mathlib.Core.Bool.{Bool, true, false}
 use native.Mathlib.Omega.{arith}
 use lib.ListN.{drop}
-use Rattle.spec.specs.Expr.{if_then_else_, if-ref, Atom, nil, array, int, ref, Expr, atom, form, Exprs, none, more, only, append, first, without, rows, rows-all, depth, deepest}
-use Rattle.spec.specs.Nodes.{Word, ns, define, concat, subst, arg, rest, plain, Node, leaf, branch, Nodes, empty, cons, number, number-all, elements, tail, head-word, markers}
+use Rattle.spec.specs.Expr.{if_then_else_, Atom, nil, array, int, ref, Expr, atom, form, Exprs, none, more, only, append, first, without, rows, rows-all, depth, deepest}
+use Rattle.spec.specs.Nodes.{Word, Node, leaf, branch, Nodes, empty, cons, number, number-all, elements, tail, markers}
 use Rattle.spec.specs.Runs.{Event, step, charge, End, done, stopped, Run, stop, give, before, follow, bind}
-use Rattle.spec.specs.Plan.{Defined, value, function, Definition, Scope, Found, latest, nothing, look-up, Place, top, element, inner, Arguments, outside, given, Here, Finish, as-form, as-definition, as-concat, as-call, Plan, refuse, leave, associate, define-function, inside, expect-one, expect-two, expect-ref, expect-array, expect-int, plan-ns, plan-define, plan-definition, plan-concat, plan-arg, plan-rest, plan-head, plan-other, plan-form, plan-reference, plan-atom, plan}
+use Rattle.spec.specs.Plan.{Defined, value, function, Scope, Place, top, Arguments, outside, given, Here, Finish, as-form, as-definition, as-concat, as-call, Plan, refuse, leave, associate, define-function, inside, plan}
 use Rattle.spec.specs.Evaluation.{Left, complete, join, Call, one-value, finish, Meaning, in-order, ns-form, perform, eval, eval-all, run-code, top-level, standing, start, run, result}
 use Rattle.laws.specs.Demands.{Bytes}
 use Rattle.laws.specs.Holding.{beyond, in-list}
@@ -18,7 +18,8 @@ use Rattle.laws.specs.Sanity.{RowsBelow, rule-number, RuleNumber, Proper
 use Rattle.laws.proofs.Basics.{impossible}
 use Rattle.laws.proofs.Fits.{bytes-append, Fits, FitsExpr, FitsAll}
 use Rattle.laws.proofs.Charges.{Ends, complete-cases}
-use Rattle.laws.proofs.Singles.{EachDefined, EachFound, look-up-each}
+use Rattle.laws.proofs.Walk.{Rule, refuses, own, defined, argument, others, associates, defines, names, joins, forms, calls, calls-subst, rule}
+use Rattle.laws.proofs.Singles.{EachDefined, look-up-each}
 
 -- values that fit and have at most 64 forms one inside another
 abbrev pub Sound : Exprs → Type 0
@@ -129,7 +130,7 @@ module _ (bound : ℕ) where
   tail-fits empty f = tt
   tail-fits (cons e es) f = f .1
 
-  elements-fit : (e : Node) → FitsNode e → FitsNodes (elements e)
+  pub elements-fit : (e : Node) → FitsNode e → FitsNodes (elements e)
   elements-fit (leaf r a) f = tt
   elements-fit (branch r es) f = f .1
 
@@ -149,9 +150,6 @@ module _ (bound : ℕ) where
   abbrev pub SoundHere : Here → Type 0
   SoundHere h = SoundScope (h .scope) × SoundArguments (h .arguments)
 
-  look-up-sound : (m n : ℕ) (ds : Scope) → SoundScope ds → EachFound SoundDefined (look-up m n ds)
-  look-up-sound m n ds s = look-up-each SoundDefined m n ds s
-
   -- Plans: what is to be done for an expression that fits
 
   abbrev SoundFinish : Finish → Type 0
@@ -160,135 +158,34 @@ module _ (bound : ℕ) where
   SoundFinish as-concat = Unit {0}
   SoundFinish (as-call code scope) = FitsNodes code × SoundScope scope
 
-  pub data SoundPlan : Plan → Type 0 where
-    refuses : {w : ℕ} → RuleNumber w → SoundPlan (refuse w)
-    leaves : {vs : Exprs} → Sound vs → SoundPlan (leave vs)
-    associates : {m n : ℕ} {i : List ℕ} → FitsAll (ns-form m n i) → SoundPlan (associate m n i)
-    defines : {d : Definition} → SoundDefined (d .content) → SoundPlan (define-function d)
-    goes-inside : {k : ℕ} {p : Place} {f : Finish} → SoundFinish f → SoundPlan (inside k p f)
+  abbrev SoundPlan : Plan → Type 0
+  SoundPlan (refuse w) = RuleNumber w
+  SoundPlan (leave vs) = Sound vs
+  SoundPlan (associate m n id) = FitsAll (ns-form m n id)
+  SoundPlan (define-function d) = SoundDefined (d .content)
+  SoundPlan (inside k p f) = SoundFinish f
 
-  if-sound : (b : Bool) {p q : Plan} → SoundPlan p → SoundPlan q → SoundPlan (if b then p else q)
-  if-sound true s t = s
-  if-sound false s t = t
+  rule-sound : (h : Here) {w : Word} {e : Node} {p : Plan} → Rule h w e p → FitsNode e → SoundHere h → SoundPlan p
+  rule-sound h (refuses n) f s = n
+  rule-sound h (own {a = a}) f s = atom-sound a (f .1)
+  rule-sound h (defined {m = m} {n} t) f s = rw t at (look-up-each SoundDefined m n (h .scope) (s .0)) .0
+  rule-sound h (argument {n = n} {vs = vs} t l) f s = first-sound 1 (without n vs) (without-sound n vs (rw t at (s .1)))
+  rule-sound h (others {n = n} {vs = vs} t l) f s = without-sound n vs (rw t at (s .1))
+  rule-sound h (associates may) f s = (((omega arith, omega arith, omega arith), (f .1 .1 .0 .1, (f .1 .1 .1 .0 .1, tt))), tt)
+  rule-sound h (defines {v = v} may t) f s = tail-fits (elements v) (elements-fit v (f .1 .1 .1 .0))
+  rule-sound h (names may t) f s = tt
+  rule-sound h (joins t u) f s = tt
+  rule-sound h forms f s = tt
+  rule-sound h (calls {m = m} {n} t) f s = rw t at (look-up-each SoundDefined m n (h .scope) (s .0))
+  rule-sound h (calls-subst {fs = fs} t) f s = (tail-fits fs (f .1 .0 .1), s .0)
 
-  if-ref-sound : (a : Atom) {f : ℕ → ℕ → Plan} {p : Plan} → Fits a → ((m n : ℕ) → Fits (ref m n) → SoundPlan (f m n)) → SoundPlan p →
-      SoundPlan (if-ref a f p)
-  if-ref-sound nil g s t = t
-  if-ref-sound (array bs) g s t = t
-  if-ref-sound (int v) g s t = t
-  if-ref-sound (ref m n) g s t = s m n g
-
-  expect-one-sound : (es : Nodes) {f : Node → Plan} → FitsNodes es → ((a : Node) → FitsNode a → SoundPlan (f a)) →
-      SoundPlan (expect-one es f)
-  expect-one-sound empty g s = refuses refl
-  expect-one-sound (cons h empty) g s = refuses refl
-  expect-one-sound (cons h (cons a empty)) g s = s a (g .1 .0)
-  expect-one-sound (cons h (cons a (cons b es))) g s = refuses refl
-
-  expect-two-sound : (es : Nodes) {f : Node → Node → Plan} → FitsNodes es →
-      ((a b : Node) → FitsNode a → FitsNode b → SoundPlan (f a b)) → SoundPlan (expect-two es f)
-  expect-two-sound empty g s = refuses refl
-  expect-two-sound (cons h empty) g s = refuses refl
-  expect-two-sound (cons h (cons a empty)) g s = refuses refl
-  expect-two-sound (cons h (cons a (cons b empty))) g s = s a b (g .1 .0) (g .1 .1 .0)
-  expect-two-sound (cons h (cons a (cons b (cons c es)))) g s = refuses refl
-
-  expect-ref-sound : (a : Node) {f : ℕ → ℕ → Plan} → FitsNode a → ((m n : ℕ) → Fits (ref m n) → SoundPlan (f m n)) →
-      SoundPlan (expect-ref a f)
-  expect-ref-sound (leaf r a) g s = if-ref-sound a (g .1) s (refuses refl)
-  expect-ref-sound (branch r es) g s = refuses refl
-
-  expect-array-sound : (a : Node) {f : List ℕ → Plan} → FitsNode a → ((bs : List ℕ) → Bytes bs → SoundPlan (f bs)) →
-      SoundPlan (expect-array a f)
-  expect-array-sound (leaf r nil) g s = refuses refl
-  expect-array-sound (leaf r (array bs)) g s = s bs (g .1)
-  expect-array-sound (leaf r (int v)) g s = refuses refl
-  expect-array-sound (leaf r (ref m n)) g s = refuses refl
-  expect-array-sound (branch r es) g s = refuses refl
-
-  expect-int-sound : (a : Node) {f : ℕ → Plan} → ((n : ℕ) → SoundPlan (f n)) → SoundPlan (expect-int a f)
-  expect-int-sound (leaf r nil) s = refuses refl
-  expect-int-sound (leaf r (array bs)) s = refuses refl
-  expect-int-sound (leaf r (int v)) s = s v
-  expect-int-sound (leaf r (ref m n)) s = refuses refl
-  expect-int-sound (branch r es) s = refuses refl
-
-  plan-ns-sound : (p : Place) (es : Nodes) (h : Here) → FitsNodes es → SoundPlan (plan-ns p es h)
-  plan-ns-sound element es h g = refuses refl
-  plan-ns-sound inner es h g = refuses refl
-  plan-ns-sound (top earlier) es h g =
-      expect-two-sound es g λ a b fa fb. expect-ref-sound a fa λ m n fr. expect-array-sound b fb λ id fi.
-      let it : SoundPlan (associate m n id) = associates (((omega arith, omega arith, omega arith), (fr, (fi, tt))), tt) in
-      search (if-sound, refuses)
-
-  plan-definition-sound : (es : Nodes) (h : Here) → FitsNodes es → SoundPlan (plan-definition es h)
-  plan-definition-sound es h g =
-      expect-two-sound es g λ a v fa fv. expect-ref-sound a fa λ m n fr.
-      let code : FitsNodes (tail (elements v)) = tail-fits (elements v) (elements-fit v fv) in
-      search (if-sound, refuses, defines, goes-inside, tt) depth 7
-
-  plan-define-sound : (p : Place) (es : Nodes) (h : Here) → FitsNodes es → SoundPlan (plan-define p es h)
-  plan-define-sound (top earlier) es h g = plan-definition-sound es h g
-  plan-define-sound element es h g = plan-definition-sound es h g
-  plan-define-sound inner es h g = refuses refl
-
-  plan-concat-sound : (es : Nodes) → FitsNodes es → SoundPlan (plan-concat es)
-  plan-concat-sound es g = expect-two-sound es g λ a b fa fb. search (if-sound, refuses, goes-inside, tt)
-
-  plan-arg-sound : (n : ℕ) (vs : Arguments) → SoundArguments vs → SoundPlan (plan-arg n vs)
-  plan-arg-sound n outside s = refuses refl
-  plan-arg-sound n (given vs) s = search (if-sound, refuses, leaves (first-sound 1 (without n vs) (without-sound n vs s)))
-
-  plan-rest-sound : (n : ℕ) (vs : Arguments) → SoundArguments vs → SoundPlan (plan-rest n vs)
-  plan-rest-sound n outside s = refuses refl
-  plan-rest-sound n (given vs) s = search (if-sound, refuses, leaves (without-sound n vs s))
-
-  plan-head-sound : (f : Found) → EachFound SoundDefined f → SoundPlan (plan-head f)
-  plan-head-sound (latest (value vs) behind) s = goes-inside tt
-  plan-head-sound (latest (function es) behind) s = goes-inside s
-  plan-head-sound nothing s = goes-inside tt
-
-  plan-other-sound : (es : Nodes) (ds : Scope) → FitsNodes es → SoundScope ds → SoundPlan (plan-other es ds)
-  plan-other-sound empty ds g s = goes-inside tt
-  plan-other-sound (cons (leaf r a) es) ds g s =
-      if-ref-sound a (g .0 .1) (λ m n f. plan-head-sound (look-up m n ds) (look-up-sound m n ds s)) (goes-inside tt)
-  plan-other-sound (cons (branch r fs) es) ds g s =
-      let code : FitsNodes (tail fs) = tail-fits fs (g .0 .1) in
-      search (if-sound, goes-inside, tt)
-
-  pub plan-form-sound : (w : Word) (es : Nodes) (h : Here) → FitsNodes es → SoundHere h → SoundPlan (plan-form w es h)
-  unfolding plan-form
-  plan-form-sound ns es h g s = plan-ns-sound (h .place) es h g
-  plan-form-sound define es h g s = plan-define-sound (h .place) es h g
-  plan-form-sound concat es h g s = plan-concat-sound es g
-  plan-form-sound subst es h g s = refuses refl
-  plan-form-sound arg es h g s = expect-one-sound es g λ a fa. expect-int-sound a λ n. plan-arg-sound n (h .arguments) (s .1)
-  plan-form-sound rest es h g s = expect-one-sound es g λ a fa. expect-int-sound a λ n. plan-rest-sound n (h .arguments) (s .1)
-  plan-form-sound plain es h g s = plan-other-sound es (h .scope) g (s .0)
-
-  plan-reference-sound : (f : Found) (a : Atom) → EachFound SoundDefined f → Fits a → SoundPlan (plan-reference f a)
-  plan-reference-sound (latest (value vs) behind) a s g = leaves (s .0)
-  plan-reference-sound (latest (function es) behind) a s g = refuses refl
-  plan-reference-sound nothing a s g = leaves (atom-sound a g)
-
-  pub plan-atom-sound : (a : Atom) (ds : Scope) → Fits a → SoundScope ds → SoundPlan (plan-atom a ds)
-  unfolding plan-atom
-  plan-atom-sound a ds g s =
-      if-ref-sound a g
-      (λ m n f. search (if-sound, refuses, plan-reference-sound (look-up m n ds) a (look-up-sound m n ds s) g))
-      (leaves (atom-sound a g))
-
-  plan-sound : (e : Node) (h : Here) → FitsNode e → SoundHere h → SoundPlan (plan e h)
-  plan-sound (leaf r a) h f s = plan-atom-sound a (h .scope) (f .1) (s .0)
-  plan-sound (branch r es) h f s = plan-form-sound (head-word es) es h (f .1) s
+  pub plan-sound : (e : Node) (h : Here) → FitsNode e → SoundHere h → SoundPlan (plan e h)
+  plan-sound e h f s = rule-sound h (rule h e) f s
 
   -- a call's code, and the definitions that it sees
   pub call-sound : (e : Node) (h : Here) (k : ℕ) (p : Place) (code : Nodes) (scope : Scope) → plan e h ≡ inside k p (as-call code scope)
       → FitsNode e → SoundHere h → FitsNodes code × SoundScope scope
-  call-sound e h k p code scope q f s = go (rw q at (plan-sound e h f s))
-    where
-      go : SoundPlan (inside k p (as-call code scope)) → FitsNodes code × SoundScope scope
-      go (goes-inside g) = g
+  call-sound e h k p code scope q f s = rw q at (plan-sound e h f s)
 
   -- Evaluation: an expression that fits leaves sound values, and what follows is evaluated where all is sound too
 
@@ -342,24 +239,23 @@ module _ (bound : ℕ) where
         λ left l. complete-sound r (if one-value code then left .values else only (form (left .values))) h q
         (call-fits (one-value code) (left .values) (l .0 .0)) s
 
-    perform-sound : (r : ℕ) (ms : List Meaning) (h : Here) {p : Plan} → r < bound → SoundPlan p → SoundMeanings ms → SoundHere h →
+    perform-sound : (r : ℕ) (ms : List Meaning) (h : Here) (p : Plan) → r < bound → SoundPlan p → SoundMeanings ms → SoundHere h →
         Goes SoundLeft (perform call r ms h p)
-    perform-sound r ms h q (refuses w) m s = stop-goes w q
-    perform-sound r ms h q (leaves {vs} v) m s = complete-sound r vs h q (v .0) s
-    perform-sound r ms h q (associates {m = k} {n} {i} f) m s = complete-sound r (ns-form k n i) _ q f s
-    perform-sound r ms h q (defines d) m s = give-goes (none-sound, ((d, s .0), s .1))
-    perform-sound r ms h q (goes-inside {k} {p} {f} g) m s =
-        bind-goes (in-order-sound (drop k ms) (standing p h) (drop-sound k ms m) s)
-        λ left l. finish-sound r h f (left .values) q g (l .0) s
+    perform-sound r ms h (refuse w) q v m s = stop-goes v q
+    perform-sound r ms h (leave vs) q v m s = complete-sound r vs h q (v .0) s
+    perform-sound r ms h (associate k n id) q v m s = complete-sound r (ns-form k n id) _ q v s
+    perform-sound r ms h (define-function d) q v m s = give-goes (none-sound, ((v, s .0), s .1))
+    perform-sound r ms h (inside k p f) q v m s =
+        bind-goes (in-order-sound (drop k ms) (standing p h) (drop-sound k ms m) s) λ left l. finish-sound r h f (left .values) q v (l .0) s
 
     mutual
       unfolding eval
 
       pub eval-sound : (e : Node) → FitsNode e → SoundMeaning (eval call e)
-      eval-sound (leaf r a) f h s = step-goes (f .0) (perform-sound r [] h (f .0) (plan-sound (leaf r a) h f s) tt s)
+      eval-sound (leaf r a) f h s = step-goes (f .0) (perform-sound r [] h (plan (leaf r a) h) (f .0) (plan-sound (leaf r a) h f s) tt s)
       eval-sound (branch r es) f h s =
           step-goes (f .0)
-          (perform-sound r (eval-all call es) h (f .0) (plan-sound (branch r es) h f s) (eval-all-sound es (f .1)) s)
+          (perform-sound r (eval-all call es) h (plan (branch r es) h) (f .0) (plan-sound (branch r es) h f s) (eval-all-sound es (f .1)) s)
 
       eval-all-sound : (es : Nodes) → FitsNodes es → SoundMeanings (eval-all call es)
       eval-all-sound empty f = tt

@@ -1,14 +1,14 @@
 -- The canonical bytes token by token: those of the tokens of a stream, one after the other, are those of its meaning.
 -- Document 01: "Canonical". Assumes nothing.
-use Prim.Native.Nat.{ℕ, _+_, _-_, _≤_}
-use mathlib.Core.Path.{_≡_, refl, sym, ap, _∙_}
+use Prim.Native.Nat.{ℕ, _+_, _≤_}
+use mathlib.Core.Path.{_≡_, refl, _∙_}
 use mathlib.Core.List.{List, [], _∷_, _++_, append-assoc, append-nil}
 use lib.ListN.{length, getD}
 use native.Mathlib.Omega.{arith}
 use Rattle.spec.specs.Expr.{Expr, atom, Exprs, none, atom-bytes, bytes, canonical}
 use Rattle.spec.specs.Reading.{Token, opening, closing, whole, bad, tokens, right, check, put, wrap, lists}
 use Rattle.laws.specs.Demands.{meaning-of, CanRead}
-use Rattle.laws.proofs.Tokens.{right-opening, right-closing, right-whole, right-bad}
+use Rattle.laws.proofs.Tokens.{Right, at-end, opens, closes, stands, right-tokens}
 use Rattle.laws.proofs.Rows.{rows-count}
 use Rattle.laws.proofs.Reading.{read-readable}
 
@@ -48,32 +48,21 @@ unfolding bytes
 unwound-none [] h = absurd (omega arith)
 unwound-none (es ∷ ls) h = refl
 
-module _ (end room : ℕ) where
-  unwound-tokens : (ts : List Token) (d n : ℕ) → check end room ts d n ≡ right → token-bytes ts ≡ unwound (lists ts)
-  unfolding token-bytes lists bytes
-  unwound-tokens [] d n c = refl
-  unwound-tokens (opening p ∷ ts) d n c =
-      let k = right-opening end room ts p d n c .2 in
-      let size = rows-count end room ts (d + 1) (n + 1) k .1 in
-      ap (λ (l : List ℕ). 0x01 ∷ l) (unwound-tokens ts (d + 1) (n + 1) k) ∙ sym (unwound-wrap (lists ts) (omega arith))
-  unwound-tokens (closing p ∷ ts) d n c =
-      let k = right-closing end room ts p d n c .1 in
-      let size = rows-count end room ts (d - 1) n k .1 in
-      ap (λ (l : List ℕ). 0x02 ∷ l) (unwound-tokens ts (d - 1) n k) ∙ sym (unwound-none (lists ts) (omega arith))
-  unwound-tokens (whole a p e ∷ ts) d n c =
-      let k = right-whole end room ts a p e d n c .1 in
-      let size = rows-count end room ts d (n + 1) k .1 in
-      ap (λ (l : List ℕ). atom-bytes a ++ l) (unwound-tokens ts d (n + 1) k) ∙ sym (unwound-put (atom a) (lists ts) (omega arith))
-  unwound-tokens (bad w p ∷ ts) d n c = absurd (right-bad end room ts w p d n c)
+unwound-tokens : {room : ℕ} {ts : List Token} {d n : ℕ} → Right room ts d n → token-bytes ts ≡ unwound (lists ts)
+unfolding token-bytes lists bytes
+unwound-tokens at-end = refl
+unwound-tokens (opens {ts} h k c) = let size = rows-count c .1 in rw (unwound-tokens c, unwound-wrap (lists ts) (omega arith))
+unwound-tokens (closes {ts} c) = let size = rows-count c .1 in rw (unwound-tokens c, unwound-none (lists ts) (omega arith))
+unwound-tokens (stands {ts} {a} k c) = let size = rows-count c .1 in rw (unwound-tokens c, unwound-put (atom a) (lists ts) (omega arith))
 
-  -- at the top level there is one list
-  pub canonical-tokens : (ts : List Token) (n : ℕ) → check end room ts 0 n ≡ right → token-bytes ts ≡ canonical (getD (lists ts) 0 none)
-  canonical-tokens ts n c = unwound-tokens ts 0 n c ∙ only (lists ts) (rows-count end room ts 0 n c .1)
-    where
-      only : (ls : List Exprs) → length ls ≡ 0 + 1 → unwound ls ≡ canonical (getD ls 0 none)
-      only [] h = absurd (omega arith)
-      only (es ∷ []) h = append-nil (canonical es)
-      only (es ∷ fs ∷ ls) h = absurd (omega arith)
+-- at the top level there is one list
+pub canonical-tokens : (end room : ℕ) (ts : List Token) (n : ℕ) → check end room ts 0 n ≡ right → token-bytes ts ≡ canonical (getD (lists ts) 0 none)
+canonical-tokens end room ts n c = let r = right-tokens end room ts 0 n c in unwound-tokens r ∙ only (lists ts) (rows-count r .1)
+  where
+    only : (ls : List Exprs) → length ls ≡ 0 + 1 → unwound ls ≡ canonical (getD ls 0 none)
+    only [] h = absurd (omega arith)
+    only (es ∷ []) h = append-nil (canonical es)
+    only (es ∷ fs ∷ ls) h = absurd (omega arith)
 
 pub canonical-stream : (s : List ℕ) → CanRead s → token-bytes (tokens 0 0 s) ≡ canonical (meaning-of s)
 canonical-stream s r = canonical-tokens (length s) (length s) (tokens 0 0 s) 0 (read-readable s (length s) _ _ r .passes)

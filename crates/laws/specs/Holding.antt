@@ -1,43 +1,17 @@
--- A run held to its bounds, with what is left of them; and the evaluation of a list of nodes, the top level's and any other's alike.
+-- What follows from a run that is held to its bounds; and the evaluation of a list of nodes, the top level's and any other's alike.
 -- Document 01: "Steps", "Workspace". Assumes nothing.
-use Prim.Native.Nat.{ℕ, zero, suc, _-_}
-use mathlib.Core.List.{List, [], _∷_, _++_}
-use lib.Dec.{ltb, eqb}
-use Rattle.spec.specs.Expr.{if_then_else_, none, append}
+use Prim.Native.Nat.{ℕ, zero, suc}
+use mathlib.Core.List.{_++_}
+use Rattle.spec.specs.Expr.{none, append}
 use Rattle.spec.specs.Nodes.{Node, Nodes, empty, cons, markers}
-use Rattle.spec.specs.Runs.{Event, step, charge, End, done, stopped, Run, give, bind}
+use Rattle.spec.specs.Runs.{Run, give, bind, Held, kept, ceased}
 use Rattle.spec.specs.Plan.{Place, top, element, inner, Here}
 use Rattle.spec.specs.Evaluation.{Left, standing, Call, eval}
 
-pub data Held (A : Type 0) : Type 0 where
-  -- the result, the steps and the workspace that are left
-  kept : A → ℕ → ℕ → Held A
-  -- a refusal's number and row
-  ceased : ℕ → ℕ → Held A
-
--- as `cut` holds it
-unfoldable pub hold-events : {A : Type 0} → ℕ → ℕ → List Event → End A → Held A
-hold-events steps work [] (done a) = kept a steps work
-hold-events steps work [] (stopped v r) = ceased v r
-hold-events steps work (step r ∷ es) end =
-    let on = hold-events (steps - 1) work es end in
-    if eqb steps 0 then ceased 16 r else on
-hold-events steps work (charge r n ∷ es) end =
-    let on = hold-events steps (work - n) es end in
-    if ltb work n then ceased 17 r else on
-
-abbrev pub hold : {A : Type 0} → ℕ → ℕ → Run A → Held A
-hold steps work run = hold-events steps work (run .events) (run .end)
-
--- then what follows from the result, within what is left
+-- a held run, then what follows from its result within what is left
 abbrev pub and-hold : {A B : Type 0} → Held A → (A → ℕ → ℕ → Held B) → Held B
 and-hold (kept a s w) f = f a s w
 and-hold (ceased v r) f = ceased v r
-
--- how it ends, whatever is left
-abbrev pub forget : {A : Type 0} → Held A → End A
-forget (kept a s w) = done a
-forget (ceased v r) = stopped v r
 
 -- where the element after this one stands
 abbrev pub beyond : Node → Place → Place

@@ -11,7 +11,7 @@ use native.Mathlib.Numerals.{add-one, towards-suc}
 use Rattle.spec.specs.Reading.{Token, opening, closing, whole, bad, tokens, right, check, atom-kind, Row, ends, rows-of, next-row, row-width, numbers}
 use Rattle.spec.specs.Calls.{filled}
 use Rattle.laws.specs.Demands.{Bytes}
-use Rattle.laws.proofs.Tokens.{right-end, right-opening, right-closing, right-whole, right-bad, Laid}
+use Rattle.laws.proofs.Tokens.{right-end, right-opening, right-closing, right-whole, right-bad, right-tokens, Laid}
 use Rattle.laws.proofs.Rows.{Ordered, rows-ordered, numbers-length}
 use Rattle.laws.proofs.Reading.{stream-laid}
 use Rattle.reader.specs.Passes.{row-started, row-ended}
@@ -77,7 +77,7 @@ module _ (end room : ℕ) (all : List Row) where
   FirstLeft p n ts = (e : ℕ) → p ≤ e → next-row e all ≡ n + next-row e (rows-of ts)
 
   next-left : (ts : List Token) (p d n : ℕ) → Laid p ts end → check end room ts d n ≡ right → FirstLeft p n ts → next-row p all ≡ n
-  next-left ts p d n l c h = omega (arith, h p (omega arith), next-row-here p (rows-of ts) (rows-ordered end room ts p d n l c))
+  next-left ts p d n l c h = omega (arith, h p (omega arith), next-row-here p (rows-of ts) (rows-ordered end (right-tokens end room ts d n c) p l))
 
   -- the tokens' rows are written, and the open forms have their ends
   written-rows : (ts : List Token) (p : ℕ) (forms : List ℕ) (n : ℕ) (t : List ℕ) → Laid p ts end → check end room ts (length forms) n ≡ right

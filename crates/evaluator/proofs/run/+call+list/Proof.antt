@@ -11,9 +11,10 @@ use borrow.Fn.Kinds.{In}
 use borrow.Fn.PlainCycle.{Measures, is, falls, and}
 use Rattle.spec.specs.Expr.{Exprs}
 use Rattle.spec.specs.Nodes.{Node, Nodes, elements}
+use Rattle.spec.specs.Runs.{Held, hold}
 use Rattle.spec.specs.Plan.{Scope as Definitions, Place, inner, Here, as-call}
 use Rattle.spec.specs.Evaluation.{Left, finish, run-code}
-use Rattle.laws.specs.Holding.{Held, hold, in-list, skip}
+use Rattle.laws.specs.Holding.{in-list, skip}
 use Rattle.evaluator.specs.Stands.{next}
 use Rattle.evaluator.specs.Entries.{Entry, entries}
 use Rattle.evaluator.specs.Completed.{with-top}
