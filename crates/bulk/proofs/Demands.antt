@@ -4,8 +4,9 @@
 use Prim.Native.Nat.{ℕ, _*_, _/_, _≤_, _<_}
 use mathlib.Core.Path.{_≡_, refl, sym, ap, _∙_}
 use mathlib.Core.Logic.{_↔_}
-use mathlib.Core.List.{List}
+use mathlib.Core.List.{List, []}
 use lib.ListN.{length, take, getD}
+use denote.Ref.{RefT}
 use lib.Dec.{eqb}
 use borrow.Author.Tests.{ne-eqb}
 use native.Mathlib.Omega.{arith}
@@ -13,17 +14,20 @@ use Rattle.spec.specs.Expr.{if_then_else_, rows-all, canonical}
 use Rattle.spec.specs.Reading.{tokens, rows-of, row-width, refused, readable, read}
 use Rattle.spec.specs.Runs.{steps-in}
 use Rattle.spec.specs.Evaluation.{run}
-use Rattle.spec.specs.Calls.{Answer, refusal, acceptance, reading, Read, Write, Evaluate}
+use Rattle.spec.specs.Calls.{Answer, refusal, acceptance, reading, Read, Write, Evaluate, Buffer, part, chosen}
 use Rattle.laws.specs.Demands.{Bytes, Kept, Lent, evaluation, result-bytes, row-numbers, NoSmaller, SameSizes, Final, Alike, meaning-of, CanRead, SameFirst, values-of, all-steps, with-steps, SamePrefix}
 use Rattle.laws.proofs.Reading.{read-refused}
 use Rattle.laws.proofs.Calls.{write-out}
 use Rattle.laws.proofs.Theorems as laws
-use Rattle.bulk.specs.Answers.{stated, Numbered, stated-evaluation, NumberedEvaluation, AnsweredEvaluation}
-use Rattle.bulk.specs.Promises.{Call, EvaluateCall, FinalAnswer, SameStory, Accepting, SameBeginning}
+use Rattle.reader.proofs.Finding.{spelled-some}
+use Rattle.bulk.specs.Answers.{stated, Numbered, stated-evaluation, NumberedEvaluation, AnsweredEvaluation, asked, PartItself}
+use Rattle.bulk.specs.Promises.{Call, EvaluateCall, ItemCall, NoSuchItem, unread, absent, FinalAnswer, SameStory, Accepting, SameBeginning}
 use Rattle.bulk.specs.declared.Answer.{Answer as Given}
 use Rattle.bulk.specs.declared.Answer.the-variants.{Accepted, Refused}
+use Rattle.bulk.specs.declared.Buffer.{Buffer as Which}
 use Rattle.bulk.specs.declared.Evaluation.{Evaluation}
 use Rattle.bulk.specs.declared.Evaluation.the-variants.{Accepted as Result, Refused as Refusal}
+use Rattle.bulk.proofs.Told.{ItemIs, nothing, something, item-is}
 
 -- A call of `evaluate`, from what its contract says; w is what the workspace held. (Of `read` and `write` the contract is the record's last field.)
 pub evaluate-call : (s t w o : List ℕ) (steps : ℕ) (r : Evaluation) (t′ o′ : List ℕ) → AnsweredEvaluation (Evaluate s t (length w) o steps) r t′ o′
@@ -244,3 +248,27 @@ prefix q s s′ b b′ x x′ f = record {
 
     laws-prefix : SamePrefix q s s′
     laws-prefix = laws.prefix q s s′ b b′ (record { lent = x .lent; accepts = is-zero-of x }) (record { lent = x′ .lent; accepts = is-zero-of x′ }) f
+
+-- Item: "If that buffer can't be read [..] or has no such item, the part is empty": then, and only then. What a caller gets otherwise has a byte at least.
+pub item-empty : (stream result : RefT (List ℕ)) (which : Which) (k : ℕ) (x : ItemCall stream result which k)
+    → Bytes (chosen (asked which) (stream .now) (result .now)) → (x .given .now ≡ []) ↔ NoSuchItem (chosen (asked which) (stream .now) (result .now)) k
+item-empty stream result which k x bytes = (λ e. found e (item-is b s r k bytes), none)
+  where
+    b : Buffer
+    b = asked which
+
+    s : List ℕ
+    s = stream .now
+
+    r : List ℕ
+    r = result .now
+
+    found : x .given .now ≡ [] → ItemIs b s r k → NoSuchItem (chosen b s r) k
+    found e (nothing n h) = n
+    found e (something es i) =
+        let it : PartItself (part b (i .from) (i .to)) stream result (x .given) = rw (i .is) at (x .told) in
+        absurd (omega (arith, ap length e, it .place .size, i .piece .end, spelled-some (i .expr) (i .bytes) (i .spells)))
+
+    none : NoSuchItem (chosen b s r) k → x .given .now ≡ []
+    none (unread w p h) = rw (laws.item-unread s r b k w p h) at (x .told .bytes)
+    none (absent rs es h l) = rw (laws.item-absent s r b k rs es h l) at (x .told .bytes)

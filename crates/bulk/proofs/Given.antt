@@ -1,14 +1,15 @@
 -- What an answer gives is there: for callers that go on to use the rows, the bytes or the part. Document 01: "The calls". Assumes nothing.
-use Prim.Native.Nat.{ℕ, _+_, _-_, _*_, _≤_, max}
+use Prim.Native.Nat.{ℕ, _+_, _*_, _≤_, max}
 use mathlib.Core.Path.{_≡_, sym, ap, _∙_}
 use mathlib.Core.List.{List, []}
 use native.Mathlib.Omega.{arith}
-use lib.ListN.{length, drop, length-take, length-drop}
+use lib.ListN.{length}
+use denote.Ref.{RefT}
 use Rattle.spec.specs.Reading.{row-width}
-use Rattle.spec.specs.Calls.{Answer, Read, Write, Evaluate, Buffer, of-stream, of-result, Part, part, chosen, Item}
+use Rattle.spec.specs.Calls.{Answer, Read, Write, Evaluate, Buffer, of-stream, of-result, part, chosen, Item}
 use Rattle.laws.specs.Demands.{Bytes, Lent, evaluation}
 use Rattle.laws.proofs.Theorems.{read-keeps, write-keeps, read-fits, write-fits, evaluation-keeps, evaluation-fits}
-use Rattle.bulk.specs.Answers.{Answered, AnsweredEvaluation, of-buffer, part-bytes}
+use Rattle.bulk.specs.Answers.{Answered, AnsweredEvaluation, of-buffer, PartItself}
 use Rattle.bulk.specs.declared.Answer.{Answer as Told}
 use Rattle.bulk.specs.declared.Answer.the-variants.{Accepted}
 use Rattle.bulk.specs.declared.Evaluation.{Evaluation}
@@ -44,22 +45,19 @@ given-result r n k s t t′ o o′ work steps accepted h =
     omega (arith, told, evaluation-fits s l)
 
 -- Item's part, from its place on, lies in one of the two buffers
-pub given-part : (b : Buffer) (stream result : List ℕ) (k : ℕ) (place : Place) (start end : ℕ) (x : List ℕ) → Bytes stream → Bytes result
-    → of-buffer b place ≡ Item stream result b k → place ≡ Of start end → x ≡ part-bytes (Item stream result b k) stream result
-    → start + length x ≤ max (length stream) (length result)
-given-part b stream result k place start end x bytes bytes′ told at part-is =
-    let is : part b start end ≡ Item stream result b k = ap (of-buffer b) (sym at) ∙ told in
-    let inside = item-inside b stream result k start end (of-either b) is in
-    let size : length x ≡ end - start =
-    ap length (part-is ∙ ap (λ (it : Part). part-bytes it stream result) (sym is))
-    ∙ length-take (end - start) (drop start (chosen b stream result))
-    ∙ omega (arith, length-drop start (chosen b stream result)) in
-    omega (arith, longest b)
+pub given-part : (b : Buffer) (stream result x : RefT (List ℕ)) (k : ℕ) (place : Place) (start end : ℕ) → Bytes (stream .now) → Bytes (result .now)
+    → of-buffer b place ≡ Item (stream .now) (result .now) b k → place ≡ Of start end → PartItself (Item (stream .now) (result .now) b k) stream result x
+    → start + length (x .now) ≤ max (length (stream .now)) (length (result .now))
+given-part b stream result x k place start end bytes bytes′ told at part-is =
+    let is : part b start end ≡ Item (stream .now) (result .now) b k = ap (of-buffer b) (sym at) ∙ told in
+    let inside = item-inside b (stream .now) (result .now) k start end (of-either b) is in
+    let it : PartItself (part b start end) stream result x = rw (← is) at part-is in
+    omega (arith, longest b, it .place .size)
   where
-    of-either : (b : Buffer) → Bytes (chosen b stream result)
+    of-either : (b : Buffer) → Bytes (chosen b (stream .now) (result .now))
     of-either of-stream = bytes
     of-either of-result = bytes′
 
-    longest : (b : Buffer) → length (chosen b stream result) ≤ max (length stream) (length result)
+    longest : (b : Buffer) → length (chosen b (stream .now) (result .now)) ≤ max (length (stream .now)) (length (result .now))
     longest of-stream = omega arith
     longest of-result = omega arith

@@ -21,6 +21,7 @@ use Rattle.reader.specs.Passes.{checked}
 use Rattle.reader.specs.declared.Checked.{Checked}
 use Rattle.reader.specs.declared.Checked.the-variants.{Right, Wrong}
 use Rattle.bulk.specs.Answers.{Answered}
+use Rattle.bulk.specs.Promises.{NoSuchItem, unread, absent}
 use Rattle.bulk.specs.declared.Answer.the-variants.{Accepted, Refused}
 
 -- a stream that can be read, with its rows and its canonical length counted
@@ -114,33 +115,34 @@ module _ (b : Buffer) (stream result : List ℕ) (k : ℕ) where
   unfolding Item
   item-found s e can it h = h ∙ sym (rw (e, can))
 
+  -- what the definition gives: no part, and why, or the part that spells expression k
+  pub data ItemIs : Type 0 where
+    nothing : NoSuchItem (chosen b stream result) k → Item stream result b k ≡ no-part → ItemIs
+    something : (es : Exprs) → SpellsItem b (chosen b stream result) es k (Item stream result b k) → ItemIs
+
+  pub item-is : Bytes (chosen b stream result) → ItemIs
+  item-is bytes = go (item-reading stream result b) refl
+    where
+      go : (x : Reading) → item-reading stream result b ≡ x → ItemIs
+      go (refused w p) r = nothing (unread w p r) (item-unread stream result b k w p r)
+      go (readable rs es) r = by-size (decLe (size es) k)
+        where
+          by-size : Dec (size es ≤ k) → ItemIs
+          by-size (yes l) = nothing (absent rs es r l) (item-absent stream result b k rs es r l)
+          by-size (no l) = something es (item-given stream result b k rs es bytes r (omega (arith, l)))
+
   -- a part lies in its buffer
   pub item-inside : (start end : ℕ) → Bytes (chosen b stream result) → part b start end ≡ Item stream result b k
       → (start ≤ end) × (end ≤ length (chosen b stream result))
-  item-inside start end bytes h = go (item-reading stream result b) refl
+  item-inside start end bytes h = go (item-is bytes)
     where
-      s : List ℕ
-      s = chosen b stream result
-
-      -- a part is not the empty part
-      not-empty : Item stream result b k ≡ no-part → (start ≤ end) × (end ≤ length s)
-      not-empty e = impossible (cc)
-
-      spelled : {es : Exprs} → SpellsItem b s es k (Item stream result b k) → (start ≤ end) × (end ≤ length s)
-      spelled i =
+      go : ItemIs → (start ≤ end) × (end ≤ length (chosen b stream result))
+      go (nothing n e) = impossible (cc)
+      go (something es i) =
           let piece = i .piece in
           let from : start ≡ i .from = cc (i .is) in
           let to : end ≡ i .to = cc (i .is) in
-          let size : length s ≡ length (piece .before) + (length (i .bytes) + length (piece .behind)) =
-          ap length (piece .is) ∙ length-append (piece .before) (i .bytes ++ piece .behind) ∙ ap (λ (n : ℕ). length (piece .before) + n) (length-append (i .bytes) (piece .behind)) in
+          let size = simp length-append at (ap length (piece .is)) in
           let first = piece .start in
           let last = piece .end in
           (omega arith, omega arith)
-
-      go : (x : Reading) → item-reading stream result b ≡ x → (start ≤ end) × (end ≤ length s)
-      go (refused w p) r = not-empty (item-unread stream result b k w p r)
-      go (readable rs es) r = by-size (decLe (size es) k)
-        where
-          by-size : Dec (size es ≤ k) → (start ≤ end) × (end ≤ length s)
-          by-size (yes l) = not-empty (item-absent stream result b k rs es r l)
-          by-size (no l) = spelled (item-given stream result b k rs es bytes r (omega (arith, l)))

@@ -1,9 +1,10 @@
 -- What the public calls answer: document 01's number and values for each case of an answer that is an enum.
 -- Document 01: "For any answer that is an enum, a definition gives this paper's number and values for each of its cases." Assumes nothing.
-use Prim.Native.Nat.{ℕ, _-_, _≤_}
+use Prim.Native.Nat.{ℕ, _+_, _-_, _≤_}
 use mathlib.Core.Path.{_≡_}
 use mathlib.Core.List.{List, []}
-use lib.ListN.{take, drop}
+use lib.ListN.{length, take, drop}
+use denote.Ref.{RefT}
 use Rattle.spec.specs.Calls.{Answer, refusal, acceptance, Buffer, of-stream, of-result, Part, part, no-part, chosen}
 use Rattle.bulk.specs.declared.Answer.{Answer as Given}
 use Rattle.bulk.specs.declared.Answer.the-variants.{Accepted, Refused}
@@ -58,3 +59,25 @@ of-buffer b Empty = no-part
 abbrev pub part-bytes : Part → List ℕ → List ℕ → List ℕ
 part-bytes (part b start end) stream result = take (end - start) (drop start (chosen b stream result))
 part-bytes no-part stream result = []
+
+-- "of one lent buffer or the other"
+abbrev pub lent : Buffer → RefT (List ℕ) → RefT (List ℕ) → RefT (List ℕ)
+lent of-stream stream result = stream
+lent of-result stream result = result
+
+-- x lies in a buffer from one place to another: in the buffer's block, `start` further than the buffer does, and as long as that
+pub record Lies (buffer x : RefT (List ℕ)) (start end : ℕ) : Type 0 where
+  pub block : x .ptr .0 ≡ buffer .ptr .0
+  pub offset : x .ptr .1 ≡ buffer .ptr .1 + start
+  pub size : start + length (x .now) ≡ end
+
+-- Where the part that Item gives lies. Of the part of an item that is not there document 01 says that it "is empty", and so no place is decided: it has no
+-- bytes that could lie at one. (An item that is there has a byte at least.)
+abbrev pub PartLies : Part → RefT (List ℕ) → RefT (List ℕ) → RefT (List ℕ) → Type 0
+PartLies (part b start end) stream result x = Lies (lent b stream result) x start end
+PartLies no-part stream result x = Unit {0}
+
+-- x is "the part itself, of one lent buffer or the other": it has the part's bytes, and lies where they do
+pub record PartItself (it : Part) (stream result x : RefT (List ℕ)) : Type 0 where
+  pub bytes : x .now ≡ part-bytes it (stream .now) (result .now)
+  pub place : PartLies it stream result x

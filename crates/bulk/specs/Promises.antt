@@ -1,13 +1,17 @@
 -- The words in which the demands are stated of the public calls. A call stands here as its contract has it: the code's answer, and table and
 -- output afterwards, that have answered as the definition does. Assumes nothing.
-use Prim.Native.Nat.{ℕ}
+use Prim.Native.Nat.{ℕ, _≤_}
 use mathlib.Core.Path.{_≡_}
 use mathlib.Core.List.{List}
-use lib.ListN.{take}
-use Rattle.spec.specs.Calls.{Answer}
+use lib.ListN.{length, take}
+use denote.Ref.{RefT}
+use Rattle.spec.specs.Expr.{Exprs, size}
+use Rattle.spec.specs.Reading.{Row, refused, readable, read}
+use Rattle.spec.specs.Calls.{Answer, Item}
 use Rattle.laws.specs.Demands.{Begins, Lent, evaluation, bytes-of-first}
-use Rattle.bulk.specs.Answers.{Answered, AnsweredEvaluation}
+use Rattle.bulk.specs.Answers.{Answered, AnsweredEvaluation, asked, PartItself}
 use Rattle.bulk.specs.declared.Answer.{Answer as Given}
+use Rattle.bulk.specs.declared.Buffer.{Buffer as Which}
 use Rattle.bulk.specs.declared.Evaluation.{Evaluation}
 use Rattle.bulk.specs.declared.Evaluation.the-variants.{Accepted as Result, Refused as Refusal}
 
@@ -24,6 +28,16 @@ pub record EvaluateCall (s : List ℕ) (l : Lent) : Type 0 where
   pub table : List ℕ
   pub output : List ℕ
   pub told : AnsweredEvaluation (evaluation s l) answer table output
+
+-- a call of `item` with two lent buffers, and the part that it gave
+pub record ItemCall (stream result : RefT (List ℕ)) (which : Which) (k : ℕ) : Type 0 where
+  pub given : RefT (List ℕ)
+  pub told : PartItself (Item (stream .now) (result .now) (asked which) k) stream result given
+
+-- "that buffer can't be read [..] or has no such item"
+pub data NoSuchItem (s : List ℕ) (k : ℕ) : Type 0 where
+  unread : (w p : ℕ) → read s (length s) ≡ refused w p → NoSuchItem s k
+  absent : (rs : List Row) (es : Exprs) → read s (length s) ≡ readable rs es → size es ≤ k → NoSuchItem s k
 
 -- "accepts, or refuses for a reason other than steps, workspace or output room"
 abbrev pub FinalAnswer : Evaluation → Type 0

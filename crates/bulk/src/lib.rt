@@ -7,9 +7,10 @@ ghost use mathlib.Core.Path.{_≡_};
 ghost use mathlib.Core.List.{List, []};
 ghost use Prim.Native.Nat.{ℕ, _/_};
 ghost use lib.ListN.{length};
+ghost use denote.Ref.{RefT};
 ghost use Rattle.spec.specs.Reading.{row-width};
 ghost use Rattle.spec.specs.Calls.{Read, Write, Evaluate, Item, Buffer as Chosen, chosen};
-ghost use Rattle.bulk.specs.Answers.{Answered, AnsweredEvaluation, asked, of-buffer, part-bytes};
+ghost use Rattle.bulk.specs.Answers.{Answered, AnsweredEvaluation, asked, of-buffer, lent, PartItself};
 
 // The numbers of a row.
 pub const ROW_WIDTH: usize = reader::ROW_WIDTH;
@@ -140,7 +141,7 @@ fn locate(buffer: &[u8], k: usize) -> Part
 
 // The bytes of item k of a buffer.
 fn item_of<'a>(buffer: &'a [u8], k: usize) -> &'a [u8]
-    ensures { λ x. ⌜ ((b : Chosen) (stream result : List ℕ) → chosen b stream result ≡ now (buffer .entry) → now x ≡ part-bytes (Item stream result b k) stream result) ⌝ }
+    ensures { λ x. ⌜ ((b : Chosen) (stream result : RefT (List ℕ)) → lent b stream result ≡ buffer .entry → PartItself (Item (now stream) (now result) b k) stream result x) ⌝ }
 {
     match locate(buffer, k) {
         Part::Of { start, end } => &buffer[start..end],
@@ -150,7 +151,7 @@ fn item_of<'a>(buffer: &'a [u8], k: usize) -> &'a [u8]
 
 // Top-level expression k of the stream or of the result, counted from 0, as the part itself. It is empty if that buffer can't be read or has no such expression.
 pub fn item<'a>(stream: &'a [u8], result: &'a [u8], which: Buffer, k: usize) -> &'a [u8]
-    ensures { λ x. ⌜ now x ≡ part-bytes (Item (now (stream .entry)) (now (result .entry)) (asked which) k) (now (stream .entry)) (now (result .entry)) ⌝ }
+    ensures { λ x. ⌜ PartItself (Item (now (stream .entry)) (now (result .entry)) (asked which) k) (stream .entry) (result .entry) x ⌝ }
 {
     match which {
         Buffer::Stream => item_of(stream, k),

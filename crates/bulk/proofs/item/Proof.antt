@@ -1,4 +1,4 @@
--- `bulk::item` meets its contract: the bytes of the item, in the buffer that was asked for.
+-- `bulk::item` meets its contract: the part, in the buffer that was asked for.
 -- Assumes nothing.
 use borrow.Author.Needs.{needs}
 use mathlib.Core.Path.{refl}
@@ -9,12 +9,12 @@ use Rattle.bulk.proofs.item.Tie as tie
 returns : tie.Need-returns
 returns c =
     let a = c .before .before .before .before .before .args in
-    rw (c .before .enum-told .given .1) (c .item-of .ensures of-stream (a .stream .now) (a .result .now) refl)
+    rw (c .before .enum-told .given .1) (c .item-of .ensures of-stream (a .stream) (a .result) refl)
 
 returns-2 : tie.Need-returns-2
 returns-2 c =
     let a = c .before .before .before .before .before .args in
-    rw (c .before .enum-told2 .given .1) (c .item-of2 .ensures of-result (a .stream .now) (a .result .now) refl)
+    rw (c .before .enum-told2 .given .1) (c .item-of2 .ensures of-result (a .stream) (a .result) refl)
 
 pub item-spec : {M : Type 1} → statement M
 item-spec =

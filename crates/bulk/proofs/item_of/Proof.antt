@@ -1,15 +1,17 @@
--- `bulk::item_of` meets its contract: the bytes from start to end, or none.
+-- `bulk::item_of` meets its contract: the part from start to end, or none.
 -- Assumes nothing.
 use borrow.Author.Needs.{needs}
-use Prim.Native.Nat.{ℕ, _-_, _≤_}
-use mathlib.Core.List.{List, []}
+use Prim.Native.Nat.{ℕ, _≤_}
+use mathlib.Core.List.{List}
+use native.Mathlib.Omega.{arith}
 use mathlib.Core.Path.{_≡_, refl, sym, ap, _∙_}
-use lib.ListN.{length, take, drop}
-use Rattle.spec.specs.Calls.{Part, Buffer, of-stream, chosen, Item}
+use lib.ListN.{length, length-take, length-drop}
+use denote.Ref.{RefT, now}
+use Rattle.spec.specs.Calls.{Buffer, of-stream, of-result, chosen, Item}
 use Rattle.laws.proofs.Steps.{all-bytes}
 use Rattle.bulk.specs.declared.Part.{Part as Place}
 use Rattle.bulk.specs.declared.Part.the-variants.{Of, Empty}
-use Rattle.bulk.specs.Answers.{of-buffer, part-bytes}
+use Rattle.bulk.specs.Answers.{of-buffer, lent}
 use Rattle.bulk.proofs.Told.{item-inside}
 use Rattle.bulk.proofs.item_of.Statement.{statement}
 use Rattle.bulk.proofs.item_of.Tie as tie
@@ -31,32 +33,29 @@ part-result-start c = let i = inside (c .before) in search needs
 part-result-end : tie.Need-part-result-end
 part-result-end c = let i = inside (c .before) in search needs
 
--- the bytes of a place in a buffer
-abbrev place-bytes : Place → List ℕ → List ℕ
-place-bytes (Of start end) s = take (end - start) (drop start s)
-place-bytes Empty s = []
+module _ (b : Buffer) (stream result buffer : RefT (List ℕ)) (same : lent b stream result ≡ buffer) where
+  lent-bytes : chosen b (stream .now) (result .now) ≡ buffer .now
+  lent-bytes = go b ∙ ap now same
+    where
+      go : (b : Buffer) → chosen b (stream .now) (result .now) ≡ lent b stream result .now
+      go of-stream = refl
+      go of-result = refl
 
--- the bytes of the part that was told
-bytes-told : (r : Place) (s : List ℕ) (b : Buffer) (stream result : List ℕ) (k : ℕ) → chosen b stream result ≡ s
-    → of-buffer b r ≡ Item stream result b k
-    → place-bytes r s ≡ part-bytes (Item stream result b k) stream result
-bytes-told r s b stream result k e h = go r ∙ ap (λ (it : Part). part-bytes it stream result) h
-  where
-    go : (r : Place) → place-bytes r s ≡ part-bytes (of-buffer b r) stream result
-    go (Of start end) = ap (λ (l : List ℕ). take (end - start) (drop start l)) (sym e)
-    go Empty = refl
-
-at-locate : (c : tie.After-locate) (r : Place) → c .locate .result ≡ r → (b : Buffer) (stream result : List ℕ)
-    → chosen b stream result ≡ c .before .before .args .buffer .now
-    → place-bytes r (c .before .before .args .buffer .now) ≡ part-bytes (Item stream result b (c .before .before .args .k)) stream result
-at-locate c r e b stream result asked =
-    bytes-told r _ b stream result (c .before .before .args .k) asked (ap (of-buffer b) (sym e) ∙ c .locate .ensures b stream result asked)
+  -- the part that was told, where it is this
+  at-locate : (c : tie.After-locate) (r : Place) → c .locate .result ≡ r → c .before .before .args .buffer ≡ buffer → Item (stream .now) (result .now) b (c .before .before .args .k) ≡ of-buffer b r
+  at-locate c r e h = sym (ap (of-buffer b) (sym e) ∙ c .locate .ensures b (stream .now) (result .now) (lent-bytes ∙ ap now (sym h)))
 
 returns : tie.Need-returns
-returns c = at-locate (c .before .before .before .before) _ (c .before .before .start .given .1)
+returns c =
+    let in-buffer = inside (c .before .before) in
+    λ b stream result same. rw (at-locate b stream result _ same (c .before .before .before .before) _ (c .before .before .start .given .1) refl) (record {
+      bytes = rw (lent-bytes b stream result _ same);
+      place = rw same (record { block = refl; offset = omega arith; size = simp (length-take, length-drop) (omega arith) });
+    })
 
 returns-2 : tie.Need-returns-2
-returns-2 c = at-locate (c .before .before .before) Empty (c .before .enum-told .given .1)
+returns-2 c =
+    λ b stream result same. rw (at-locate b stream result _ same (c .before .before .before) Empty (c .before .enum-told .given .1) refl) (record { bytes = refl; place = tt })
 
 pub item-of-spec : {M : Type 1} → statement M
 item-of-spec =
