@@ -77,9 +77,9 @@ CheckTurn s room p d n saved Opening =
     × (d < 64 → n < room → Checking s room (p + 1) (d + 1) (n + 1) saved)
 CheckTurn s room p d n saved Closing = (d ≡ 0 → Answers s room (Wrong 3 p)) × ((d ≡ 0 → ⊥) → Checking s room (p + 1) (d - 1) n saved)
 CheckTurn s room p d n saved (Whole k b e) =
-    let size = length (atom-head k (e - b)) + (e - b) in
-    (b ≤ e) × (p + size ≤ e) × (p < e) × (e ≤ length s) × (room ≤ n → Answers s room (Wrong 8 p))
-    × ((m : ℕ) → m ≡ size → n < room → Checking s room e d (n + 1) (saved + (e - p - m)))
+    let head = length (atom-head k (e - b)) in
+    (b ≤ e) × (p + head ≤ b) × (p < e) × (e ≤ length s) × (room ≤ n → Answers s room (Wrong 8 p))
+    × ((m : ℕ) → m ≡ b - p - head → n < room → Checking s room e d (n + 1) (saved + m))
 CheckTurn s room p d n saved (Bad w q) = Answers s room (Wrong w q)
 
 bytes-more : (t : Token) (ts : List Token) → length (token-bytes (t ∷ ts)) ≡ length (bytes-of t) + length (token-bytes ts)

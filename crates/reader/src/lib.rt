@@ -10,6 +10,7 @@ ghost use Rattle.spec.specs.Expr.{if_then_else_};
 ghost use Rattle.spec.specs.Reading.{tokens, ends, rows-of, row-width, read};
 ghost use Rattle.spec.specs.Calls.{filled, row-at, Buffer, item};
 ghost use Rattle.laws.specs.Demands.{meaning-of, CanRead};
+ghost use Rattle.atoms.specs.Tokens.{atom-head};
 ghost use Rattle.reader.specs.declared.Checked.the-variants.{Right, Wrong};
 ghost use Rattle.reader.specs.Passes.{checked, row-started, row-ended, RightFrom, found-part};
 
@@ -20,6 +21,18 @@ pub enum Checked {
     // How many rows the stream has, and the length of its canonical bytes.
     Right { rows: usize, length: usize },
     Wrong { number: u32, place: usize },
+}
+
+// How many bytes fewer an atom has as it is written canonically.
+fn spared(kind: u32, at: usize, body: usize, end: usize) -> usize
+    requires { ⌜ (body ≤ end) × (at + length (atom-head kind (end - body)) ≤ body) ⌝ }
+    ensures { λ r. ⌜ r ≡ body - at - length (atom-head kind (end - body)) ⌝ }
+{
+    let before = body - at;
+    if kind == Kind::ARRAY {
+        return before - writer::head_size(end - body);
+    }
+    before
 }
 
 fn wrong(number: u32, place: usize) -> Checked
@@ -72,7 +85,7 @@ fn check_tokens(s: &[u8], room: usize) -> Checked
                     return wrong(8, at);
                 }
                 rows += 1;
-                saved += (end - at) - writer::atom_size(kind, end - body);
+                saved += spared(kind, at, body, end);
                 at = end;
             }
             Token::Bad(number, place) => {

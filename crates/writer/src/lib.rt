@@ -10,19 +10,26 @@ ghost use Rattle.laws.specs.Demands.{meaning-of, CanRead};
 ghost use Rattle.atoms.specs.Tokens.{atom-head};
 ghost use Rattle.writer.specs.Bytes.{Put, with-head};
 
+// How many bytes the head of an array of n bytes takes.
+pub fn head_size(n: usize) -> usize
+    ensures { λ r. ⌜ r ≡ length (array-head n) ⌝ }
+{
+    match n {
+        0..=63 => 1,
+        64..=255 => 3,
+        _ => 4,
+    }
+}
+
 // How many bytes an atom of that kind, with a body of n bytes, is written with.
 pub fn atom_size(kind: u32, n: usize) -> usize
     requires { ⌜ n ≤ 2 * 65536 ⌝ }
     ensures { λ r. ⌜ r ≡ length (atom-head kind n) + n ⌝ }
 {
-    if kind != Kind::ARRAY {
-        return n;
+    if kind == Kind::ARRAY {
+        return head_size(n) + n;
     }
-    match n {
-        0..=63 => 1 + n,
-        64..=255 => 3 + n,
-        _ => 4 + n,
-    }
+    n
 }
 
 // Writes bytes; gives the place behind them.

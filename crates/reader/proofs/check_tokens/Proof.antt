@@ -59,26 +59,17 @@ loop-again-2 c = at-closing (c .before) .1 (c .if3 .left)
 returns-4 : tie.Need-returns-4 Inv-loop μ-loop
 returns-4 c = c .wrong4 .ensures ∙ at-whole (c .before .before .before) .4 (c .before .if4 .taken)
 
-sub-saved : tie.Need-sub-saved Inv-loop μ-loop
-sub-saved c = omega (arith, at-whole (c .before .before) .2)
-
-sub-atom-size : tie.Need-sub-atom-size Inv-loop μ-loop
-sub-atom-size c = at-whole (c .before .before) .0
-
-atom-size-requires : tie.Need-atom-size-requires Inv-loop μ-loop
-atom-size-requires c κs = omega (arith, at-whole (c .before .before) .3)
-
-sub-saved-2 : tie.Need-sub-saved-2 Inv-loop μ-loop
-sub-saved-2 c = let w = at-whole (c .before .before .before) in omega (arith, w .1, c .atom-size .ensures)
+spared-requires : tie.Need-spared-requires Inv-loop μ-loop
+spared-requires c κs = let w = at-whole (c .before .before) in (w .0, w .1)
 
 add-saved : tie.Need-add-saved Inv-loop μ-loop
-add-saved c = let w = at-whole (c .before .before .before) in omega (arith, w .3)
+add-saved c = let w = at-whole (c .before .before .before) in omega (arith, w .0, w .3, c .spared .ensures)
 
 loop-less-3 : tie.Need-loop-less-3 Inv-loop μ-loop
 loop-less-3 c = let w = at-whole (c .before .before .before) in omega (arith, w .2, w .3)
 
 loop-again-3 : tie.Need-loop-again-3 Inv-loop μ-loop
-loop-again-3 c = at-whole (c .before .before .before) .5 _ (c .atom-size .ensures) (c .before .if4 .left)
+loop-again-3 c = at-whole (c .before .before .before) .5 _ (c .spared .ensures) (c .before .if4 .left)
 
 returns-5 : tie.Need-returns-5 Inv-loop μ-loop
 returns-5 c = c .wrong5 .ensures ∙ at-token (c .before .before .before .before) _ (c .before .before .number .given .1)
@@ -115,10 +106,7 @@ check-tokens-spec =
     (λ c κs. search needs)
     returns-4
     (λ c. omega arith)
-    sub-saved
-    sub-atom-size
-    atom-size-requires
-    sub-saved-2
+    spared-requires
     add-saved
     loop-less-3
     loop-again-3

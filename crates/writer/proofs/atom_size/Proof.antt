@@ -1,22 +1,19 @@
--- `writer::atom_size` meets its contract: an array has one of three heads. Assumes nothing.
+-- `writer::atom_size` meets its contract: an array has a head. Assumes nothing.
 use borrow.Author.Needs.{needs}
 use borrow.Author.Tests.{ne-eqb}
 use native.Mathlib.Omega.{arith}
-use Rattle.writer.proofs.Puts.{head-one, head-three, head-four}
+use Rattle.laws.proofs.Atoms.{head-bounds}
 use Rattle.writer.proofs.atom_size.Statement.{statement}
 use Rattle.writer.proofs.atom_size.Tie as tie
 
+add-result : tie.Need-add-result
+add-result c = omega (arith, c .head-size .ensures, head-bounds (c .before .before .args .n) .1)
+
 returns : tie.Need-returns
-returns c = rw (ne-eqb (c .before .args .kind) 2 (c .if1 .taken)) (omega arith)
+returns c = rw (c .before .if1 .taken, c .head-size .ensures)
 
 returns-2 : tie.Need-returns-2
-returns-2 c = rw (c .before .if1 .left, head-one (c .if2 .taken))
-
-returns-3 : tie.Need-returns-3
-returns-3 c = rw (c .before .before .if1 .left, head-three (c .before .if2 .left) (c .if3 .taken))
-
-returns-4 : tie.Need-returns-4
-returns-4 c = rw (c .before .before .if1 .left, head-four (c .if3 .left))
+returns-2 c = rw (ne-eqb (c .before .args .kind) 2 (c .if1 .left)) (omega arith)
 
 pub atom-size-spec : {M : Type 1} → statement M
-atom-size-spec = tie.close (tie.spec returns (λ c. search needs) (λ c. search needs) (λ c. search needs) returns-2 returns-3 returns-4)
+atom-size-spec = tie.close (tie.spec (λ c κs. search needs) add-result returns returns-2)
