@@ -83,7 +83,7 @@ module _ (s t : List ℕ) (row : ℕ) (run : Call) (h : Here) where
     pub eval-none : steps ≡ 0 → hold steps w (eval run e h) ≡ ceased 16 row
     eval-none z = rw (eval-plan e n) (hold-step-none steps w row _ z)
 
-    eval-step : 0 < steps → hold steps w (eval run e h) ≡ hold (steps - 1) w (perform run row (eval-all run (elements e)) h (plan e h))
+    pub eval-step : 0 < steps → hold steps w (eval run e h) ≡ hold (steps - 1) w (perform run row (eval-all run (elements e)) h (plan e h))
     eval-step l = rw (eval-plan e n) (hold-step steps w row _ l)
 
 -- the values that a plan says are left are no deeper than 64 forms
@@ -188,20 +188,30 @@ module _ {s t w names : List ℕ} {sc : List Entry} {st : State} {row : ℕ} {e 
         }
 
     inside-goes : {first : ℕ} {after : After} → Performing s t w names sc st (Inside first after) row e h
-        → GoesInside s t w sc st (stepped st) row first e h after
+        → GoesInside s t w w names names sc st (stepped st) row first e h after
     inside-goes {first} {after} p = go (plan e h) refl (p .planned)
       where
         go : (q : Plan) → plan e h ≡ q → Planned s t w (st .floor) sc row (elements e) (Inside first after) q
-            → GoesInside s t w sc st (stepped st) row first e h after
-        go _ is (goes-inside _ k place f _ nodes finishes) =
-            record { skipped = k; place = place; finish = f; some-steps = p .steps; state = refl; plan-is = is; nodes = nodes; finishes = finishes }
+            → GoesInside s t w w names names sc st (stepped st) row first e h after
+        go _ is (goes-inside _ k place f _ nodes finishes) = record {
+          skipped = k;
+          place = place;
+          finish = f;
+          some-steps = p .steps;
+          state = refl;
+          plan-is = is;
+          nodes = nodes;
+          finishes = finishes;
+          same = refl;
+          same-names = refl;
+        }
 
     pub inside-begun : {first : ℕ} (after : After) → Performing s t w names sc st (Inside first after) row e h
         → Begun s t w w names names sc st row e h (hold (st .steps) (st .room) (eval run e h)) (going (stepped st) first after)
-    inside-begun Form p = (inside-goes p, tt, refl, refl)
-    inside-begun (Define key) p = (inside-goes p, tt, refl, refl)
-    inside-begun Concat p = (inside-goes p, tt, refl, refl)
-    inside-begun (Enters code visible) p = (inside-goes p, refl, refl)
+    inside-begun Form p = (inside-goes p, tt)
+    inside-begun (Define key) p = (inside-goes p, tt)
+    inside-begun Concat p = (inside-goes p, tt)
+    inside-begun (Enters code visible) p = inside-goes p
 
 -- the step is taken, and the task is planned
 pub begin-performs : {s t w names args : List ℕ} {bound row : ℕ} {sc : List Entry} {st : State} {stands : Stands} {code : Code} {task : Task}

@@ -9,7 +9,7 @@ use native.Mathlib.Omega.{arith}
 use native.Mathlib.Numerals.{add-one}
 use Rattle.writer.specs.Bytes.{put-at, Put}
 use Rattle.writer.proofs.Puts.{length-upto, length-put-at, put-at-more, stored}
-use Rattle.spec.specs.Expr.{Exprs, canonical}
+use Rattle.spec.specs.Expr.{Exprs, none, canonical}
 use Rattle.evaluator.specs.Completed.{Stand, Untouched}
 
 -- Parts
@@ -30,6 +30,10 @@ slice-take (suc a) (suc b) (x ∷ w) = let less : suc b - suc a ≡ b - a = omeg
 
 pub stand-size : {w : List ℕ} {from to : ℕ} {vs : Exprs} → Stand w from to vs → length (canonical vs) ≡ to - from
 stand-size {w} {from} {to} there = ap length (sym (there .bytes)) ∙ length-slice from to w (there .inside)
+
+pub stand-none : {w : List ℕ} (a : ℕ) → a ≤ length w → Stand w a a none
+unfolding canonical
+stand-none {w} a h = record { order = omega arith; inside = h; bytes = slice-empty a w }
 
 pub stand-part : {w : List ℕ} {from to : ℕ} {vs : Exprs} → Stand w from to vs → take (to - from) (drop from w) ≡ canonical vs
 stand-part {w} {from} {to} there = sym (slice-take from to w) ∙ there .bytes
