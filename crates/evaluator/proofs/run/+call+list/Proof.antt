@@ -348,50 +348,46 @@ module _ (t : ℕ) where
     abbrev lent : List Entry
     lent = entries (first .args .keys .now) (first .args .places .now) (first .args .scope)
 
-    some-calls : SomeCalling (first .args .s .now) (first .args .table .now) (first .args .w .now) (first .args .names .now) lent (first .args .visible) given-state (first .args .depth) (first .args .code) (first .args .start)
-    some-calls = subst (λ (x : Out). CanCall (first .args .s .now) (first .args .table .now) (first .args .w .now) (first .args .names .now) lent (first .args .visible) (first .args .depth) (first .args .code) (first .args .start) x) told (first .pre .1)
+    abbrev Can : Out → Type 0
+    Can out =
+        CanCall (first .args .s .now) (first .args .table .now) (first .args .w .now) (first .args .names .now) lent (first .args .visible)
+        (first .args .depth) (first .args .code) (first .args .start) out
 
-    calls-some : Calling (first .args .s .now) (first .args .table .now) (some-calls .bound) (some-calls .codes) (first .args .w .now) (first .args .names .now) lent (first .args .visible) given-state (first .args .depth) (first .args .code) (first .args .start) (some-calls .body) (some-calls .behind) (some-calls .here) (some-calls .values)
-    calls-some = some-calls .calls
-
-    call-answers : (w′ names′ : List ℕ) (left : Answer)
-        → Called (first .args .s .now) (first .args .table .now) (first .args .w .now) w′ (first .args .names .now) names′ lent (first .args .visible) (first .args .depth) (first .args .code) (first .args .start) (first .args .row) left (Done given-state)
-        → Called (first .args .s .now) (first .args .table .now) (first .args .w .now) w′ (first .args .names .now) names′ lent (first .args .visible) (first .args .depth) (first .args .code) (first .args .start) (first .args .row) left (first .args .out)
-    call-answers w′ names′ left f =
-        subst (λ (x : Out). Called (first .args .s .now) (first .args .table .now) (first .args .w .now) w′ (first .args .names .now) names′ lent (first .args .visible) (first .args .depth) (first .args .code) (first .args .start) (first .args .row) left x) (sym told) f
+    some-calls : Can (Done given-state)
+    some-calls = subst Can told (first .pre .1)
 
   call-returns-1 : call-lts.Need-returns call-calls (call-at t) call.Post
-  call-returns-1 c = call-answers (c .before) _ _ _ λ bound codes body behind h vs es z. call-refused z _ (c .if1 .taken)
+  call-returns-1 c = rw (told (c .before)) λ bound codes body behind h vs es z. call-refused z _ (c .if1 .taken)
 
   call-sub-spread : call-lts.Need-sub-spread call-calls (call-at t) call.Post
-  call-sub-spread c = calls-some (c .before .before .before) .stand .order
+  call-sub-spread c = some-calls (c .before .before .before) .calls .stand .order
 
   call-part-spread-start : call-lts.Need-part-spread-start call-calls (call-at t) call.Post
-  call-part-spread-start c = let z = calls-some (c .before .before .before .before) in search (needs, z .stand .order)
+  call-part-spread-start c = let z = some-calls (c .before .before .before .before) .calls in search (needs, z .stand .order)
 
   call-part-spread-end : call-lts.Need-part-spread-end call-calls (call-at t) call.Post
-  call-part-spread-end c = let z = calls-some (c .before .before .before .before) in search (needs, z .stand .inside)
+  call-part-spread-end c = let z = some-calls (c .before .before .before .before) .calls in search (needs, z .stand .inside)
 
   call-spread-requires : call-lts.Need-spread-requires call-calls (call-at t) call.Post
   call-spread-requires c κs =
       let k = c .before .before .before .before .before .before in
-      let z = calls-some k in
+      let z = some-calls k .calls in
       (omega (arith, part-size z (first k .args .row), z .stand .inside, z .fitting .short), (some-calls k .values, part-is z (first k .args .row), z .sound .0, z .sound .1))
 
   call-add-list : call-lts.Need-add-list call-calls (call-at t) call.Post
-  call-add-list c = let z = calls-some (c .before .before .before .before .before .before .before) in search (needs, c .before .before .before .before .before .before .if1 .left)
+  call-add-list c = let z = some-calls (c .before .before .before .before .before .before .before) .calls in search (needs, c .before .before .before .before .before .before .if1 .left)
 
   call-back-to-requires : call-lts.Need-back-to-requires call-calls (call-at t) call.Post
   call-back-to-requires c κs =
       let k = c .before .before .before .before .before .before .before .before .before .before .before .before in
       let a = first k .args in
-      omega (arith, entries-length (a .keys .now) (a .places .now) (a .scope .len), calls-some k .visible-in)
+      omega (arith, entries-length (a .keys .now) (a .places .now) (a .scope .len), some-calls k .calls .visible-in)
 
   call-add-list-2 : call-lts.Need-add-list-2 call-calls (call-at t) call.Post
-  call-add-list-2 c = let z = calls-some (c .before .before .before .before .before .before .before .before .before .before .before .before .before) in search (needs, z .at .form .few)
+  call-add-list-2 c = let z = some-calls (c .before .before .before .before .before .before .before .before .before .before .before .before .before) .calls in search (needs, z .at .form .few)
 
   call-next-requires : call-lts.Need-next-requires call-calls (call-at t) call.Post
-  call-next-requires c κs = calls-some (c .before .before .before .before .before .before .before .before .before .before .before .before .before) .at .form .inside
+  call-next-requires c κs = some-calls (c .before .before .before .before .before .before .before .before .before .before .before .before .before) .calls .at .form .inside
 
   -- where the code is run
   module _ (c : call-lts.After-next call-calls (call-at t) call.Post) where
@@ -418,29 +414,27 @@ module _ (t : ℕ) where
   call-list-requires c κs =
       let y = some-calls (k c) in
       let steps = ap steps-of (told (k c)) in
-      (omega (arith, steps, first (k c) .pre .0), record { bound = y .bound; codes = y .codes - 1; nodes = _; place = _; here = _; ready = body-ready c (calls-some (k c)) })
+      (omega (arith, steps, first (k c) .pre .0), record { bound = y .bound; codes = y .codes - 1; nodes = _; place = _; here = _; ready = body-ready c (some-calls (k c) .calls) })
 
   call-returned-requires : call-lts.Need-returned-requires call-calls (call-at t) call.Post
   call-returned-requires c κs =
       let n = c .before .before .before .before in
       let y = some-calls (k n) in
-      let z = calls-some (k n) in
+      let z = some-calls (k n) .calls in
       ((y .body, z .at), call-can-return z (first (k n) .args .row) (n .before .before .before .before .before .before .before .before .before .before .before .before .before .if1 .left) (c .before .before .before .list .last .1 .1 .0) (c .before .before .before .list .last .1 .1 .1 .0) (c .before .before .before .list .result) (c .before .before .before .list .ensures .0 _ _ _ _ _ (body-ready n z)))
 
   call-returns-2 : call-lts.Need-returns-2 call-calls (call-at t) call.Post
-  call-returns-2 c =
-      let a = c .before .before .before .before .before .before .args in
-      subst (λ (x : Out). Called (a .s .now) (a .table .now) (a .w .now) (a .w .now) (a .names .now) (a .names .now) (entries (a .keys .now) (a .places .now) (a .scope)) (a .visible) (a .depth) (a .code) (a .start) (a .row) (Stopped (c .before .out .given .0 .0) (c .before .out .given .0 .1 .0)) x) (sym (c .before .out .given .1)) refl
+  call-returns-2 c = rw (c .before .out .given .1) refl
 
   call-returns-3 : call-lts.Need-returns-3 call-calls (call-at t) call.Post
   call-returns-3 c =
       let n = c .before .before .before .before .before .before .before .before in
-      call-answers (k n) _ _ _ λ bound codes body behind h vs es z.
-      let m = c .before .before .before .before .before .before .before .list .ensures .0 _ _ _ _ _ (body-ready n z) in
-      subst (λ (x : Answer). LeftBy (first (k n) .args .s .now) (first (k n) .args .table .now) (first (k n) .args .w .now) (c .before .before .before .returned .last .1 .1 .0) (c .before .before .before .before .before .before .before .list .last .1 .1 .1 .0) es
-      (with-top (given-state (k n)) (given-state (k n) .room) (first (k n) .args .start)) h (hold (given-state (k n) .steps) (given-state (k n) .room) (finish (run-code codes) (first (k n) .args .row) h (as-call body behind) vs)) x)
-      (sym (c .leaves .ensures))
-      (call-returns z (first (k n) .args .row) (n .before .before .before .before .before .before .before .before .before .before .before .before .before .if1 .left) (c .before .before .before .before .before .before .before .list .last .1 .1 .0) (c .before .before .before .before .before .before .before .list .last .1 .1 .1 .0) (c .before .before .before .before .before .before .before .list .result) (c .before .before .before .returned .last .1 .1 .0) es (c .before .before .before .returned .result) m (c .before .before .before .returned .ensures))
+      let ran = c .before .before .before .before .before .before .before .list in
+      let returned = c .before .before .before .returned in
+      rw (told (k n), c .leaves .ensures) λ bound codes body behind h vs es z.
+      call-returns z (first (k n) .args .row) (n .before .before .before .before .before .before .before .before .before .before .before .before .before .if1 .left)
+      (ran .last .1 .1 .0) (ran .last .1 .1 .1 .0) (ran .result) (returned .last .1 .1 .0) es (returned .result)
+      (ran .ensures .0 _ _ _ _ _ (body-ready n z)) (returned .ensures)
 
 pub +call+list-spec : {M : Type 1} → statement M
 +call+list-spec = close μ-call μ-list
