@@ -8,12 +8,12 @@ use lib.ListN.{length, drop}
 use Rattle.spec.specs.Nodes.{Node, leaf, branch, Nodes, empty, cons, elements}
 use Rattle.spec.specs.Runs.{done, Run}
 use Rattle.spec.specs.Plan.{Scope as Definitions, Place, Here, Finish, as-call, inside, plan}
-use Rattle.spec.specs.Evaluation.{Left, Call, finish, eval, run-code}
-use Rattle.laws.specs.Holding.{Held, ceased, hold, and-hold, NotTop, in-list, skip}
-use Rattle.laws.proofs.Holding.{hold-kept, hold-step, hold-inside}
+use Rattle.spec.specs.Evaluation.{Left, finish, run-code}
+use Rattle.laws.specs.Holding.{Held, hold, and-hold, NotTop, in-list, skip}
+use Rattle.laws.proofs.Holding.{hold-kept, hold-inside}
 use Rattle.laws.proofs.Singles.{SingleScope, call-single, in-list-single, in-list-pair, in-list-stays}
 use Rattle.laws.proofs.Values.{FitsNode, FitsNodes, call-sound, in-list-left}
-use Rattle.evaluator.specs.Stands.{next, row-of}
+use Rattle.evaluator.specs.Stands.{next}
 use Rattle.evaluator.specs.Entries.{Entry}
 use Rattle.evaluator.specs.Named.{Named}
 use Rattle.evaluator.specs.Completed.{Untouched, with-top}
@@ -29,7 +29,6 @@ use Rattle.evaluator.specs.declared.plan.After.{After}
 use Rattle.evaluator.specs.declared.plan.After.the-variants.{Call as Enters}
 use Rattle.evaluator.specs.declared.element.Left.{Left as Answer}
 use Rattle.evaluator.specs.declared.element.Left.the-variants.{Values, Defined, Stopped}
-use Rattle.evaluator.proofs.Nodes.{node-row}
 use Rattle.evaluator.proofs.Shown.{shows-kept}
 use Rattle.evaluator.proofs.Places.{untouched-then}
 use Rattle.evaluator.proofs.Begins.{eval-step}

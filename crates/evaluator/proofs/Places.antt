@@ -140,8 +140,11 @@ moved-none w from to at h =
     let here : at + 0 ≡ at = omega arith in
     rw (h, slice-empty to w, here, append-nil (take at w)) (take-append-drop at w)
 
-pub moved-length : (w : List ℕ) (from to at : ℕ) → to ≤ length w → at + (to - from) ≤ length w → length (moved w from to at) ≡ length w
-moved-length w from to at h h′ = length-put-at w at (slice from to w) (omega (arith, length-slice from to w h))
+-- the bytes from one place up to another are moved; i of n are or are left
+pub record Moving (w₀ w : List ℕ) (i n from to at : ℕ) : Type 0 where
+  pub few : i ≤ n
+  pub size : length w ≡ length w₀
+  pub is : w ≡ moved w₀ from to at
 
 -- one byte more, of those behind, to a lower place
 pub moved-next : (w : List ℕ) (from at i : ℕ) → at ≤ from → from + i < length w → let w′ = moved w from (from + i) at in

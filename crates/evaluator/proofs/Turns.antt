@@ -10,15 +10,14 @@ use lib.Seq.{slice}
 use lib.Dec.{eqb}
 use Rattle.spec.specs.Expr.{some, Exprs, none, append, canonical}
 use Rattle.spec.specs.Nodes.{Node, Nodes, empty, cons, markers, markers-all}
-use Rattle.spec.specs.Runs.{done}
 use Rattle.spec.specs.Plan.{Place, top, element, inner, Here}
 use Rattle.spec.specs.Evaluation.{Left, standing, add-definition, eval, run-code}
 use Rattle.laws.specs.Holding.{Held, kept, ceased, hold, and-hold, beyond, together, in-list}
 use Rattle.laws.proofs.Canonical.{canonical-append}
 use Rattle.laws.proofs.Prefix.{append-append}
 use Rattle.laws.proofs.Holding.{and-hold-same, and-hold-twice, hold-kept, hold-list, hold-list-empty}
-use Rattle.laws.proofs.Singles.{append-none, SingleScope, eval-stays, eval-scope}
-use Rattle.laws.proofs.Values.{FitsNode, FitsNodes, SoundHere, eval-sound, run-code-sound}
+use Rattle.laws.proofs.Singles.{append-none, eval-stays, eval-scope}
+use Rattle.laws.proofs.Values.{FitsNode, FitsNodes, eval-sound, run-code-sound}
 use Rattle.evaluator.specs.Stands.{next, NodeAt, NodesAt}
 use Rattle.evaluator.specs.Entries.{Entry}
 use Rattle.evaluator.specs.Named.{Named}

@@ -10,14 +10,12 @@ use borrow.Author.Needs.{needs}
 use borrow.Fn.Kinds.{In}
 use borrow.Fn.PlainCycle.{Measures, is, falls, and}
 use Rattle.spec.specs.Expr.{Exprs}
-use Rattle.spec.specs.Nodes.{Node, Nodes, elements}
-use Rattle.spec.specs.Plan.{Scope as Definitions, Place, inner, Here, as-call}
-use Rattle.spec.specs.Evaluation.{Left, finish, run-code}
-use Rattle.laws.specs.Holding.{Held, hold, in-list, skip}
+use Rattle.spec.specs.Nodes.{Nodes}
+use Rattle.spec.specs.Plan.{Scope as Definitions, inner, Here}
+use Rattle.spec.specs.Evaluation.{run-code}
 use Rattle.evaluator.specs.Stands.{next}
 use Rattle.evaluator.specs.Entries.{Entry, entries}
-use Rattle.evaluator.specs.Completed.{with-top}
-use Rattle.evaluator.specs.Listed.{Ready, SomeReady, Met, LeftBy, GoesInside, stands-in, Begun, Beginning, SomeBeginning, CanFinish, Finished, Calling, SomeCalling, CanCall, Called}
+use Rattle.evaluator.specs.Listed.{Ready, SomeReady, LeftBy, stands-in, Begun, Calling, CanCall}
 use Rattle.evaluator.specs.declared.values.State.{State}
 use Rattle.evaluator.specs.declared.plan.Stands.{Stands}
 use Rattle.evaluator.specs.declared.plan.Stands.the-variants.{Inner}
@@ -26,9 +24,7 @@ use Rattle.evaluator.specs.declared.scope.Scope.{Scope}
 use Rattle.evaluator.specs.declared.values.Out.{Out}
 use Rattle.evaluator.specs.declared.values.Out.the-variants.{Done}
 use Rattle.evaluator.specs.declared.element.Left.{Left as Answer}
-use Rattle.evaluator.specs.declared.element.Left.the-variants.{Stopped}
 use Rattle.evaluator.specs.declared.element.Step.{Step}
-use Rattle.evaluator.specs.declared.element.Step.the-variants.{Inside, Enter}
 use Rattle.evaluator.proofs.Nodes.{node-whole}
 use Rattle.evaluator.proofs.Entries.{entries-length, entries-under, entries-behind}
 use Rattle.evaluator.proofs.Turns.{held-list, Going, going-start, going-over, going-more, standing-here, held-next, going-begins, going-ceased, going-values, going-definition}
