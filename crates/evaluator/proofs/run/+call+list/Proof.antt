@@ -9,16 +9,13 @@ use lib.ListN.{length, drop}
 use borrow.Author.Needs.{needs}
 use borrow.Fn.Kinds.{In}
 use borrow.Fn.PlainCycle.{Measures, is, falls, and}
-use Rattle.spec.specs.Expr.{Exprs}
-use Rattle.spec.specs.Nodes.{Nodes}
-use Rattle.spec.specs.Plan.{Scope as Definitions, inner, Here}
+use Rattle.spec.specs.Plan.{inner}
 use Rattle.spec.specs.Evaluation.{run-code}
 use Rattle.evaluator.specs.Stands.{next}
 use Rattle.evaluator.specs.Entries.{Entry, entries}
-use Rattle.evaluator.specs.Listed.{Ready, SomeReady, LeftBy, stands-in, Begun, Calling, CanCall}
+use Rattle.evaluator.specs.Listed.{SomeReady, LeftBy, stands-in, Begun, CanCall}
 use Rattle.evaluator.specs.declared.values.State.{State}
 use Rattle.evaluator.specs.declared.plan.Stands.{Stands}
-use Rattle.evaluator.specs.declared.plan.Stands.the-variants.{Inner}
 use Rattle.evaluator.specs.declared.plan.Code.{Code}
 use Rattle.evaluator.specs.declared.scope.Scope.{Scope}
 use Rattle.evaluator.specs.declared.values.Out.{Out}
@@ -29,7 +26,7 @@ use Rattle.evaluator.proofs.Nodes.{node-whole}
 use Rattle.evaluator.proofs.Entries.{entries-length, entries-under, entries-behind}
 use Rattle.evaluator.proofs.Turns.{held-list, Going, going-start, going-over, going-more, standing-here, held-next, going-begins, going-ceased, going-values, going-definition}
 use Rattle.evaluator.proofs.Insides.{steps-of, inside-some, inside-fewer, inside-can-finish, inside-finishes, enter-fewer, inside-can-call, inside-calls}
-use Rattle.evaluator.proofs.Calling.{in-body, part-is, part-size, call-arguments, call-refused, call-ready, call-can-return, call-returns}
+use Rattle.evaluator.proofs.Calling.{part-is, part-size, call-refused, call-ready, call-can-return, call-returns}
 use Rattle.evaluator.proofs.run.call.Reads as call
 use Rattle.evaluator.proofs.run.call.Kinds as call-kinds
 use Rattle.evaluator.proofs.run.+call+list.Lts-call as call-lts
@@ -368,7 +365,7 @@ module _ (t : ℕ) where
   call-spread-requires c κs =
       let k = c .before .before .before .before .before .before in
       let z = some-calls k .calls in
-      (omega (arith, part-size z (first k .args .row), z .stand .inside, z .fitting .short), (some-calls k .values, part-is z (first k .args .row), z .sound .0, z .sound .1))
+      (omega (arith, part-size z, z .stand .inside, z .fitting .short), (some-calls k .values, part-is z, z .sound .0, z .sound .1))
 
   call-add-list : call-lts.Need-add-list call-calls (call-at t) call.Post
   call-add-list c = let z = some-calls (c .before .before .before .before .before .before .before) .calls in search (needs, c .before .before .before .before .before .before .if1 .left)
@@ -390,34 +387,35 @@ module _ (t : ℕ) where
     abbrev k : call-lts.After-known-told2 call-calls (call-at t) call.Post
     k = c .before .before .before .before .before .before .before .before .before .before .before .before .before .before
 
-    -- of the entries that are lent, those behind the code's definition
-    abbrev inner-shown : List Entry
-    inner-shown = let a = first k .args in entries (a .keys .now) (a .places .now) (c .before .back-to .result)
+    abbrev spread-in : call-lts.After-spread call-calls (call-at t) call.Post
+    spread-in = c .before .before .before .before .before .before .before
 
-    behind-code : inner-shown ≡ drop (length (lent k) - first k .args .visible) (lent k)
+    few-codes : first k .args .depth < 32
+    few-codes = c .before .before .before .before .before .before .before .before .before .before .before .before .before .if1 .left
+
+    -- of the entries that are lent, those behind the code's definition are visible
+    behind-code : let a = first k .args in entries (a .keys .now) (a .places .now) (c .before .back-to .result) ≡ drop (length (lent k) - a .visible) (lent k)
     behind-code =
         let a = first k .args in
         c .before .back-to .ensures (a .keys .now) (a .places .now)
         ∙ ap (λ (n : ℕ). drop (n - a .visible) (lent k)) (sym (entries-length (a .keys .now) (a .places .now) (a .scope .len)))
 
-    body-ready : {bound codes : ℕ} {body : Nodes} {behind : Definitions} {h : Here} {vs : Exprs} (z : Calling (first k .args .s .now) (first k .args .table .now) bound codes (first k .args .w .now) (first k .args .names .now) (lent k) (first k .args .visible) (given-state k) (first k .args .depth) (first k .args .code) (first k .args .start) body behind h vs)
-        → Ready (first k .args .s .now) (first k .args .table .now) bound (codes - 1) (first k .args .w .now) (first k .args .names .now) (c .before .before .before .before .before .before .before .spread .last .1 .1 .0) inner-shown (given-state k) Inner
-        (record { depth = first k .args .depth + 1; count = c .before .before .before .before .before .before .before .spread .result; to = given-state k .top }) (first k .args .code + 2) (c .next .result) body inner (in-body z (first k .args .row))
-    body-ready z =
-        call-ready z (first k .args .row) (c .before .before .before .before .before .before .before .before .before .before .before .before .before .if1 .left) _ _ _ _ (c .next .ensures) behind-code (call-arguments z (first k .args .row) _ _ (c .before .before .before .before .before .before .before .spread .ensures))
-
   call-list-requires : call-lts.Need-list-requires call-calls (call-at t) call.Post
   call-list-requires c κs =
       let y = some-calls (k c) in
       let steps = ap steps-of (told (k c)) in
-      (omega (arith, steps, first (k c) .pre .0), record { bound = y .bound; codes = y .codes - 1; nodes = _; place = _; here = _; ready = body-ready c (some-calls (k c) .calls) })
+      let ready = call-ready (y .calls) (few-codes c) _ _ (c .next .ensures) (behind-code c) (spread-in c .spread .ensures) in
+      (omega (arith, first (k c) .pre .0), record { bound = y .bound; codes = y .codes - 1; nodes = _; place = _; here = _; ready = ready })
 
   call-returned-requires : call-lts.Need-returned-requires call-calls (call-at t) call.Post
   call-returned-requires c κs =
       let n = c .before .before .before .before in
-      let y = some-calls (k n) in
-      let z = some-calls (k n) .calls in
-      ((y .body, z .at), call-can-return z (first (k n) .args .row) (n .before .before .before .before .before .before .before .before .before .before .before .before .before .if1 .left) (c .before .before .before .list .last .1 .1 .0) (c .before .before .before .list .last .1 .1 .1 .0) (c .before .before .before .list .result) (c .before .before .before .list .ensures .0 _ _ _ _ _ (body-ready n z)))
+      let l = c .before .before .before .list in
+      let y = some-calls (k n) in (
+        (y .body, y .calls .at),
+        call-can-return (y .calls) (few-codes n) _ _ (n .next .ensures) (behind-code n) (spread-in n .spread .ensures) (l .last .1 .1 .0) (l .last .1 .1 .1 .0)
+            (l .result) (l .ensures .0),
+      )
 
   call-returns-2 : call-lts.Need-returns-2 call-calls (call-at t) call.Post
   call-returns-2 c = rw (c .before .out .given .1) refl
@@ -425,12 +423,11 @@ module _ (t : ℕ) where
   call-returns-3 : call-lts.Need-returns-3 call-calls (call-at t) call.Post
   call-returns-3 c =
       let n = c .before .before .before .before .before .before .before .before in
-      let ran = c .before .before .before .before .before .before .before .list in
+      let l = c .before .before .before .before .before .before .before .list in
       let returned = c .before .before .before .returned in
       rw (told (k n), c .leaves .ensures) λ bound codes body behind h vs es z.
-      call-returns z (first (k n) .args .row) (n .before .before .before .before .before .before .before .before .before .before .before .before .before .if1 .left)
-      (ran .last .1 .1 .0) (ran .last .1 .1 .1 .0) (ran .result) (returned .last .1 .1 .0) es (returned .result)
-      (ran .ensures .0 _ _ _ _ _ (body-ready n z)) (returned .ensures)
+      call-returns z (few-codes n) _ _ (n .next .ensures) (behind-code n) (spread-in n .spread .ensures) (l .last .1 .1 .0) (l .last .1 .1 .1 .0)
+      (l .result) (l .ensures .0) (first (k n) .args .row) (returned .last .1 .1 .0) es (returned .result) (returned .ensures)
 
 pub +call+list-spec : {M : Type 1} → statement M
 +call+list-spec = close μ-call μ-list
