@@ -37,17 +37,17 @@ use Rattle.evaluator.proofs.Places.{untouched-none}
 -- Values completed
 
 -- `from` is the state before all that the values replace
-completed-from : (s t w w′ names′ : List ℕ) (sc : List Entry) (from st : State) (start row : ℕ) (vs : Exprs) (h h′ : Here) (out : Out)
-    → from .top ≡ start → from .floor ≡ st .floor → Fitting w st → start ≤ st .top → h′ .scope ≡ h .scope → Named s t names′ (h′ .namespaces)
-    → st .names ≡ length (h′ .namespaces) → st .names ≤ 64 → Completed w w′ st start row vs out
+pub completed-left : (s t w w′ names′ : List ℕ) (sc : List Entry) (from st : State) (row : ℕ) (vs : Exprs) (h h′ : Here) (out : Out)
+    → from .floor ≡ st .floor → Fitting w st → from .top ≤ st .top → h′ .scope ≡ h .scope → Named s t names′ (h′ .namespaces)
+    → st .names ≡ length (h′ .namespaces) → st .names ≤ 64 → Completed w w′ st (from .top) row vs out
     → LeftBy s t w w′ names′ sc from h (hold (st .steps) (st .room) (complete row vs h′)) (as-left out)
-completed-from s t w w′ names′ sc from st start row vs h h′ (Done st′) top floor fits order scope named counted most k =
+completed-left s t w w′ names′ sc from st row vs h h′ (Done st′) floor fits order scope named counted most k =
     rw (k .state) record {
       over = record {
         left = record { values = vs; here = h′ };
         is = hold-complete (st .steps) (st .room) row vs h′ (k .shallow) (k .charged);
-        stand = rw top (k .stand);
-        others = rw (top, floor) (k .others);
+        stand = k .stand;
+        others = rw floor (k .others);
         floor = sym floor;
         paid = omega (arith, fits .paid, k .charged);
         namespaces = named;
@@ -56,19 +56,11 @@ completed-from s t w w′ names′ sc from st start row vs h h′ (Done st′) t
       };
       scope = scope;
     }
-completed-from s t w w′ names′ sc from st start row vs h h′ (Refused number at) top floor fits order scope named counted most (is, why) =
-    rw is (go number why)
+completed-left s t w w′ names′ sc from st row vs h h′ (Refused number at) floor fits order scope named counted most (is, why) = rw is (go number why)
   where
     go : (number : ℕ) → Incomplete st vs number → hold (st .steps) (st .room) (complete row vs h′) ≡ ceased number row
     go _ (too-deep deep) = hold-complete-deep (st .steps) (st .room) row vs h′ deep
     go _ (too-long shallow long) = hold-complete-none (st .steps) (st .room) row vs h′ shallow long
-
-pub completed-left : (s t w w′ names′ : List ℕ) (sc : List Entry) (st : State) (start row : ℕ) (vs : Exprs) (h h′ : Here) (out : Out)
-    → Fitting w st → start ≤ st .top → h′ .scope ≡ h .scope → Named s t names′ (h′ .namespaces) → st .names ≡ length (h′ .namespaces)
-    → st .names ≤ 64 → Completed w w′ st start row vs out
-    → LeftBy s t w w′ names′ sc (with-top st (st .room) start) h (hold (st .steps) (st .room) (complete row vs h′)) (as-left out)
-completed-left s t w w′ names′ sc st start row vs h h′ out =
-    completed-from s t w w′ names′ sc (with-top st (st .room) start) st start row vs h h′ out refl refl
 
 -- Evaluation by the plan
 
@@ -150,8 +142,7 @@ module _ {s t w names : List ℕ} {sc : List Entry} {st : State} {row : ℕ} {e 
         → Completed w w′ (stepped st) (st .top) row vs out → LeftBy s t w w′ names sc st h (hold (st .steps) (st .room) (eval run e h)) (as-left out)
     leave-begun vs w′ out p is c =
         rw (performed p, is)
-        (completed-from s t w w′ names sc st (stepped st) (st .top) row vs h h out refl refl (fits-stepped p) (omega arith) refl
-        (p .namespaces) (p .counted) (p .most) c)
+        (completed-left s t w w′ names sc st (stepped st) row vs h h out refl (fits-stepped p) (omega arith) refl (p .namespaces) (p .counted) (p .most) c)
 
     pub associate-begun : {entry : ℕ} (w′ : List ℕ) (out : Out) → length names ≡ 64 → Performing s t w names sc st (Ns entry) row e h
         → (a : Associates s t row entry (plan e h))
@@ -163,8 +154,8 @@ module _ {s t w names : List ℕ} {sc : List Entry} {st : State} {row : ℕ} {e 
         let few : st .names < 64 = p .fewer m (a .name) id (a .plan-is) in
         let more = named-added s t names (h .namespaces) m (row + 3) id (p .namespaces) (omega (arith, p .counted)) (a .id-at) in
         rw (performed p, a .plan-is)
-        (completed-from s t w w′ (set names (st .names) entry) sc st (one-named (stepped st)) (st .top) row (ns-form m (a .name) id) h
-        (add-namespace (record { marker = m; id = id }) h) out refl refl (fits-with (st .steps - 1) (st .names + 1) (p .fitting)) (omega arith) refl
+        (completed-left s t w w′ (set names (st .names) entry) sc st (one-named (stepped st)) row (ns-form m (a .name) id) h
+        (add-namespace (record { marker = m; id = id }) h) out refl (fits-with (st .steps - 1) (st .names + 1) (p .fitting)) (omega arith) refl
         (rw (p .counted, a .is) more) (omega (arith, p .counted)) (omega arith) c)
 
     pub function-begun : {key code : ℕ} → Performing s t w names sc st (Function key code) row e h

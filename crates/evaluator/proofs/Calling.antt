@@ -29,7 +29,7 @@ use Rattle.evaluator.specs.declared.plan.Stands.the-variants.{Inner}
 use Rattle.evaluator.specs.declared.plan.Code.{Code}
 use Rattle.evaluator.proofs.Places.{slice-take, stand-size, stand-part, untouched-less}
 use Rattle.evaluator.proofs.Begins.{completed-left}
-use Rattle.evaluator.proofs.Insides.{left-from}
+use Rattle.evaluator.proofs.Insides.{left-from, Evaluated}
 
 module _ {s t : List ℕ} {bound codes : ℕ} {w names : List ℕ} {sc : List Entry} {visible : ℕ} {st : State} {depth code start : ℕ} {body : Nodes}
     {behind : Definitions} {h : Here} {vs : Exprs} (c : Calling s t bound codes w names sc visible st depth code start body behind h vs) where
@@ -112,8 +112,7 @@ module _ {s t : List ℕ} {bound codes : ℕ} {w names : List ℕ} {sc : List En
 
     -- the code was run
     module _ (w₁ names₁ : List ℕ) (out : Out)
-        (evaluated : (bound codes : ℕ) (es : Nodes) (p : Place) (h : Here) → Ready s t bound codes w names args sc′ st Inner inner-code (code + 2) past es p h
-        → Met s t w w₁ names₁ st (hold (st .steps) (st .room) (in-list (run-code codes) es p h)) out) where
+        (evaluated : Evaluated s t w names args sc′ st Inner inner-code (code + 2) past w₁ names₁ out) where
       met : Met s t w w₁ names₁ st body-held out
       met = evaluated bound (codes - 1) body inner in-body call-ready
 
@@ -142,8 +141,8 @@ module _ {s t : List ℕ} {bound codes : ℕ} {w names : List ℕ} {sc : List En
                 let us : Exprs = o .left .values in
                 let named : Named s t names₁ (h .namespaces) = rw (same-namespaces o) at (o .namespaces) in
                 let counted : st₁ .names ≡ length (h .namespaces) = o .counted ∙ ap length (same-namespaces o) in
-                left-from s t w w₁ w₂ names₁ es (with-top st (st .room) start) st₁ start h (call-held row) _ (as-left answer)
-                (untouched-less start (st .floor) (c .stand .order) (omega arith) (o .others)) refl (o .floor) (counted ∙ sym (c .counted)) (call-held-is ∙ rw (o .is))
-                (completed-left s t w₁ w₂ names₁ es st₁ start row (if one-value body then us else only (form us)) h h answer (r .fitting)
+                left-from s t w w₁ w₂ names₁ es (with-top st (st .room) start) st₁ h (call-held row) _ (as-left answer)
+                (untouched-less start (st .floor) (c .stand .order) (omega arith) (o .others)) (o .floor) (counted ∙ sym (c .counted)) (call-held-is ∙ rw (o .is))
+                (completed-left s t w₁ w₂ names₁ es (with-top st₁ (st₁ .room) start) st₁ row (if one-value body then us else only (form us)) h h answer refl (r .fitting)
                 (omega (arith, c .stand .order, o .stand .order)) refl named counted (o .most) (f us body r (c .at)))
             go (Refused n r) e f = rw f (call-held-is ∙ rw e)

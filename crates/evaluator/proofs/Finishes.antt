@@ -93,7 +93,7 @@ module _ (w w′ : List ℕ) (st : State) (start row : ℕ) where
   pub form-finished : (out : Out) → ((vs : Exprs) → Stand w start (st .top) vs → FitsAll vs → Completed w w′ st start row (only (form vs)) out)
       → Finished w w′ start row Form (as-left out) (Done st)
   form-finished out done s t names sc run h f vs by-form ready named counted most =
-      completed-left s t w w′ names sc st start row (only (form vs)) h h out (ready .fitting) (ready .stand .order) refl named counted most
+      completed-left s t w w′ names sc (with-top st (st .room) start) st row (only (form vs)) h h out refl (ready .fitting) (ready .stand .order) refl named counted most
       (done vs (ready .stand) (ready .sound .0))
 
   pub define-finished : (key : ℕ) (st′ : State) → Moved w w′ st start st′
@@ -142,7 +142,7 @@ module _ (w w′ : List ℕ) (st : State) (start row : ℕ) where
           → LeftBy s t w w′ names sc (with-top st (st .room) start) h (hold (st .steps) (st .room) (join row [] (more a (only b)) h)) (as-left r)
       go {a} {b} {r} (joined bs cs is is′ done) =
           rw (is, is′, join-arrays row bs cs h)
-          (completed-left s t w w′ names sc st start row (only (atom (array (bs ++ cs)))) h h r (ready .fitting) (ready .stand .order) refl named counted
+          (completed-left s t w w′ names sc (with-top st (st .room) start) st row (only (atom (array (bs ++ cs)))) h h r refl (ready .fitting) (ready .stand .order) refl named counted
           most done)
       go {a} {b} (no-arrays other) = rw (join-others row a b h other) (hold-stop (st .steps) (st .room) 11 row)
 

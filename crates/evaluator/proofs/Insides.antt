@@ -92,23 +92,24 @@ abbrev pub steps-of : Out → ℕ
 steps-of (Done st) = st .steps
 steps-of (Refused n r) = 0
 
-pub met-steps : (s t w w′ names′ : List ℕ) (st : State) (run : Run Left) (out : Out) → Met s t w w′ names′ st (hold (st .steps) (st .room) run) out
-    → steps-of out ≤ st .steps
-met-steps s t w w′ names′ st run (Done st′) o = omega (arith, hold-kept (st .steps) (st .room) run (o .left) (st′ .steps) (st′ .room) (o .is) .1)
-met-steps s t w w′ names′ st run (Refused n r) e = omega arith
+-- what is known of nodes that were evaluated, whichever they are
+abbrev pub Evaluated : List ℕ → List ℕ → List ℕ → List ℕ → List ℕ → List Entry → State → Stands → Code → ℕ → ℕ → List ℕ → List ℕ → Out → Type 0
+Evaluated s t w names args sc st stands code first end w′ names′ out =
+    (bound codes : ℕ) (es : Nodes) (p : Place) (h : Here) → Ready s t bound codes w names args sc st stands code first end es p h
+    → Met s t w w′ names′ st (hold (st .steps) (st .room) (in-list (run-code codes) es p h)) out
 
 -- what an expression leaves, counted from where its inside was done
-pub left-from : (s t w w₁ w₂ names : List ℕ) (sc : List Entry) (st st₁ : State) (start : ℕ) (h : Here) (held held₁ : Held Left) (left : Answer)
-    → Untouched w w₁ (st .top) (st .floor) → start ≡ st .top → st₁ .floor ≡ st .floor → st₁ .names ≡ st .names → held ≡ held₁
-    → LeftBy s t w₁ w₂ names sc (with-top st₁ (st₁ .room) start) h held₁ left → LeftBy s t w w₂ names sc st h held left
-left-from s t w w₁ w₂ names sc st st₁ start h held held₁ (Values st′) u top floor count same l =
+pub left-from : (s t w w₁ w₂ names : List ℕ) (sc : List Entry) (st st₁ : State) (h : Here) (held held₁ : Held Left) (left : Answer)
+    → Untouched w w₁ (st .top) (st .floor) → st₁ .floor ≡ st .floor → st₁ .names ≡ st .names → held ≡ held₁
+    → LeftBy s t w₁ w₂ names sc (with-top st₁ (st₁ .room) (st .top)) h held₁ left → LeftBy s t w w₂ names sc st h held left
+left-from s t w w₁ w₂ names sc st st₁ h held held₁ (Values st′) u floor count same l =
     let o = l .over in
     record {
       over = record {
         left = o .left;
         is = same ∙ o .is;
-        stand = rw top at (o .stand);
-        others = untouched-then u (rw (top, floor) at (o .others));
+        stand = o .stand;
+        others = untouched-then u (rw floor at (o .others));
         floor = o .floor ∙ floor;
         paid = o .paid;
         namespaces = o .namespaces;
@@ -117,19 +118,19 @@ left-from s t w w₁ w₂ names sc st st₁ start h held held₁ (Values st′) 
       };
       scope = l .scope;
     }
-left-from s t w w₁ w₂ names sc st st₁ start h held held₁ (Defined st′ key place) u top floor count same l = record {
+left-from s t w w₁ w₂ names sc st st₁ h held held₁ (Defined st′ key place) u floor count same l = record {
   definition = l .definition;
   is = same ∙ l .is;
   entry = l .entry;
   few = l .few;
-  others = untouched-then u (rw (top, floor) at (l .others));
-  top = l .top ∙ top;
+  others = untouched-then u (rw floor at (l .others));
+  top = l .top;
   floor = rw floor at (l .floor);
   paid = l .paid;
   namespaces = l .namespaces;
   counted = l .counted ∙ count;
 }
-left-from s t w w₁ w₂ names sc st st₁ start h held held₁ (Stopped n r) u top floor count same l = same ∙ l
+left-from s t w w₁ w₂ names sc st st₁ h held held₁ (Stopped n r) u floor count same l = same ∙ l
 
 module _ {s t : List ℕ} {bound codes : ℕ} {args : List ℕ} {stands : Stands} {code : Code} {end : ℕ} {w₀ w names : List ℕ} {sc : List Entry} {st₀ st : State}
     {row : ℕ} {held : Held Left} (g : Going s t bound codes args stands code end w₀ w names sc st₀ st row held) (on : row < end) where
@@ -224,18 +225,24 @@ module _ {s t : List ℕ} {bound codes : ℕ} {args : List ℕ} {stands : Stands
           (hold (st₁ .steps) (st₁ .room) (finish (run-code codes) row here (i .finish) (o .left .values))) left
           → LeftBy s t w w₂ names₂ sc st here (held-next g on) left
       inside-left w₂ names₂ left l =
-          left-from s t w w₁ w₂ names₂ sc st st₁ (st .top) here (held-next g on) _ left others-inside refl floor-inside
+          left-from s t w w₁ w₂ names₂ sc st st₁ here (held-next g on) _ left others-inside floor-inside
           (inside-counted ∙ sym (g .ready .setting .counted)) (held-is ∙ rw (o .is)) l
 
     -- where the rows inside were evaluated
     module _ {stands′ : Stands} {past : ℕ} (e : stands′ ≡ stands-in after) (e′ : past ≡ next t row) (w₁ names₁ : List ℕ) (out : Out)
-        (evaluated : (bound codes : ℕ) (es : Nodes) (p : Place) (h : Here) → Ready s t bound codes w′ names′ args sc st′ stands′ code first past es p h
-        → Met s t w′ w₁ names₁ st′ (hold (st′ .steps) (st′ .room) (in-list (run-code codes) es p h)) out) where
+        (evaluated : Evaluated s t w′ names′ args sc st′ stands′ code first past w₁ names₁ out) where
       abbrev InsideMet : Out → Type 0
       InsideMet x = Met s t w w₁ names₁ st′ inner-held x
 
       met : InsideMet out
       met = subst (λ (x : List ℕ). Met s t x w₁ names₁ st′ inner-held out) (i .same) (evaluated bound codes inner-nodes (i .place) here (inside-ready e e′))
+
+      pub inside-steps : steps-of out < st₀ .steps
+      inside-steps = go out met
+        where
+          go : (x : Out) → InsideMet x → steps-of x < st₀ .steps
+          go (Done st₁) o = omega (arith, inside-fewer, hold-kept (st′ .steps) (st′ .room) _ (o .left) (st₁ .steps) (st₁ .room) (o .is) .1)
+          go (Refused n r) h = omega (arith, inside-fewer)
 
       -- finished without running code
       module _ (plain : NoCall after) where
@@ -256,71 +263,51 @@ module _ {s t : List ℕ} {bound codes : ℕ} {args : List ℕ} {stands : Stands
                 (inside-named o) (inside-counted o) (o .most))
             go (Refused n r) h f = rw f (held-is ∙ rw h)
 
-  -- entering code
-  module _ {w′ names′ : List ℕ} {st′ : State} {first body-row visible : ℕ}
-      (i : GoesInside s t w w′ names names′ sc st st′ row first head here (Enters body-row visible)) where
-    entered : EnteredAt s t w (st .floor) sc body-row visible (i .finish)
-    entered = entered-at (i .finishes)
+      -- entering code, by the names that the entries and the depth have there
+      module _ {body-row visible : ℕ} {sc′ : List Entry} {depth : ℕ} (enters : after ≡ Enters body-row visible) (same : sc′ ≡ sc) (same′ : depth ≡ code .depth) where
+        entered : EnteredAt s t w (st .floor) sc body-row visible (i .finish)
+        entered = entered-at (rw enters at (i .finishes))
 
-    calling : {w₁ names₁ : List ℕ} {st₁ : State} (o : Over s t w w₁ names₁ st′ (inner-held i) st₁)
-        → Calling s t bound codes w₁ names₁ sc visible st₁ (code .depth) body-row (st .top) (entered .body) (entered .behind) here (o .left .values)
-    calling o =
-        let e = entered in
-        let f = inside-finishing i o in
-        let b = going-begins g on in
-        let plans : plan head here ≡ inside (i .skipped) (i .place) (as-call (e .body) (e .behind)) =
-        i .plan-is ∙ ap (λ (x : Finish). inside (i .skipped) (i .place) x) (e .is) in
-        let sound = call-sound bound head here (i .skipped) (i .place) (e .body) (e .behind) plans (b .fit) (b .sound) in
-        record {
-          at = e .at;
-          visible-in = e .few;
-          few = g .ready .setting .few;
-          shows = rw (floor-inside i o) (shows-kept s t w (st .floor) (others-inside i o) _ (e .behind) (e .shows));
-          fitting = f .fitting;
-          stand = f .stand;
-          sound = f .sound;
-          fit = sound .0;
-          scope-sound = sound .1;
-          single = call-single head here (i .skipped) (i .place) (e .body) (e .behind) plans (g .ready .single);
-          namespaces = inside-named i o;
-          counted = inside-counted i o;
-          most = o .most;
-          entered = g .ready .entered;
-        }
-
-    module _ {past : ℕ} (e : past ≡ next t row) (w₁ names₁ : List ℕ) (out : Out)
-        (evaluated : (bound codes : ℕ) (es : Nodes) (p : Place) (h : Here) → Ready s t bound codes w′ names′ args sc st′ Inner code first past es p h
-        → Met s t w′ w₁ names₁ st′ (hold (st′ .steps) (st′ .room) (in-list (run-code codes) es p h)) out) where
-      enter-met : Met s t w w₁ names₁ st′ (inner-held i) out
-      enter-met = met i refl e w₁ names₁ out evaluated
-
-      pub enter-fewer : steps-of out < st₀ .steps
-      enter-fewer = omega (arith, met-steps s t w w₁ names₁ st′ _ out enter-met, inside-fewer i)
-
-      -- by the names that the entries and the depth have there
-      module _ {sc′ : List Entry} {depth : ℕ} (same : sc′ ≡ sc) (same′ : depth ≡ code .depth) where
-        pub inside-can-call : CanCall s t w₁ names₁ sc′ visible depth body-row (st .top) out
-        inside-can-call = rw (same, same′) (go out enter-met)
-          where
-            go : (x : Out) → Met s t w w₁ names₁ st′ (inner-held i) x → CanCall s t w₁ names₁ sc visible (code .depth) body-row (st .top) x
-            go (Done st₁) o = record {
-              bound = bound;
-              codes = codes;
-              body = entered .body;
-              behind = entered .behind;
-              here = here;
-              values = o .left .values;
-              calls = calling o;
+        calling : {st₁ : State} (o : Over s t w w₁ names₁ st′ inner-held st₁)
+            → Calling s t bound codes w₁ names₁ sc visible st₁ (code .depth) body-row (st .top) (entered .body) (entered .behind) here (o .left .values)
+        calling o =
+            let c = entered in
+            let f = inside-finishing o in
+            let b = going-begins g on in
+            let plans : plan head here ≡ inside (i .skipped) (i .place) (as-call (c .body) (c .behind)) = rw (c .is) at (i .plan-is) in
+            let sound = call-sound bound head here (i .skipped) (i .place) (c .body) (c .behind) plans (b .fit) (b .sound) in
+            record {
+              at = c .at;
+              visible-in = c .few;
+              few = g .ready .setting .few;
+              shows = rw (floor-inside o) (shows-kept s t w (st .floor) (others-inside o) _ (c .behind) (c .shows));
+              fitting = f .fitting;
+              stand = f .stand;
+              sound = f .sound;
+              fit = sound .0;
+              scope-sound = sound .1;
+              single = call-single head here (i .skipped) (i .place) (c .body) (c .behind) plans (g .ready .single);
+              namespaces = inside-named o;
+              counted = inside-counted o;
+              most = o .most;
+              entered = g .ready .entered;
             }
+
+        pub inside-can-call : CanCall s t w₁ names₁ sc′ visible depth body-row (st .top) out
+        inside-can-call = rw (same, same′) (go out met)
+          where
+            go : (x : Out) → InsideMet x → CanCall s t w₁ names₁ sc visible (code .depth) body-row (st .top) x
+            go (Done st₁) o =
+                record { bound = bound; codes = codes; body = entered .body; behind = entered .behind; here = here; values = o .left .values; calls = calling o }
             go (Refused n r) h = tt
 
         pub inside-calls : (w₂ names₂ : List ℕ) (left : Answer) → Called s t w₁ w₂ names₁ names₂ sc′ visible depth body-row (st .top) row left out
             → LeftBy s t w w₂ names₂ sc st here (held-next g on) left
-        inside-calls w₂ names₂ left f = go out enter-met (rw (same, same′) at f)
+        inside-calls w₂ names₂ left f = go out met (rw (same, same′) at f)
           where
-            go : (x : Out) → Met s t w w₁ names₁ st′ (inner-held i) x → Called s t w₁ w₂ names₁ names₂ sc visible (code .depth) body-row (st .top) row left x
+            go : (x : Out) → InsideMet x → Called s t w₁ w₂ names₁ names₂ sc visible (code .depth) body-row (st .top) row left x
                 → LeftBy s t w w₂ names₂ sc st here (held-next g on) left
             go (Done st₁) o f =
-                inside-left i o w₂ names₂ left
+                inside-left o w₂ names₂ left
                 (rw (entered .is) (f bound codes (entered .body) (entered .behind) here (o .left .values) sc (calling o)))
-            go (Refused n r) h f = rw f (held-is i ∙ rw h)
+            go (Refused n r) h f = rw f (held-is ∙ rw h)

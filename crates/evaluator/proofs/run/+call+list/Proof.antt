@@ -25,7 +25,7 @@ use Rattle.evaluator.specs.declared.element.Step.{Step}
 use Rattle.evaluator.proofs.Nodes.{node-whole}
 use Rattle.evaluator.proofs.Entries.{entries-length, entries-under, entries-behind}
 use Rattle.evaluator.proofs.Turns.{held-list, Going, going-start, going-over, going-more, standing-here, held-next, going-begins, going-ceased, going-values, going-definition}
-use Rattle.evaluator.proofs.Insides.{steps-of, inside-some, inside-fewer, inside-can-finish, inside-finishes, enter-fewer, inside-can-call, inside-calls}
+use Rattle.evaluator.proofs.Insides.{steps-of, inside-some, inside-fewer, inside-can-finish, inside-finishes, inside-steps, inside-can-call, inside-calls}
 use Rattle.evaluator.proofs.Calling.{part-is, part-size, call-refused, call-ready, call-can-return, call-returns}
 use Rattle.evaluator.proofs.run.call.Reads as call
 use Rattle.evaluator.proofs.run.call.Kinds as call-kinds
@@ -208,8 +208,8 @@ module _ (t : ℕ) where
       let l = c .before .before .before .before .before .before .list2 in
       let g = going (turn k) (some (turn k)) in
       let b = begun k (some (turn k)) _ (c .before .before .before .before .before .before .before .before .before .before .before .before .inner2 .given .1) in (
-        omega (arith, enter-fewer g (on (turn k)) b (behind k .next .ensures) (l .last .1 .1 .0) (l .last .1 .1 .1 .0) (l .result) (l .ensures .0), start (turn k) .pre .0),
-        inside-can-call g (on (turn k)) b (behind k .next .ensures) (l .last .1 .1 .0) (l .last .1 .1 .1 .0) (l .result) (l .ensures .0) (l .ensures .1)
+        omega (arith, inside-steps g (on (turn k)) b refl (behind k .next .ensures) (l .last .1 .1 .0) (l .last .1 .1 .1 .0) (l .result) (l .ensures .0), start (turn k) .pre .0),
+        inside-can-call g (on (turn k)) b refl (behind k .next .ensures) (l .last .1 .1 .0) (l .last .1 .1 .1 .0) (l .result) (l .ensures .0) refl (l .ensures .1)
             (turn k .before .loop .inv .depth-is),
       )
 
@@ -246,8 +246,8 @@ module _ (t : ℕ) where
           (λ x. let b = begun k y _ (x .1 .given .1) in
           rw (x .15, x .16, x .19) (inside-finishes g (on (turn k)) (b .0) (x .7 .ensures) (behind k .next .ensures) (x .8 .last .1 .1 .0)
           (x .8 .last .1 .1 .1 .0) (x .8 .result) (x .8 .ensures .0) (b .1) (x .12 .last .0) (x .12 .result) (x .12 .ensures)))
-          (λ x. rw (x .17, x .18, x .21) (inside-calls g (on (turn k)) (begun k y _ (x .1 .given .1)) (behind k .next .ensures) (x .7 .last .1 .1 .0)
-          (x .7 .last .1 .1 .1 .0) (x .7 .result) (x .7 .ensures .0) (x .7 .ensures .1) (turn k .before .loop .inv .depth-is)
+          (λ x. rw (x .17, x .18, x .21) (inside-calls g (on (turn k)) (begun k y _ (x .1 .given .1)) refl (behind k .next .ensures) (x .7 .last .1 .1 .0)
+          (x .7 .last .1 .1 .1 .0) (x .7 .result) (x .7 .ensures .0) refl (x .7 .ensures .1) (turn k .before .loop .inv .depth-is)
           (x .14 .last .1 .1 .0) (x .14 .last .1 .1 .1 .0) (x .14 .result) (x .14 .ensures))) z) (c .match .came)
 
       left-as : (left : Answer) → c .match .left ≡ left → Leaving (turn (c .before)) y (c .match .w) (c .match .names) left
