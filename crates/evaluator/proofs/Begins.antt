@@ -36,17 +36,17 @@ use Rattle.evaluator.proofs.Places.{untouched-none}
 -- Values completed
 
 -- `from` is the state before all that the values replace
-completed-from : (s t w w′ names′ : List ℕ) (sc : List Entry) (from st : State) (start row : ℕ) (vs : Exprs) (h h′ : Here) (out : Out)
-    → from .top ≡ start → from .floor ≡ st .floor → Fitting w st → start ≤ st .top → h′ .scope ≡ h .scope → Named s t names′ (h′ .namespaces)
-    → st .names ≡ length (h′ .namespaces) → st .names ≤ 64 → Completed w w′ st start row vs out
+pub completed-left : (s t w w′ names′ : List ℕ) (sc : List Entry) (from st : State) (row : ℕ) (vs : Exprs) (h h′ : Here) (out : Out)
+    → from .floor ≡ st .floor → Fitting w st → from .top ≤ st .top → h′ .scope ≡ h .scope → Named s t names′ (h′ .namespaces)
+    → st .names ≡ length (h′ .namespaces) → st .names ≤ 64 → Completed w w′ st (from .top) row vs out
     → LeftBy s t w w′ names′ sc from h (hold (st .steps) (st .room) (complete row vs h′)) (as-left out)
-completed-from s t w w′ names′ sc from st start row vs h h′ (Done st′) top floor fits order scope named counted most k =
+completed-left s t w w′ names′ sc from st row vs h h′ (Done st′) floor fits order scope named counted most k =
     rw (k .state) record {
       over = record {
         left = record { values = vs; here = h′ };
         is = hold-complete (st .steps) (st .room) row vs h′ (k .shallow) (k .charged);
-        stand = rw top (k .stand);
-        others = rw (top, floor) (k .others);
+        stand = k .stand;
+        others = rw floor (k .others);
         floor = sym floor;
         paid = omega (arith, fits .paid, k .charged);
         namespaces = named;
@@ -55,19 +55,11 @@ completed-from s t w w′ names′ sc from st start row vs h h′ (Done st′) t
       };
       scope = scope;
     }
-completed-from s t w w′ names′ sc from st start row vs h h′ (Refused number at) top floor fits order scope named counted most (is, why) =
-    rw is (go number why)
+completed-left s t w w′ names′ sc from st row vs h h′ (Refused number at) floor fits order scope named counted most (is, why) = rw is (go number why)
   where
     go : (number : ℕ) → Incomplete st vs number → hold (st .steps) (st .room) (complete row vs h′) ≡ ceased number row
     go _ (too-deep deep) = hold-complete-deep (st .steps) (st .room) row vs h′ deep
     go _ (too-long shallow long) = hold-complete-none (st .steps) (st .room) row vs h′ shallow long
-
-pub completed-left : (s t w w′ names′ : List ℕ) (sc : List Entry) (st : State) (start row : ℕ) (vs : Exprs) (h h′ : Here) (out : Out)
-    → Fitting w st → start ≤ st .top → h′ .scope ≡ h .scope → Named s t names′ (h′ .namespaces) → st .names ≡ length (h′ .namespaces)
-    → st .names ≤ 64 → Completed w w′ st start row vs out
-    → LeftBy s t w w′ names′ sc (with-top st (st .room) start) h (hold (st .steps) (st .room) (complete row vs h′)) (as-left out)
-completed-left s t w w′ names′ sc st start row vs h h′ out =
-    completed-from s t w w′ names′ sc (with-top st (st .room) start) st start row vs h h′ out refl refl
 
 -- Evaluation by the plan
 
@@ -82,7 +74,7 @@ module _ (s t : List ℕ) (row : ℕ) (run : Call) (h : Here) where
     pub eval-none : steps ≡ 0 → hold steps w (eval run e h) ≡ ceased 16 row
     eval-none z = rw (eval-plan e n) (hold-step-none steps w row _ z)
 
-    eval-step : 0 < steps → hold steps w (eval run e h) ≡ hold (steps - 1) w (perform run row (eval-all run (elements e)) h (plan e h))
+    pub eval-step : 0 < steps → hold steps w (eval run e h) ≡ hold (steps - 1) w (perform run row (eval-all run (elements e)) h (plan e h))
     eval-step l = rw (eval-plan e n) (hold-step steps w row _ l)
 
 -- Tasks
@@ -138,8 +130,7 @@ module _ {s t w names : List ℕ} {sc : List Entry} {st : State} {row : ℕ} {e 
         → Completed w w′ (stepped st) (st .top) row vs out → LeftBy s t w w′ names sc st h (hold (st .steps) (st .room) (eval run e h)) (as-left out)
     leave-begun vs w′ out p is c =
         rw (performed p, is)
-        (completed-from s t w w′ names sc st (stepped st) (st .top) row vs h h out refl refl (fits-stepped p) (omega arith) refl
-        (p .namespaces) (p .counted) (p .most) c)
+        (completed-left s t w w′ names sc st (stepped st) row vs h h out refl (fits-stepped p) (omega arith) refl (p .namespaces) (p .counted) (p .most) c)
 
     pub associate-begun : {entry : ℕ} (w′ : List ℕ) (out : Out) → length names ≡ 64 → Performing s t w names sc st (Ns entry) row e h
         → (a : Associates s t row entry (plan e h))
@@ -151,8 +142,8 @@ module _ {s t w names : List ℕ} {sc : List Entry} {st : State} {row : ℕ} {e 
         let few : st .names < 64 = p .fewer m (a .name) id (a .plan-is) in
         let more = named-added s t names (h .namespaces) m (row + 3) id (p .namespaces) (omega (arith, p .counted)) (a .id-at) in
         rw (performed p, a .plan-is)
-        (completed-from s t w w′ (set names (st .names) entry) sc st (one-named (stepped st)) (st .top) row (ns-form m (a .name) id) h
-        (add-namespace (record { marker = m; id = id }) h) out refl refl (fits-with (st .steps - 1) (st .names + 1) (p .fitting)) (omega arith) refl
+        (completed-left s t w w′ (set names (st .names) entry) sc st (one-named (stepped st)) row (ns-form m (a .name) id) h
+        (add-namespace (record { marker = m; id = id }) h) out refl (fits-with (st .steps - 1) (st .names + 1) (p .fitting)) (omega arith) refl
         (rw (p .counted, a .is) more) (omega (arith, p .counted)) (omega arith) c)
 
     pub function-begun : {key code : ℕ} → Performing s t w names sc st (Function key code) row e h
@@ -176,20 +167,30 @@ module _ {s t w names : List ℕ} {sc : List Entry} {st : State} {row : ℕ} {e 
         }
 
     inside-goes : {first : ℕ} {after : After} → Performing s t w names sc st (Inside first after) row e h
-        → GoesInside s t w sc st (stepped st) row first e h after
+        → GoesInside s t w w names names sc st (stepped st) row first e h after
     inside-goes {first} {after} p = go (plan e h) refl (p .planned)
       where
         go : (q : Plan) → plan e h ≡ q → Planned s t w (st .floor) sc row (elements e) (Inside first after) q
-            → GoesInside s t w sc st (stepped st) row first e h after
-        go _ is (goes-inside _ k place f _ nodes finishes) =
-            record { skipped = k; place = place; finish = f; some-steps = p .steps; state = refl; plan-is = is; nodes = nodes; finishes = finishes }
+            → GoesInside s t w w names names sc st (stepped st) row first e h after
+        go _ is (goes-inside _ k place f _ nodes finishes) = record {
+          skipped = k;
+          place = place;
+          finish = f;
+          some-steps = p .steps;
+          state = refl;
+          plan-is = is;
+          nodes = nodes;
+          finishes = finishes;
+          same = refl;
+          same-names = refl;
+        }
 
     pub inside-begun : {first : ℕ} (after : After) → Performing s t w names sc st (Inside first after) row e h
         → Begun s t w w names names sc st row e h (hold (st .steps) (st .room) (eval run e h)) (going (stepped st) first after)
-    inside-begun Form p = (inside-goes p, tt, refl, refl)
-    inside-begun (Define key) p = (inside-goes p, tt, refl, refl)
-    inside-begun Concat p = (inside-goes p, tt, refl, refl)
-    inside-begun (Enters code visible) p = (inside-goes p, refl, refl)
+    inside-begun Form p = (inside-goes p, tt)
+    inside-begun (Define key) p = (inside-goes p, tt)
+    inside-begun Concat p = (inside-goes p, tt)
+    inside-begun (Enters code visible) p = inside-goes p
 
 -- the step is taken, and the task is planned
 pub begin-performs : {s t w names args : List ℕ} {bound row : ℕ} {sc : List Entry} {st : State} {stands : Stands} {code : Code} {task : Task}

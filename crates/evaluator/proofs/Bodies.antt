@@ -86,42 +86,51 @@ no-end s k w t end ends = not-taken (sym (around-failed k w t) ∙ ends .is)
 taken-from : (s : List ℕ) (p n : ℕ) → taken (natural 0 (take n (drop p s))) (drop n (drop p s)) ≡ taken (natural 0 (take (p + n - p) (drop p s))) (drop (p + n) s)
 taken-from s p n = let same : p + n - p ≡ n = omega arith in rw (same, drop-drop n p s)
 
--- the innermost array around a number
-pub record Inner (s : List ℕ) (k v p : ℕ) : Type 0 where
-  pub inside : v ≤ length s - p
-  pub is : around k (taken v (drop p s)) ≡ around (k - 1) (taken (natural 0 (take (p + v - p) (drop p s))) (drop (p + v) s))
+-- what was read of a stream is a number that ends at a place, with k arrays around it
+pub record Nested (s : List ℕ) (x : Taken ℕ) (k v p : ℕ) : Type 0 where
+  pub inside : p ≤ length s
+  pub is : x ≡ around k (taken v (drop p s))
 
-module _ (s : List ℕ) (end k v p : ℕ) (ends : EndsAt s (around k (taken v (drop p s))) end) where
-  pub inner : 0 < k → Inner s k v p
+-- the innermost of the arrays is that of as many bytes
+pub record Passing (s : List ℕ) (x : Taken ℕ) (k v p : ℕ) : Type 0 where
+  pub inside : p + v ≤ length s
+  pub short : natural 0 (take (p + v - p) (drop p s)) ≤ 65536
+  pub next : Nested s x (k - 1) (natural 0 (take (p + v - p) (drop p s))) (p + v)
+
+module _ {s : List ℕ} {x : Taken ℕ} {end k v p : ℕ} (ends : EndsAt s x end) (n : Nested s x k v p) where
+  inner : 0 < k → (v ≤ length s - p) × (x ≡ around (k - 1) (taken (natural 0 (take (p + v - p) (drop p s))) (drop (p + v) s)))
   unfolding take-bytes
-  inner h = go (leb v (length (drop p s))) refl (ap (λ (j : ℕ). around j (taken v (drop p s))) more ∙ around-inner (k - 1) v (drop p s))
+  inner h = go (leb v (length (drop p s))) refl (n .is ∙ ap (λ (j : ℕ). around j (taken v (drop p s))) more ∙ around-inner (k - 1) v (drop p s))
     where
       more : k ≡ suc (k - 1)
       more = omega arith
 
       go : (c : Bool) → leb v (length (drop p s)) ≡ c
-          → around k (taken v (drop p s)) ≡ around (k - 1) (and-then (if c then taken (take v (drop p s)) (drop v (drop p s)) else failed 2 []) as-length)
-          → Inner s k v p
-      go true t e = record {
-        inside = subst (λ (n : ℕ). v ≤ n) (length-drop p s) (leb-true v (length (drop p s)) t);
-        is = e ∙ ap (around (k - 1)) (taken-from s p v);
-      }
+          → x ≡ around (k - 1) (and-then (if c then taken (take v (drop p s)) (drop v (drop p s)) else failed 2 []) as-length)
+          → (v ≤ length s - p) × (x ≡ around (k - 1) (taken (natural 0 (take (p + v - p) (drop p s))) (drop (p + v) s)))
+      go true t e = (rw (length-drop p s) at (leb-true v (length (drop p s)) t), e ∙ ap (around (k - 1)) (taken-from s p v))
       go false t e = no-end s (k - 1) 2 [] end (ends-as e ends)
 
   module _ (whole : length s ≤ 65536) where
     -- a number with arrays around it is short
-    pub value-short : v ≤ 65536
+    value-short : v ≤ 65536
     unfolding around
-    value-short = go k ends (λ h. inner h .inside)
+    value-short = go k (n .is) (λ h. inner h .0)
       where
-        go : (j : ℕ) → EndsAt s (around j (taken v (drop p s))) end → (0 < j → v ≤ length s - p) → v ≤ 65536
-        go zero e inside = let same = same-taken (e .is) .0 in omega (arith, e .short)
+        go : (j : ℕ) → x ≡ around j (taken v (drop p s)) → (0 < j → v ≤ length s - p) → v ≤ 65536
+        go zero e inside = let same = same-taken (sym e ∙ ends .is) .0 in omega (arith, ends .short)
         go (suc j) e inside = omega (arith, inside (omega arith))
 
     -- with none around it, it ends where it stands
-    pub outermost : p ≤ length s → k ≡ 0 → EndsAt s (around k (taken v (drop p s))) p
+    pub nested-done : k ≡ 0 → EndsAt s x p
     unfolding around
-    outermost h none = record { number = v; left = drop p s; is = rw none; short = value-short; place = left-at s p h }
+    nested-done none = record { number = v; left = drop p s; is = n .is ∙ rw none; short = value-short; place = left-at s p (n .inside) }
+
+pub nested-next : {s : List ℕ} {x : Taken ℕ} {end k v p : ℕ} → EndsAt s x end → Nested s x k v p → length s ≤ 65536 → 0 < k → Passing s x k v p
+nested-next {s} {x} {k = k} {v} {p} ends n whole h =
+    let i = inner ends n h in
+    let next : Nested s x (k - 1) _ (p + v) = record { inside = omega (arith, i .0, n .inside); is = i .1 } in
+    record { inside = next .inside; short = value-short ends next whole; next = next }
 
 -- a plain length, with arrays around it
 module _ (s : List ℕ) (k p end : ℕ) (ends : EndsAt s (around k (plain (drop p s))) end) where
@@ -195,12 +204,10 @@ innermost s at depth end whole h e ends = record {
   int = λ l. all .is ∙ ap (around depth) (plain-int s depth (at + depth) end here l);
   array = λ l.
       let q = plain-array s depth (at + depth) end here l in
-      let is = all .is ∙ ap (around depth) (q .1) in
-      record {
-        inside = omega (arith, q .0, plain-inside s depth (at + depth) end here);
-        short = value-short s end depth _ (at + depth + 1 + (getD s (at + depth) 0 - 0xC0)) (ends-as is ends) whole;
-        is = is;
-      };
+      let to : ℕ = at + depth + 1 + (getD s (at + depth) 0 - 0xC0) in
+      let n : Nested s (length-expr 7 (drop at s)) depth _ to =
+      record { inside = omega (arith, q .0, plain-inside s depth (at + depth) end here); is = all .is ∙ ap (around depth) (q .1) } in
+      record { inside = n .inside; short = value-short ends n whole; is = n .is };
 }
   where
     all : BehindThrees s at depth

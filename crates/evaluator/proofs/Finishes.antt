@@ -18,15 +18,15 @@ use Rattle.laws.proofs.Fits.{FitsAll}
 use Rattle.laws.proofs.Holding.{hold-give, hold-stop}
 use Rattle.laws.proofs.Singles.{Single}
 use Rattle.evaluator.specs.Stands.{next, NodeAt, head-key}
-use Rattle.evaluator.specs.Entries.{pack}
+use Rattle.evaluator.specs.Entries.{pack, Entry}
 use Rattle.evaluator.specs.Completed.{Stand, with-top, Completed, Joined, joined, no-arrays, Defined as Moved}
 use Rattle.evaluator.specs.Planned.{CodeAt, value-at}
-use Rattle.evaluator.specs.Listed.{LeftBy, NoCall, FinishedBy, by-form, by-define, by-concat, Finishing, CanFinish, Finished, as-left}
+use Rattle.evaluator.specs.Listed.{LeftBy, NoCall, FinishedBy, by-form, by-define, by-concat, Finishing, Finished, as-left}
 use Rattle.evaluator.specs.declared.values.State.{State}
 use Rattle.evaluator.specs.declared.values.Out.{Out}
 use Rattle.evaluator.specs.declared.values.Out.the-variants.{Done}
 use Rattle.evaluator.specs.declared.plan.After.{After}
-use Rattle.evaluator.specs.declared.plan.After.the-variants.{Form, Define, Concat, Call as Enters}
+use Rattle.evaluator.specs.declared.plan.After.the-variants.{Form, Define, Concat}
 use Rattle.evaluator.specs.declared.element.Left.the-variants.{Defined}
 use Rattle.evaluator.proofs.Nodes.{MoreAt, nodes-done, nodes-more}
 use Rattle.evaluator.proofs.Keys.{headed-by-key, head-fits}
@@ -53,29 +53,18 @@ single-stands one there =
 
 -- What may be finished
 
-module _ {w : List ℕ} {start : ℕ} {st : State} where
-  pub can-define : (key : ℕ) → CanFinish w start (Define key) (Done st) → start < st .top
-  can-define key (sc, f, vs, by, ready) = go by ready
-    where
-      go : {k : ℕ} {g : Finish} → FinishedBy sc (Define k) g → Finishing w st start g vs → start < st .top
-      go (by-define m n fits few) r = single-stands (r .finishable) (r .stand)
+module _ {w : List ℕ} {start : ℕ} {st : State} {sc : List Entry} {vs : Exprs} where
+  pub can-define : {key : ℕ} {f : Finish} → FinishedBy sc (Define key) f → Finishing w st start f vs → start < st .top
+  can-define (by-define m n fits few) r = single-stands (r .finishable) (r .stand)
 
-  pub can-join : CanFinish w start Concat (Done st) → (a : Expr) × (b : Expr) × Stand w start (st .top) (more a (only b)) × FitsAll (more a (only b))
-  can-join (sc, f, vs, by, ready) = go by ready
-    where
-      go : {g : Finish} → FinishedBy sc Concat g → Finishing w st start g vs
-          → (a : Expr) × (b : Expr) × Stand w start (st .top) (more a (only b)) × FitsAll (more a (only b))
-      go by-concat r =
-          let two = r .finishable in
-          (two .0, two .1, rw (two .2) at (r .stand), rw (two .2) at (r .sound .0))
+  pub can-join : {f : Finish} → FinishedBy sc Concat f → Finishing w st start f vs
+      → (a : Expr) × (b : Expr) × Stand w start (st .top) (more a (only b)) × FitsAll (more a (only b))
+  can-join by-concat r = let two = r .finishable in (two .0, two .1, rw (two .2) at (r .stand), rw (two .2) at (r .sound .0))
 
-  pub no-call : (code visible : ℕ) → CanFinish w start (Enters code visible) (Done st) → ⊥
-  no-call code visible (sc, f, vs, by, ready) = go by
-    where
-      go : {a : After} {g : Finish} → FinishedBy sc a g → NoCall a
-      go by-form = tt
-      go (by-define m n fits few) = tt
-      go by-concat = tt
+pub no-call : {sc : List Entry} {after : After} {f : Finish} → FinishedBy sc after f → NoCall after
+no-call by-form = tt
+no-call (by-define m n fits few) = tt
+no-call by-concat = tt
 
 -- Two values joined
 
@@ -103,7 +92,7 @@ module _ (w w′ : List ℕ) (st : State) (start row : ℕ) where
   pub form-finished : (out : Out) → ((vs : Exprs) → Stand w start (st .top) vs → FitsAll vs → Completed w w′ st start row (only (form vs)) out)
       → Finished w w′ start row Form (as-left out) (Done st)
   form-finished out done s t names sc run h f vs by-form ready named counted most =
-      completed-left s t w w′ names sc st start row (only (form vs)) h h out (ready .fitting) (ready .stand .order) refl named counted most
+      completed-left s t w w′ names sc (with-top st (st .room) start) st row (only (form vs)) h h out refl (ready .fitting) (ready .stand .order) refl named counted most
       (done vs (ready .stand) (ready .sound .0))
 
   pub define-finished : (key : ℕ) (st′ : State) → Moved w w′ st start st′
@@ -152,7 +141,7 @@ module _ (w w′ : List ℕ) (st : State) (start row : ℕ) where
           → LeftBy s t w w′ names sc (with-top st (st .room) start) h (hold (st .steps) (st .room) (join row [] (more a (only b)) h)) (as-left r)
       go {a} {b} {r} (joined bs cs is is′ done) =
           rw (is, is′, join-arrays row bs cs h)
-          (completed-left s t w w′ names sc st start row (only (atom (array (bs ++ cs)))) h h r (ready .fitting) (ready .stand .order) refl named counted
+          (completed-left s t w w′ names sc (with-top st (st .room) start) st row (only (atom (array (bs ++ cs)))) h h r refl (ready .fitting) (ready .stand .order) refl named counted
           most done)
       go {a} {b} (no-arrays other) = rw (join-others row a b h other) (hold-stop (st .steps) (st .room) 11 row)
 

@@ -8,9 +8,9 @@ use lib.ListN.{length, drop}
 use Rattle.spec.specs.Nodes.{Node, leaf, branch, Nodes, empty, cons, elements}
 use Rattle.spec.specs.Runs.{done, Run, Held, ceased, hold}
 use Rattle.spec.specs.Plan.{Scope as Definitions, Place, Here, Finish, as-call, inside, plan}
-use Rattle.spec.specs.Evaluation.{Left, Call, finish, eval, run-code}
+use Rattle.spec.specs.Evaluation.{Left, finish, run-code}
 use Rattle.laws.specs.Holding.{and-hold, NotTop, in-list, skip}
-use Rattle.laws.proofs.Holding.{hold-kept, hold-step, hold-inside}
+use Rattle.laws.proofs.Holding.{hold-kept, hold-inside}
 use Rattle.laws.proofs.Singles.{SingleScope, call-single, in-list-single, in-list-pair, in-list-stays}
 use Rattle.laws.proofs.Values.{FitsNodes, elements-fit, call-sound, in-list-left}
 use Rattle.evaluator.specs.Stands.{next, row-of}
@@ -18,30 +18,21 @@ use Rattle.evaluator.specs.Entries.{Entry}
 use Rattle.evaluator.specs.Named.{Named}
 use Rattle.evaluator.specs.Completed.{Untouched, with-top}
 use Rattle.evaluator.specs.Planned.{CodeAt, Shows, Placed, at-element, at-inner, Finishes, form-finishes, define-finishes, concat-finishes, call-finishes, one-more, two-more}
-use Rattle.evaluator.specs.Listed.{Ready, Over, Met, LeftBy, GoesInside, stands-in, NoCall, FinishedBy, by-form, by-define, by-concat, Finishable, Finishing, CanFinish, Finished, Calling, CanCall, Called}
+use Rattle.evaluator.specs.Listed.{Ready, SomeReady, Over, Met, LeftBy, GoesInside, stands-in, NoCall, FinishedBy, by-form, by-define, by-concat, Finishable, Finishing, CanFinish, Finished, Calling, CanCall, Called}
 use Rattle.evaluator.specs.declared.values.State.{State}
 use Rattle.evaluator.specs.declared.values.Out.{Out}
 use Rattle.evaluator.specs.declared.values.Out.the-variants.{Done, Refused}
 use Rattle.evaluator.specs.declared.plan.Stands.{Stands}
+use Rattle.evaluator.specs.declared.plan.Stands.the-variants.{Inner}
 use Rattle.evaluator.specs.declared.plan.Code.{Code}
 use Rattle.evaluator.specs.declared.plan.After.{After}
 use Rattle.evaluator.specs.declared.plan.After.the-variants.{Call as Enters}
 use Rattle.evaluator.specs.declared.element.Left.{Left as Answer}
 use Rattle.evaluator.specs.declared.element.Left.the-variants.{Values, Defined, Stopped}
-use Rattle.evaluator.proofs.Nodes.{node-row}
 use Rattle.evaluator.proofs.Shown.{shows-kept}
 use Rattle.evaluator.proofs.Places.{untouched-then}
+use Rattle.evaluator.proofs.Begins.{eval-step}
 use Rattle.evaluator.proofs.Turns.{Going, going-more, standing-here, held-next, going-begins}
-
--- the run of an expression whose plan goes inside
-eval-inside : (run : Call) (e : Node) (h : Here) (k : ℕ) (p : Place) (f : Finish) (steps work : ℕ) → plan e h ≡ inside k p f → NotTop p → 0 < steps
-    → hold steps work (eval run e h)
-    ≡ and-hold (hold (steps - 1) work (in-list run (skip k (elements e)) p h)) (λ left s w. hold s w (finish run (row-of e) h f (left .values)))
-unfolding eval
-eval-inside run (leaf r a) h k p f steps work is not-top some =
-    hold-step steps work r _ some ∙ rw is (hold-inside run p not-top k empty h (finish run r h f) (steps - 1) work)
-eval-inside run (branch r es) h k p f steps work is not-top some =
-    hold-step steps work r _ some ∙ rw is (hold-inside run p not-top k es h (finish run r h f) (steps - 1) work)
 
 fits-skip : (bound k : ℕ) (es : Nodes) → FitsNodes bound es → FitsNodes bound (skip k es)
 unfolding skip
@@ -84,37 +75,37 @@ entered-at : {s t w : List ℕ} {floor : ℕ} {sc : List Entry} {es : Nodes} {co
 entered-at (call-finishes code visible body behind at few shows) = record { body = body; behind = behind; is = refl; at = at; few = few; shows = shows }
 
 -- the values of what is inside are as many as the rule made sure of
-finishable : (s t w : List ℕ) (floor codes : ℕ) (sc : List Entry) (es : Nodes) (after : After) (k : ℕ) (p : Place) (f : Finish) (h : Here) (left : Left)
-    → Finishes s t w floor sc es after k p f → SingleScope (h .scope)
-    → in-list (run-code codes) (skip k es) p h .end ≡ done left → Finishable f (left .values)
+finishable : {s t w : List ℕ} {floor : ℕ} {sc : List Entry} {es : Nodes} {after : After} {k : ℕ} {p : Place} {f : Finish} (codes : ℕ) (h : Here) (left : Left)
+    → Finishes s t w floor sc es after k p f → SingleScope (h .scope) → in-list (run-code codes) (skip k es) p h .end ≡ done left → Finishable f (left .values)
 unfolding skip
-finishable s t w floor codes sc es after k p f h left form-finishes single e = tt
-finishable s t w floor codes sc es after k p f h left (define-finishes m n fits few (one-more a b v plain)) single e = in-list-single codes v h left plain single e
-finishable s t w floor codes sc es after k p f h left (concat-finishes (two-more a b v plain plain′)) single e = in-list-pair codes b v h left plain plain′ single e
-finishable s t w floor codes sc es after k p f h left (call-finishes code visible body behind at few shows) single e = tt
+finishable codes h left form-finishes single e = tt
+finishable codes h left (define-finishes m n fits few (one-more a b v plain)) single e = in-list-single codes v h left plain single e
+finishable codes h left (concat-finishes (two-more a b v plain plain′)) single e = in-list-pair codes b v h left plain plain′ single e
+finishable codes h left (call-finishes code visible body behind at few shows) single e = tt
 
 -- the steps that are left with an answer are no more than there were
 abbrev pub steps-of : Out → ℕ
 steps-of (Done st) = st .steps
 steps-of (Refused n r) = 0
 
-pub met-steps : (s t w w′ names′ : List ℕ) (st : State) (run : Run Left) (out : Out) → Met s t w w′ names′ st (hold (st .steps) (st .room) run) out
-    → steps-of out ≤ st .steps
-met-steps s t w w′ names′ st run (Done st′) o = omega (arith, hold-kept (st .steps) (st .room) run (o .left) (st′ .steps) (st′ .room) (o .is) .1)
-met-steps s t w w′ names′ st run (Refused n r) e = omega arith
+-- what is known of nodes that were evaluated, whichever they are
+abbrev pub Evaluated : List ℕ → List ℕ → List ℕ → List ℕ → List ℕ → List Entry → State → Stands → Code → ℕ → ℕ → List ℕ → List ℕ → Out → Type 0
+Evaluated s t w names args sc st stands code first end w′ names′ out =
+    (bound codes : ℕ) (es : Nodes) (p : Place) (h : Here) → Ready s t bound codes w names args sc st stands code first end es p h
+    → Met s t w w′ names′ st (hold (st .steps) (st .room) (in-list (run-code codes) es p h)) out
 
 -- what an expression leaves, counted from where its inside was done
-pub left-from : (s t w w₁ w₂ names : List ℕ) (sc : List Entry) (st st₁ : State) (start : ℕ) (h : Here) (held held₁ : Held Left) (left : Answer)
-    → Untouched w w₁ (st .top) (st .floor) → start ≡ st .top → st₁ .floor ≡ st .floor → st₁ .names ≡ st .names → held ≡ held₁
-    → LeftBy s t w₁ w₂ names sc (with-top st₁ (st₁ .room) start) h held₁ left → LeftBy s t w w₂ names sc st h held left
-left-from s t w w₁ w₂ names sc st st₁ start h held held₁ (Values st′) u top floor count same l =
+pub left-from : (s t w w₁ w₂ names : List ℕ) (sc : List Entry) (st st₁ : State) (h : Here) (held held₁ : Held Left) (left : Answer)
+    → Untouched w w₁ (st .top) (st .floor) → st₁ .floor ≡ st .floor → st₁ .names ≡ st .names → held ≡ held₁
+    → LeftBy s t w₁ w₂ names sc (with-top st₁ (st₁ .room) (st .top)) h held₁ left → LeftBy s t w w₂ names sc st h held left
+left-from s t w w₁ w₂ names sc st st₁ h held held₁ (Values st′) u floor count same l =
     let o = l .over in
     record {
       over = record {
         left = o .left;
         is = same ∙ o .is;
-        stand = rw top at (o .stand);
-        others = untouched-then u (rw (top, floor) at (o .others));
+        stand = o .stand;
+        others = untouched-then u (rw floor at (o .others));
         floor = o .floor ∙ floor;
         paid = o .paid;
         namespaces = o .namespaces;
@@ -123,38 +114,38 @@ left-from s t w w₁ w₂ names sc st st₁ start h held held₁ (Values st′) 
       };
       scope = l .scope;
     }
-left-from s t w w₁ w₂ names sc st st₁ start h held held₁ (Defined st′ key place) u top floor count same l = record {
+left-from s t w w₁ w₂ names sc st st₁ h held held₁ (Defined st′ key place) u floor count same l = record {
   definition = l .definition;
   is = same ∙ l .is;
   entry = l .entry;
   few = l .few;
-  others = untouched-then u (rw (top, floor) at (l .others));
-  top = l .top ∙ top;
+  others = untouched-then u (rw floor at (l .others));
+  top = l .top;
   floor = rw floor at (l .floor);
   paid = l .paid;
   namespaces = l .namespaces;
   counted = l .counted ∙ count;
 }
-left-from s t w w₁ w₂ names sc st st₁ start h held held₁ (Stopped n r) u top floor count same l = same ∙ l
+left-from s t w w₁ w₂ names sc st st₁ h held held₁ (Stopped n r) u floor count same l = same ∙ l
 
 module _ {s t : List ℕ} {bound codes : ℕ} {args : List ℕ} {stands : Stands} {code : Code} {end : ℕ} {w₀ w names : List ℕ} {sc : List Entry} {st₀ st : State}
     {row : ℕ} {held : Held Left} (g : Going s t bound codes args stands code end w₀ w names sc st₀ st row held) (on : row < end) where
   abbrev head : Node
-  head = going-more s t bound codes args stands code end g on .head
+  head = going-more g on .head
 
   abbrev here : Here
-  here = standing-here s t bound codes args stands code end g on
+  here = standing-here g on
 
-  abbrev next-held : Held Left
-  next-held = held-next s t bound codes args stands code end g on
+  module _ {w′ names′ : List ℕ} {st′ : State} {first : ℕ} {after : After} (i : GoesInside s t w w′ names names′ sc st st′ row first head here after) where
+    abbrev inner-nodes : Nodes
+    inner-nodes = skip (i .skipped) (elements head)
 
-  module _ {st′ : State} {first : ℕ} {after : After} (i : GoesInside s t w sc st st′ row first head here after) where
-    inside-ready : Ready s t bound codes w names args sc st′ (stands-in after) code first (next t row) (skip (i .skipped) (elements head)) (i .place) here
-    inside-ready =
+    inside-ready : {stands′ : Stands} {past : ℕ} → stands′ ≡ stands-in after → past ≡ next t row
+        → Ready s t bound codes w′ names′ args sc st′ stands′ code first past inner-nodes (i .place) here
+    inside-ready e e′ =
         let r = g .ready in
         let set = r .setting in
-        let b = going-begins s t bound codes args stands code end g on in
-        rw (i .state) (record {
+        rw (e, e′, i .same, i .same-names, i .state) (record {
           nodes = i .nodes;
           setting = record {
             scope = set .scope;
@@ -166,45 +157,42 @@ module _ {s t : List ℕ} {bound codes : ℕ} {args : List ℕ} {stands : Stands
             place = inside-placed first (i .finishes);
           };
           fitting = record { paid = r .fitting .paid; below = r .fitting .below; short = r .fitting .short };
-          fit = fits-skip bound (i .skipped) (elements head) (elements-fit bound head (b .fit));
+          fit = fits-skip bound (i .skipped) (elements head) (elements-fit bound head (going-begins g on .fit));
           sound = r .sound;
           single = r .single;
           entered = r .entered;
         })
 
-    -- the same, by other names
-    pub inside-ready-as : (w′ names′ : List ℕ) (stands′ : Stands) (past : ℕ) → w′ ≡ w → names′ ≡ names → stands′ ≡ stands-in after → past ≡ next t row
-        → Ready s t bound codes w′ names′ args sc st′ stands′ code first past (skip (i .skipped) (elements head)) (i .place) here
-    inside-ready-as w′ names′ stands′ past e e′ e″ f = rw (e, e′, e″, f) inside-ready
+    pub inside-some : {stands′ : Stands} {past : ℕ} → stands′ ≡ stands-in after → past ≡ next t row
+        → SomeReady s t w′ names′ args sc st′ stands′ code first past
+    inside-some e e′ = record { bound = bound; codes = codes; nodes = inner-nodes; place = i .place; here = here; ready = inside-ready e e′ }
 
-    pub inside-fewer : st′ .steps < st .steps
-    inside-fewer = rw (i .state) (omega (arith, i .some-steps))
+    pub inside-fewer : st′ .steps < st₀ .steps
+    inside-fewer = rw (i .state) (omega (arith, i .some-steps, g .fewer))
 
     -- what the inside answers
     abbrev inner-held : Held Left
-    inner-held = hold (st′ .steps) (st′ .room) (in-list (run-code codes) (skip (i .skipped) (elements head)) (i .place) here)
+    inner-held = hold (st′ .steps) (st′ .room) (in-list (run-code codes) inner-nodes (i .place) here)
 
-    held-is : next-held ≡ and-hold inner-held (λ left steps work. hold steps work (finish (run-code codes) row here (i .finish) (left .values)))
+    held-is : held-next g on ≡ and-hold inner-held (λ left steps work. hold steps work (finish (run-code codes) row here (i .finish) (left .values)))
     held-is =
-        let b = going-begins s t bound codes args stands code end g on in
-        eval-inside (run-code codes) head here (i .skipped) (i .place) (i .finish) (st .steps) (st .room) (i .plan-is) (inside-not-top (i .finishes)) (i .some-steps)
-        ∙ rw (i .state, node-row s t row head (b .node))
-
-    inside-refused : (n r : ℕ) → inner-held ≡ ceased n r → next-held ≡ ceased n r
-    inside-refused n r h = held-is ∙ rw h
+        eval-step s t row (run-code codes) here head (going-more g on .node) (st .steps) (st .room) (i .some-steps)
+        ∙ rw (i .plan-is, i .state)
+        (hold-inside (run-code codes) (i .place) (inside-not-top (i .finishes)) (i .skipped) (elements head) here
+        (finish (run-code codes) row here (i .finish)) (st .steps - 1) (st .room))
 
     module _ {w₁ names₁ : List ℕ} {st₁ : State} (o : Over s t w w₁ names₁ st′ inner-held st₁) where
-      ends-inside : in-list (run-code codes) (skip (i .skipped) (elements head)) (i .place) here .end ≡ done (o .left)
+      ends-inside : in-list (run-code codes) inner-nodes (i .place) here .end ≡ done (o .left)
       ends-inside = hold-kept (st′ .steps) (st′ .room) _ (o .left) (st₁ .steps) (st₁ .room) (o .is) .0
 
-      top-inside : st′ .top ≡ st .top
-      top-inside = rw (i .state)
+      floor-inside : st₁ .floor ≡ st .floor
+      floor-inside = o .floor ∙ rw (i .state)
 
-      floor-inside : st′ .floor ≡ st .floor
-      floor-inside = rw (i .state)
+      others-inside : Untouched w w₁ (st .top) (st .floor)
+      others-inside = rw (i .state) at (o .others)
 
       same-namespaces : o .left .here .namespaces ≡ g .here .namespaces
-      same-namespaces = in-list-stays (run-code codes) (skip (i .skipped) (elements head)) (i .place) here (o .left) ends-inside .namespaces (inside-not-top (i .finishes))
+      same-namespaces = in-list-stays (run-code codes) inner-nodes (i .place) here (o .left) ends-inside .namespaces (inside-not-top (i .finishes))
 
       inside-named : Named s t names₁ (g .here .namespaces)
       inside-named = subst (λ ks. Named s t names₁ ks) same-namespaces (o .namespaces)
@@ -219,88 +207,103 @@ module _ {s t : List ℕ} {bound codes : ℕ} {args : List ℕ} {stands : Stands
           record {
             fitting = record {
               paid = o .paid;
-              below = omega (arith, size, o .floor, floor-inside, r .fitting .below);
-              short = omega (arith, size, r .fitting .short);
+              below = omega (arith, floor-inside, r .fitting .below);
+              short = omega (arith, r .fitting .short);
             };
-            stand = rw top-inside at (o .stand);
-            sound = in-list-left bound codes (skip (i .skipped) (elements head)) (i .place) here (o .left) (inside-ready .fit) (r .sound) ends-inside .0;
-            finishable = finishable s t w (st .floor) codes sc (elements head) after (i .skipped) (i .place) (i .finish) here (o .left) (i .finishes) (r .single) ends-inside;
+            stand = rw (i .state) at (o .stand);
+            sound = in-list-left bound codes inner-nodes (i .place) here (o .left) (inside-ready refl refl .fit) (r .sound) ends-inside .0;
+            finishable = finishable codes here (o .left) (i .finishes) (r .single) ends-inside;
           }
 
       -- what it leaves, if that is what finishing the values leaves
       inside-left : (w₂ names₂ : List ℕ) (left : Answer)
           → LeftBy s t w₁ w₂ names₂ sc (with-top st₁ (st₁ .room) (st .top)) here
           (hold (st₁ .steps) (st₁ .room) (finish (run-code codes) row here (i .finish) (o .left .values))) left
-          → LeftBy s t w w₂ names₂ sc st here next-held left
+          → LeftBy s t w w₂ names₂ sc st here (held-next g on) left
       inside-left w₂ names₂ left l =
-          left-from s t w w₁ w₂ names₂ sc st st₁ (st .top) here next-held _ left (rw (top-inside, floor-inside) at (o .others)) refl (o .floor ∙ floor-inside)
-          (inside-counted ∙ sym (g .ready .setting .counted))
-          (held-is ∙ rw (o .is)) l
+          left-from s t w w₁ w₂ names₂ sc st st₁ here (held-next g on) _ left others-inside floor-inside
+          (inside-counted ∙ sym (g .ready .setting .counted)) (held-is ∙ rw (o .is)) l
 
-    -- finished without running code
-    module _ (plain : NoCall after) (w₁ names₁ : List ℕ) where
-      pub inside-can-finish : (out : Out) → Met s t w w₁ names₁ st′ inner-held out → CanFinish w₁ (st .top) after out
-      inside-can-finish (Done st₁) o = (sc, i .finish, o .left .values, inside-finished plain (i .finishes), inside-finishing o)
-      inside-can-finish (Refused n r) h = tt
+    -- where the rows inside were evaluated
+    module _ {stands′ : Stands} {past : ℕ} (e : stands′ ≡ stands-in after) (e′ : past ≡ next t row) (w₁ names₁ : List ℕ) (out : Out)
+        (evaluated : Evaluated s t w′ names′ args sc st′ stands′ code first past w₁ names₁ out) where
+      abbrev InsideMet : Out → Type 0
+      InsideMet x = Met s t w w₁ names₁ st′ inner-held x
 
-      pub inside-finishes : (out : Out) (w₂ : List ℕ) (left : Answer) → Met s t w w₁ names₁ st′ inner-held out → Finished w₁ w₂ (st .top) row after left out
-          → LeftBy s t w w₂ names₁ sc st here next-held left
-      inside-finishes (Done st₁) w₂ left o f =
-          inside-left o w₂ names₁ left
-          (f s t names₁ sc (run-code codes) here (i .finish) (o .left .values) (inside-finished plain (i .finishes)) (inside-finishing o)
-          (inside-named o) (inside-counted o) (o .most))
-      inside-finishes (Refused n r) w₂ left h f = subst (λ (x : Answer). LeftBy s t w w₂ names₁ sc st here next-held x) (sym f) (inside-refused n r h)
+      met : InsideMet out
+      met = subst (λ (x : List ℕ). Met s t x w₁ names₁ st′ inner-held out) (i .same) (evaluated bound codes inner-nodes (i .place) here (inside-ready e e′))
 
-  -- entering code
-  module _ {st′ : State} {first body-row visible : ℕ} (i : GoesInside s t w sc st st′ row first head here (Enters body-row visible)) where
-    entered : EnteredAt s t w (st .floor) sc body-row visible (i .finish)
-    entered = entered-at (i .finishes)
+      pub inside-steps : steps-of out < st₀ .steps
+      inside-steps = go out met
+        where
+          go : (x : Out) → InsideMet x → steps-of x < st₀ .steps
+          go (Done st₁) o = omega (arith, inside-fewer, hold-kept (st′ .steps) (st′ .room) _ (o .left) (st₁ .steps) (st₁ .room) (o .is) .1)
+          go (Refused n r) h = omega (arith, inside-fewer)
 
-    module _ {w₁ names₁ : List ℕ} {st₁ : State} (o : Over s t w w₁ names₁ st′ (inner-held i) st₁) where
-      calling : Calling s t bound codes w₁ names₁ sc visible st₁ (code .depth) body-row (st .top) (entered .body) (entered .behind) here (o .left .values)
-      calling =
-          let e = entered in
-          let f = inside-finishing i o in
-          let floor : st₁ .floor ≡ st .floor = o .floor ∙ floor-inside i o in
-          let b = going-begins s t bound codes args stands code end g on in
-          let plans : plan head here ≡ inside (i .skipped) (i .place) (as-call (e .body) (e .behind)) =
-          i .plan-is ∙ ap (λ (x : Finish). inside (i .skipped) (i .place) x) (e .is) in
-          let sound = call-sound bound head here (i .skipped) (i .place) (e .body) (e .behind) plans (b .fit) (b .sound) in
-          record {
-            at = e .at;
-            visible-in = e .few;
-            few = g .ready .setting .few;
-            shows = rw floor (shows-kept s t w (st .floor) (rw (floor-inside i o) at (o .others)) _ (e .behind) (e .shows));
-            fitting = f .fitting;
-            stand = f .stand;
-            sound = f .sound;
-            fit = sound .0;
-            scope-sound = sound .1;
-            single = call-single head here (i .skipped) (i .place) (e .body) (e .behind) plans (g .ready .single);
-            namespaces = inside-named i o;
-            counted = inside-counted i o;
-            most = o .most;
-            entered = g .ready .entered;
-          }
+      -- finished without running code
+      module _ (plain : NoCall after) where
+        pub inside-can-finish : CanFinish w₁ (st .top) after out
+        inside-can-finish = go out met
+          where
+            go : (x : Out) → InsideMet x → CanFinish w₁ (st .top) after x
+            go (Done st₁) o = (sc, i .finish, o .left .values, inside-finished plain (i .finishes), inside-finishing o)
+            go (Refused n r) h = tt
 
-    module _ (w₁ names₁ : List ℕ) where
-      pub inside-can-call : (out : Out) → Met s t w w₁ names₁ st′ (inner-held i) out → CanCall s t w₁ names₁ sc visible (code .depth) body-row (st .top) out
-      inside-can-call (Done st₁) o = record {
-        bound = bound;
-        codes = codes;
-        body = entered .body;
-        behind = entered .behind;
-        here = here;
-        values = o .left .values;
-        calls = calling o;
-      }
-      inside-can-call (Refused n r) h = tt
+        pub inside-finishes : (w₂ : List ℕ) (left : Answer) → Finished w₁ w₂ (st .top) row after left out → LeftBy s t w w₂ names₁ sc st here (held-next g on) left
+        inside-finishes w₂ left = go out met
+          where
+            go : (x : Out) → InsideMet x → Finished w₁ w₂ (st .top) row after left x → LeftBy s t w w₂ names₁ sc st here (held-next g on) left
+            go (Done st₁) o f =
+                inside-left o w₂ names₁ left
+                (f s t names₁ sc (run-code codes) here (i .finish) (o .left .values) (inside-finished plain (i .finishes)) (inside-finishing o)
+                (inside-named o) (inside-counted o) (o .most))
+            go (Refused n r) h f = rw f (held-is ∙ rw h)
 
-      pub inside-calls : (out : Out) (w₂ names₂ : List ℕ) (left : Answer) → Met s t w w₁ names₁ st′ (inner-held i) out
-          → Called s t w₁ w₂ names₁ names₂ sc visible (code .depth) body-row (st .top) row left out
-          → LeftBy s t w w₂ names₂ sc st here next-held left
-      inside-calls (Done st₁) w₂ names₂ left o f =
-          inside-left i o w₂ names₂ left
-          (subst (λ (x : Finish). LeftBy s t w₁ w₂ names₂ sc (with-top st₁ (st₁ .room) (st .top)) here (hold (st₁ .steps) (st₁ .room) (finish (run-code codes) row here x (o .left .values))) left)
-          (sym (entered .is)) (f bound codes (entered .body) (entered .behind) here (o .left .values) sc (calling o)))
-      inside-calls (Refused n r) w₂ names₂ left h f = subst (λ (x : Answer). LeftBy s t w w₂ names₂ sc st here next-held x) (sym f) (inside-refused i n r h)
+      -- entering code, by the names that the entries and the depth have there
+      module _ {body-row visible : ℕ} {sc′ : List Entry} {depth : ℕ} (enters : after ≡ Enters body-row visible) (same : sc′ ≡ sc) (same′ : depth ≡ code .depth) where
+        entered : EnteredAt s t w (st .floor) sc body-row visible (i .finish)
+        entered = entered-at (rw enters at (i .finishes))
+
+        calling : {st₁ : State} (o : Over s t w w₁ names₁ st′ inner-held st₁)
+            → Calling s t bound codes w₁ names₁ sc visible st₁ (code .depth) body-row (st .top) (entered .body) (entered .behind) here (o .left .values)
+        calling o =
+            let c = entered in
+            let f = inside-finishing o in
+            let b = going-begins g on in
+            let plans : plan head here ≡ inside (i .skipped) (i .place) (as-call (c .body) (c .behind)) = rw (c .is) at (i .plan-is) in
+            let sound = call-sound bound head here (i .skipped) (i .place) (c .body) (c .behind) plans (b .fit) (b .sound) in
+            record {
+              at = c .at;
+              visible-in = c .few;
+              few = g .ready .setting .few;
+              shows = rw (floor-inside o) (shows-kept s t w (st .floor) (others-inside o) _ (c .behind) (c .shows));
+              fitting = f .fitting;
+              stand = f .stand;
+              sound = f .sound;
+              fit = sound .0;
+              scope-sound = sound .1;
+              single = call-single head here (i .skipped) (i .place) (c .body) (c .behind) plans (g .ready .single);
+              namespaces = inside-named o;
+              counted = inside-counted o;
+              most = o .most;
+              entered = g .ready .entered;
+            }
+
+        pub inside-can-call : CanCall s t w₁ names₁ sc′ visible depth body-row (st .top) out
+        inside-can-call = rw (same, same′) (go out met)
+          where
+            go : (x : Out) → InsideMet x → CanCall s t w₁ names₁ sc visible (code .depth) body-row (st .top) x
+            go (Done st₁) o =
+                record { bound = bound; codes = codes; body = entered .body; behind = entered .behind; here = here; values = o .left .values; calls = calling o }
+            go (Refused n r) h = tt
+
+        pub inside-calls : (w₂ names₂ : List ℕ) (left : Answer) → Called s t w₁ w₂ names₁ names₂ sc′ visible depth body-row (st .top) row left out
+            → LeftBy s t w w₂ names₂ sc st here (held-next g on) left
+        inside-calls w₂ names₂ left f = go out met (rw (same, same′) at f)
+          where
+            go : (x : Out) → InsideMet x → Called s t w₁ w₂ names₁ names₂ sc visible (code .depth) body-row (st .top) row left x
+                → LeftBy s t w w₂ names₂ sc st here (held-next g on) left
+            go (Done st₁) o f =
+                inside-left o w₂ names₂ left
+                (rw (entered .is) (f bound codes (entered .body) (entered .behind) here (o .left .values) sc (calling o)))
+            go (Refused n r) h f = rw f (held-is ∙ rw h)

@@ -9,7 +9,7 @@ use native.Mathlib.Omega.{arith}
 use native.Mathlib.Numerals.{add-one}
 use Rattle.writer.specs.Bytes.{put-at, Put}
 use Rattle.writer.proofs.Puts.{length-upto, length-put-at, put-at-more, stored}
-use Rattle.spec.specs.Expr.{Exprs, canonical}
+use Rattle.spec.specs.Expr.{Exprs, none, canonical}
 use Rattle.evaluator.specs.Completed.{Stand, Untouched}
 
 -- Parts
@@ -30,6 +30,10 @@ slice-take (suc a) (suc b) (x ∷ w) = let less : suc b - suc a ≡ b - a = omeg
 
 pub stand-size : {w : List ℕ} {from to : ℕ} {vs : Exprs} → Stand w from to vs → length (canonical vs) ≡ to - from
 stand-size {w} {from} {to} there = ap length (sym (there .bytes)) ∙ length-slice from to w (there .inside)
+
+pub stand-none : {w : List ℕ} (a : ℕ) → a ≤ length w → Stand w a a none
+unfolding canonical
+stand-none {w} a h = record { order = omega arith; inside = h; bytes = slice-empty a w }
 
 pub stand-part : {w : List ℕ} {from to : ℕ} {vs : Exprs} → Stand w from to vs → take (to - from) (drop from w) ≡ canonical vs
 stand-part {w} {from} {to} there = sym (slice-take from to w) ∙ there .bytes
@@ -136,8 +140,11 @@ moved-none w from to at h =
     let here : at + 0 ≡ at = omega arith in
     rw (h, slice-empty to w, here, append-nil (take at w)) (take-append-drop at w)
 
-pub moved-length : (w : List ℕ) (from to at : ℕ) → to ≤ length w → at + (to - from) ≤ length w → length (moved w from to at) ≡ length w
-moved-length w from to at h h′ = length-put-at w at (slice from to w) (omega (arith, length-slice from to w h))
+-- the bytes from one place up to another are moved; i of n are or are left
+pub record Moving (w₀ w : List ℕ) (i n from to at : ℕ) : Type 0 where
+  pub few : i ≤ n
+  pub size : length w ≡ length w₀
+  pub is : w ≡ moved w₀ from to at
 
 -- one byte more, of those behind, to a lower place
 pub moved-next : (w : List ℕ) (from at i : ℕ) → at ≤ from → from + i < length w → let w′ = moved w from (from + i) at in

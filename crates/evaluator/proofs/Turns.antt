@@ -1,11 +1,12 @@
 -- How a list goes on: what is known before each of its expressions, and what one expression leaves of it, on lists and numbers alone.
 -- Document 01: "Evaluation goes depth first, left to right, over a list of definitions". Assumes nothing.
-use Prim.Native.Nat.{ℕ, _≤_, _<_}
+use Prim.Native.Nat.{ℕ, _+_, _≤_, _<_}
 use mathlib.Core.Path.{_≡_, refl, sym, ap, _∙_, subst}
 use mathlib.Core.List.{List, _∷_, _++_, append-nil}
 use mathlib.Core.Bool.{Bool, true, false, _||_}
 use native.Mathlib.Omega.{arith}
-use lib.Seq.{slice, slice-empty}
+use lib.ListN.{length}
+use lib.Seq.{slice}
 use lib.Dec.{eqb}
 use Rattle.spec.specs.Expr.{some, Exprs, none, append, canonical}
 use Rattle.spec.specs.Nodes.{Node, Nodes, empty, cons, markers, markers-all}
@@ -16,10 +17,11 @@ use Rattle.laws.specs.Holding.{and-hold, beyond, together, in-list}
 use Rattle.laws.proofs.Canonical.{canonical-append}
 use Rattle.laws.proofs.Prefix.{append-append}
 use Rattle.laws.proofs.Holding.{and-hold-same, and-hold-twice, hold-kept, hold-list, hold-list-empty}
-use Rattle.laws.proofs.Singles.{append-none, SingleScope, eval-stays, eval-scope}
-use Rattle.laws.proofs.Values.{FitsNode, FitsNodes, SoundHere, eval-sound, run-code-sound}
+use Rattle.laws.proofs.Singles.{append-none, eval-stays, eval-scope}
+use Rattle.laws.proofs.Values.{FitsNode, FitsNodes, eval-sound, run-code-sound}
 use Rattle.evaluator.specs.Stands.{next, NodeAt, NodesAt}
 use Rattle.evaluator.specs.Entries.{Entry}
+use Rattle.evaluator.specs.Named.{Named}
 use Rattle.evaluator.specs.Completed.{Stand, Untouched}
 use Rattle.evaluator.specs.Planned.{Shows, ArgumentsOf, Placed, at-top, at-element, at-inner}
 use Rattle.evaluator.specs.Listed.{Ready, SomeReady, Over, LeftValues, LeftDefinition, Beginning}
@@ -28,7 +30,7 @@ use Rattle.evaluator.specs.declared.plan.Stands.{Stands}
 use Rattle.evaluator.specs.declared.plan.Code.{Code}
 use Rattle.evaluator.proofs.Nodes.{MoreAt, append-nodes, markers-append, nodes-append, nodes-done, nodes-more, node-next-in}
 use Rattle.evaluator.proofs.Borne.{some-append}
-use Rattle.evaluator.proofs.Places.{slice-split, untouched-less, untouched-then, stand-below}
+use Rattle.evaluator.proofs.Places.{slice-split, stand-none, untouched-none, untouched-less, untouched-then, stand-below}
 use Rattle.evaluator.proofs.Shown.{shows-more, shows-kept, shows-lower, arguments-kept}
 
 -- Values one after the other
@@ -89,57 +91,49 @@ unfolding append
 left-of-none (kept a steps work) = refl
 left-of-none (ceased v r) = refl
 
-module _ (s t : List ℕ) (bound codes : ℕ) (args : List ℕ) (stands : Stands) (code : Code) (end : ℕ) where
-  -- `held` is what the list answers as a whole; before the expression at a row, the values `passed` stand, and the rest is to be evaluated
-  pub record Going (w₀ w names : List ℕ) (sc : List Entry) (st₀ st : State) (row : ℕ) (held : Held Left) : Type 0 where
-    pub rest : Nodes
-    pub place : Place
-    pub here : Here
-    pub passed : Exprs
-    pub is : held ≡ left-of passed (hold (st .steps) (st .room) (in-list (run-code codes) rest place here))
-    pub ready : Ready s t bound codes w names args sc st stands code row end rest place here
-    pub stand : Stand w (st₀ .top) (st .top) passed
-    pub others : Untouched w₀ w (st₀ .top) (st₀ .floor)
-    pub lower : st .floor ≤ st₀ .floor
-    pub fewer : st .steps ≤ st₀ .steps
+-- `held` is what the list answers as a whole; before the expression at a row, the values `passed` stand, and the rest is to be evaluated
+pub record Going (s t : List ℕ) (bound codes : ℕ) (args : List ℕ) (stands : Stands) (code : Code) (end : ℕ) (w₀ w names : List ℕ) (sc : List Entry)
+    (st₀ st : State) (row : ℕ) (held : Held Left) : Type 0 where
+  pub rest : Nodes
+  pub place : Place
+  pub here : Here
+  pub passed : Exprs
+  pub is : held ≡ left-of passed (hold (st .steps) (st .room) (in-list (run-code codes) rest place here))
+  pub ready : Ready s t bound codes w names args sc st stands code row end rest place here
+  pub stand : Stand w (st₀ .top) (st .top) passed
+  pub others : Untouched w₀ w (st₀ .top) (st₀ .floor)
+  pub lower : st .floor ≤ st₀ .floor
+  pub fewer : st .steps ≤ st₀ .steps
 
-  pub going-start : {w names : List ℕ} {sc : List Entry} {st : State} {row : ℕ} (es : Nodes) (p : Place) (h : Here)
+module _ {s t : List ℕ} {bound codes : ℕ} {args : List ℕ} {stands : Stands} {code : Code} {end : ℕ} where
+  pub going-start : {w names : List ℕ} {sc : List Entry} {st : State} {row : ℕ} {es : Nodes} {p : Place} {h : Here}
       → Ready s t bound codes w names args sc st stands code row end es p h
-      → Going w w names sc st st row (hold (st .steps) (st .room) (in-list (run-code codes) es p h))
-  unfolding canonical
-  going-start {w} {st = st} es p h r =
-      let f = r .fitting in
-      record {
-        rest = es;
-        place = p;
-        here = h;
-        passed = none;
-        is = left-of-none _;
-        ready = r;
-        stand = record { order = omega arith; inside = omega (arith, f .paid, f .below); bytes = slice-empty (st .top) w };
-        others = record { size = refl; lower = refl; upper = refl };
-        lower = omega arith;
-        fewer = omega arith;
-      }
+      → Going s t bound codes args stands code end w w names sc st st row (hold (st .steps) (st .room) (in-list (run-code codes) es p h))
+  going-start {w} {st = st} {es = es} {p = p} {h = h} r = record {
+    rest = es;
+    place = p;
+    here = h;
+    passed = none;
+    is = left-of-none _;
+    ready = r;
+    stand = stand-none (st .top) (omega (arith, r .fitting .paid, r .fitting .below));
+    others = untouched-none w (st .top) (st .floor);
+    lower = omega arith;
+    fewer = omega arith;
+  }
 
-  module _ {w₀ w names : List ℕ} {sc : List Entry} {st₀ st : State} {row : ℕ} {held : Held Left} (g : Going w₀ w names sc st₀ st row held) where
+  module _ {w₀ w names : List ℕ} {sc : List Entry} {st₀ st : State} {row : ℕ} {held : Held Left}
+      (g : Going s t bound codes args stands code end w₀ w names sc st₀ st row held) where
     -- no expression is left
-    going-end : end ≤ row → held ≡ kept (record { values = g .passed; here = g .here }) (st .steps) (st .room)
-    going-end h =
-        let r = g .ready in
-        let all = nodes-done s t row end (g .rest) (r .nodes) h in
-        g .is
-        ∙ ap (λ (es : Nodes). left-of (g .passed) (hold (st .steps) (st .room) (in-list (run-code codes) es (g .place) (g .here)))) all
-        ∙ ap (left-of (g .passed)) (hold-list-empty (run-code codes) (g .place) (g .here) (st .steps) (st .room))
-        ∙ ap (λ (vs : Exprs). kept (record { values = vs; here = g .here }) (st .steps) (st .room)) (append-none (g .passed))
-
     pub going-over : end ≤ row → (floor : ℕ) → floor ≡ st₀ .floor
         → Over s t w₀ w names st₀ held (record { steps = st .steps; room = st .room; top = st .top; floor = floor; names = st .names })
     going-over h floor e =
         let r = g .ready in
         record {
           left = record { values = g .passed; here = g .here };
-          is = going-end h;
+          is =
+              g .is
+              ∙ rw (nodes-done s t row end (g .rest) (r .nodes) h, hold-list-empty (run-code codes) (g .place) (g .here) (st .steps) (st .room), append-none (g .passed));
           stand = g .stand;
           others = g .others;
           floor = e;
@@ -161,6 +155,10 @@ module _ (s t : List ℕ) (bound codes : ℕ) (args : List ℕ) (stands : Stands
       abbrev pub held-next : Held Left
       held-next = hold (st .steps) (st .room) (eval (run-code codes) (going-more .head) standing-here)
 
+      -- what those behind it answer, after what it left
+      abbrev held-rest : Left → ℕ → ℕ → Held Left
+      held-rest one steps work = hold steps work (in-list (run-code codes) (going-more .rest) (beyond (going-more .head) (g .place)) (one .here))
+
       fits-next : FitsNode bound (going-more .head) × FitsNodes bound (going-more .rest)
       fits-next = subst (λ (es : Nodes). FitsNodes bound es) (going-more .is) (g .ready .fit)
 
@@ -174,8 +172,7 @@ module _ (s t : List ℕ) (bound codes : ℕ) (args : List ℕ) (stands : Stands
       }
 
       held-first : held ≡ left-of (g .passed) (and-hold held-next (λ one steps work.
-          and-hold (hold steps work (in-list (run-code codes) (going-more .rest) (beyond (going-more .head) (g .place)) (one .here)))
-          (λ others steps′ work′. kept (together one others) steps′ work′)))
+          and-hold (held-rest one steps work) (λ others steps′ work′. kept (together one others) steps′ work′)))
       held-first =
           g .is
           ∙ ap (λ (es : Nodes). left-of (g .passed) (hold (st .steps) (st .room) (in-list (run-code codes) es (g .place) (g .here)))) (going-more .is)
@@ -185,119 +182,80 @@ module _ (s t : List ℕ) (bound codes : ℕ) (args : List ℕ) (stands : Stands
       pub going-ceased : (n r : ℕ) → held-next ≡ ceased n r → held ≡ ceased n r
       going-ceased n r h = rw h at held-first
 
-      -- it leaves something, and the list goes on
-      held-on : (one : Left) (steps work : ℕ) → held-next ≡ kept one steps work
-          → held ≡ left-of (append (g .passed) (one .values)) (hold steps work (in-list (run-code codes) (going-more .rest) (beyond (going-more .head) (g .place)) (one .here)))
+      held-on : (one : Left) (steps work : ℕ) → held-next ≡ kept one steps work → held ≡ left-of (append (g .passed) (one .values)) (held-rest one steps work)
       held-on one steps work h =
-          let x = hold steps work (in-list (run-code codes) (going-more .rest) (beyond (going-more .head) (g .place)) (one .here)) in
           (rw h at held-first)
-          ∙ and-hold-twice x (λ others steps′ work′. kept (together one others) steps′ work′) _
-          ∙ and-hold-same x λ others steps′ work′ e. ap (λ (vs : Exprs). kept (record { values = vs; here = others .here }) steps′ work′) (sym (append-append (g .passed) (one .values) (others .values)))
+          ∙ and-hold-twice (held-rest one steps work) (λ others steps′ work′. kept (together one others) steps′ work′) _
+          ∙ and-hold-same (held-rest one steps work) λ others steps′ work′ e.
+          ap (λ (vs : Exprs). kept (record { values = vs; here = others .here }) steps′ work′) (sym (append-append (g .passed) (one .values) (others .values)))
 
-      -- where what follows it is evaluated
-      module _ (one : Left) (steps work : ℕ) (h : held-next ≡ kept one steps work) where
-        ends-one : eval (run-code codes) (going-more .head) standing-here .end ≡ done one
-        ends-one = hold-kept (st .steps) (st .room) _ one steps work h .0
-
-        sound-next : SoundHere bound (one .here)
-        sound-next =
-            (rw ends-one at (eval-sound bound (run-code codes) (run-code-sound bound codes) (going-more .head) (fits-next .0) standing-here (g .ready .sound) .holds)) .1
-
-        single-next : SingleScope (one .here .scope)
-        single-next = eval-scope codes (going-more .head) standing-here one (g .ready .single) ends-one
-
-        fewer-next : steps ≤ st .steps
-        fewer-next = omega (arith, hold-kept (st .steps) (st .room) _ one steps work h .1)
-
-        arguments-next : one .here .arguments ≡ g .here .arguments
-        arguments-next = eval-stays (run-code codes) (going-more .head) standing-here one ends-one .arguments
-
-      -- values
-      pub going-values : {w′ names′ : List ℕ} {sc′ : List Entry} {st′ : State} {past : ℕ} → past ≡ next t row → LeftValues s t w w′ names′ st standing-here held-next st′
-          → sc′ ≡ sc → Going w₀ w′ names′ sc′ st₀ st′ past held
-      going-values {w′} {names′} {sc′} {st′} e l same =
-          let o = l .over in
-          let one = o .left in
+      -- it leaves something, and the list goes on
+      going-on : {w′ names′ : List ℕ} {sc′ : List Entry} (st′ : State) {past : ℕ} (one : Left) → past ≡ next t row
+          → held-next ≡ kept one (st′ .steps) (st′ .room) → Stand w′ (st .top) (st′ .top) (one .values) → Untouched w w′ (st .top) (st .floor)
+          → st′ .floor ≤ st .floor → st′ .top + st′ .room ≤ st′ .floor → Shows s t w′ (st′ .floor) sc′ (one .here .scope) → length sc′ ≤ 256
+          → Named s t names′ (one .here .namespaces) → st′ .names ≡ length (one .here .namespaces) → st′ .names ≤ 64
+          → Going s t bound codes args stands code end w₀ w′ names′ sc′ st₀ st′ past held
+      going-on {w′} st′ one e is stand others floor paid shown few named counted most =
           let r = g .ready in
-          let set = r .setting in
-          let floor : st′ .floor ≡ st .floor = o .floor in
+          let run = run-code codes in
           let order = g .stand .order in
-          let order′ = o .stand .order in
-          let size = o .others .size in
-          let shown : Shows s t w′ (st′ .floor) sc (one .here .scope) =
-          rw (floor, l .scope) (shows-kept s t w (st .floor) (o .others) sc (g .here .scope) (set .scope)) in
+          let order′ = stand .order in
+          let size = others .size in
+          let ends = hold-kept (st .steps) (st .room) _ one (st′ .steps) (st′ .room) is in
+          let sound = rw (ends .0) at (eval-sound bound run (run-code-sound bound codes) (going-more .head) (fits-next .0) standing-here (r .sound) .holds) in
+          let same : one .here .arguments ≡ g .here .arguments = eval-stays run (going-more .head) standing-here one (ends .0) .arguments in
           rw e (record {
             rest = going-more .rest;
             place = beyond (going-more .head) (g .place);
             here = one .here;
             passed = append (g .passed) (one .values);
-            is = held-on one (st′ .steps) (st′ .room) (o .is);
+            is = held-on one (st′ .steps) (st′ .room) is;
             ready = record {
               nodes = going-more .nodes;
               setting = record {
-                scope = rw same shown;
-                few = rw same (set .few);
-                namespaces = o .namespaces;
-                counted = o .counted;
-                most = o .most;
-                arguments = subst (λ x. ArgumentsOf w′ args code (st′ .top) x) (sym (arguments-next one (st′ .steps) (st′ .room) (o .is)))
-                    (arguments-kept (o .others) args code (st′ .top) (g .here .arguments) (set .arguments) order′);
-                place = placed-beyond s t row (going-more .head) (going-more .node) stands (g .place) (set .place);
+                scope = shown;
+                few = few;
+                namespaces = named;
+                counted = counted;
+                most = most;
+                arguments = subst (λ x. ArgumentsOf w′ args code (st′ .top) x) (sym same)
+                    (arguments-kept others args code (st′ .top) (g .here .arguments) (r .setting .arguments) order′);
+                place = placed-beyond s t row (going-more .head) (going-more .node) stands (g .place) (r .setting .place);
               };
-              fitting = record { paid = o .paid; below = omega (arith, size, r .fitting .below); short = omega (arith, size, r .fitting .short) };
+              fitting = record { paid = paid; below = omega (arith, r .fitting .below); short = omega (arith, r .fitting .short) };
               fit = fits-next .1;
-              sound = sound-next one (st′ .steps) (st′ .room) (o .is);
-              single = single-next one (st′ .steps) (st′ .room) (o .is);
+              sound = sound .1;
+              single = eval-scope codes (going-more .head) standing-here one (r .single) (ends .0);
               entered = r .entered;
             };
-            stand = stand-append w′ (st₀ .top) (st .top) (st′ .top) (g .passed) (one .values) (stand-below (o .others) (omega arith) (g .stand)) (o .stand);
-            others = untouched-then (g .others) (untouched-less (st₀ .top) (st₀ .floor) order (g .lower) (o .others));
-            lower = omega (arith, floor, g .lower);
-            fewer = omega (arith, fewer-next one (st′ .steps) (st′ .room) (o .is), g .fewer);
+            stand = stand-append w′ (st₀ .top) (st .top) (st′ .top) (g .passed) (one .values) (stand-below others (omega arith) (g .stand)) stand;
+            others = untouched-then (g .others) (untouched-less (st₀ .top) (st₀ .floor) order (g .lower) others);
+            lower = omega (arith, g .lower);
+            fewer = omega (arith, ends .1, g .fewer);
           })
+
+      -- values
+      pub going-values : {w′ names′ : List ℕ} {sc′ : List Entry} {st′ : State} {past : ℕ} → past ≡ next t row → LeftValues s t w w′ names′ st standing-here held-next st′
+          → sc′ ≡ sc → Going s t bound codes args stands code end w₀ w′ names′ sc′ st₀ st′ past held
+      going-values {w′} {st′ = st′} e l same =
+          let o = l .over in
+          let set = g .ready .setting in
+          let shown : Shows s t w′ (st′ .floor) sc (o .left .here .scope) =
+          rw (o .floor, l .scope) (shows-kept s t w (st .floor) (o .others) sc (g .here .scope) (set .scope)) in
+          going-on st′ (o .left) e (o .is) (o .stand) (o .others) (omega (arith, o .floor)) (o .paid) (rw same shown) (rw same (set .few))
+          (o .namespaces) (o .counted) (o .most)
 
       -- a definition, of which the scope has an entry more
       pub going-definition : {w′ names′ : List ℕ} {sc₁ sc′ : List Entry} {st′ : State} {key place past : ℕ} → past ≡ next t row
           → LeftDefinition s t w w′ names′ sc st standing-here held-next st′ key place
           → sc′ ≡ record { key = key; place = place } ∷ sc₁ → sc₁ ≡ sc
-          → Going w₀ w′ names′ sc′ st₀ st′ past held
-      going-definition {w′} {names′} {sc₁} {sc′} {st′} {key} {place} e l add same =
+          → Going s t bound codes args stands code end w₀ w′ names′ sc′ st₀ st′ past held
+      going-definition {w′} {st′ = st′} {key} {place} e l add same =
           let d = l .definition in
-          let one : Left = record { values = none; here = add-definition d standing-here } in
           let r = g .ready in
-          let set = r .setting in
-          let order = g .stand .order in
-          let size = l .others .size in
-          let top = l .top in
-          let shown : Shows s t w′ (st′ .floor) (record { key = key; place = place } ∷ sc) (d ∷ g .here .scope) =
-          shows-more s t w′ (st′ .floor) (record { key = key; place = place }) sc d (g .here .scope) (l .entry)
+          let shown = shows-more s t w′ (st′ .floor) (record { key = key; place = place }) sc d (g .here .scope) (l .entry)
           (shows-lower s t w′ (st .floor) (st′ .floor) (l .floor) sc (g .here .scope)
-          (shows-kept s t w (st .floor) (l .others) sc (g .here .scope) (set .scope))) in
-          rw e (record {
-            rest = going-more .rest;
-            place = beyond (going-more .head) (g .place);
-            here = one .here;
-            passed = append (g .passed) none;
-            is = held-on one (st′ .steps) (st′ .room) (l .is);
-            ready = record {
-              nodes = going-more .nodes;
-              setting = record {
-                scope = rw (add, same) shown;
-                few = rw (add, same) (l .few);
-                namespaces = l .namespaces;
-                counted = l .counted ∙ set .counted;
-                most = rw (l .counted) (set .most);
-                arguments = arguments-kept (l .others) args code (st′ .top) (g .here .arguments) (set .arguments) (omega arith);
-                place = placed-beyond s t row (going-more .head) (going-more .node) stands (g .place) (set .place);
-              };
-              fitting = record { paid = l .paid; below = omega (arith, size, l .floor, r .fitting .below); short = omega (arith, size, r .fitting .short) };
-              fit = fits-next .1;
-              sound = sound-next one (st′ .steps) (st′ .room) (l .is);
-              single = single-next one (st′ .steps) (st′ .room) (l .is);
-              entered = r .entered;
-            };
-            stand = rw (append-none (g .passed), top) (stand-below (l .others) (omega arith) (g .stand));
-            others = untouched-then (g .others) (untouched-less (st₀ .top) (st₀ .floor) order (g .lower) (l .others));
-            lower = omega (arith, l .floor, g .lower);
-            fewer = omega (arith, fewer-next one (st′ .steps) (st′ .room) (l .is), g .fewer);
-          })
+          (shows-kept s t w (st .floor) (l .others) sc (g .here .scope) (r .setting .scope))) in
+          going-on st′ (record { values = none; here = add-definition d standing-here }) e (l .is)
+          (rw (l .top) (stand-none (st .top) (omega (arith, l .others .size, r .fitting .paid, r .fitting .below)))) (l .others) (l .floor) (l .paid)
+          (rw (add, same) shown) (rw (add, same) (l .few)) (l .namespaces) (l .counted ∙ r .setting .counted) (rw (l .counted) (r .setting .most))

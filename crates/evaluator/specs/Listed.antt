@@ -96,8 +96,8 @@ LeftBy s t w w′ names′ sc st h held (Values st′) = LeftValues s t w w′ n
 LeftBy s t w w′ names′ sc st h held (Defined st′ key place) = LeftDefinition s t w w′ names′ sc st h held st′ key place
 LeftBy s t w w′ names′ sc st h held (Stopped n r) = held ≡ ceased n r
 
--- what is inside it is evaluated first
-pub record GoesInside (s t w : List ℕ) (sc : List Entry) (st st′ : State) (row first : ℕ) (e : Node) (h : Here) (after : After) : Type 0 where
+-- what is inside it is evaluated first; the workspace and the namespaces are as they were
+pub record GoesInside (s t w w′ names names′ : List ℕ) (sc : List Entry) (st st′ : State) (row first : ℕ) (e : Node) (h : Here) (after : After) : Type 0 where
   pub skipped : ℕ
   pub place : Place
   pub finish : Finish
@@ -106,6 +106,8 @@ pub record GoesInside (s t w : List ℕ) (sc : List Entry) (st st′ : State) (r
   pub plan-is : plan e h ≡ inside skipped place finish
   pub nodes : NodesAt s t first (next t row) (skip skipped (elements e))
   pub finishes : Finishes s t w (st .floor) sc (elements e) after skipped place finish
+  pub same : w′ ≡ w
+  pub same-names : names′ ≡ names
 
 -- what list the elements of a form are in, by how it is finished
 abbrev pub stands-in : After → Stands
@@ -125,9 +127,9 @@ NoCall (Enters code visible) = ⊥
 abbrev pub Begun : List ℕ → List ℕ → List ℕ → List ℕ → List ℕ → List ℕ → List Entry → State → ℕ → Node → Here → Held Left → Step → Type 0
 Begun s t w w′ names names′ sc st row e h held (Leaves left) = LeftBy s t w w′ names′ sc st h held left
 Begun s t w w′ names names′ sc st row e h held (Inside st′ first after) =
-    GoesInside s t w sc st st′ row first e h after × NoCall after × (w′ ≡ w) × (names′ ≡ names)
+    GoesInside s t w w′ names names′ sc st st′ row first e h after × NoCall after
 Begun s t w w′ names names′ sc st row e h held (Enter st′ first code visible) =
-    GoesInside s t w sc st st′ row first e h (Enters code visible) × (w′ ≡ w) × (names′ ≡ names)
+    GoesInside s t w w′ names names′ sc st st′ row first e h (Enters code visible)
 
 -- One expression at a row, with what is known of it
 pub record Beginning (s t : List ℕ) (bound : ℕ) (w names args : List ℕ) (sc : List Entry) (st : State) (stands : Stands) (code : Code) (row : ℕ) (e : Node) (h : Here) : Type 0 where

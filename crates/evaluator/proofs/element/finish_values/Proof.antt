@@ -1,31 +1,22 @@
 -- `evaluator::element::finish_values` meets its contract: a data form, a join, or a definition's values moved. Assumes nothing.
 use borrow.Author.Needs.{needs}
 use native.Mathlib.Omega.{arith}
-use Rattle.evaluator.specs.Listed.{CanFinish}
-use Rattle.evaluator.specs.declared.values.Out.the-variants.{Done}
-use Rattle.evaluator.specs.declared.plan.After.the-variants.{Concat, Define, Call}
 use Rattle.evaluator.proofs.Finishes.{can-define, can-join, no-call, form-finished, define-finished, concat-finished}
 use Rattle.evaluator.proofs.element.finish_values.Statement.{statement}
 use Rattle.evaluator.proofs.element.finish_values.Tie as tie
 
 joined-requires : tie.Need-joined-requires
 joined-requires c κs =
-    let start = c .before .before .before .before in
-    let a = start .args in
-    let can : CanFinish (a .w .now) (a .start) Concat (Done (a .state)) = rw (c .before .enum-told2 .given .1) at (start .pre) in
-    (start .pre .4 .fitting, can-join can)
+    let pre = c .before .before .before .before .pre in
+    (pre .4 .fitting, can-join (rw (c .before .enum-told2 .given .1) at (pre .3)) (pre .4))
 
 pack-requires : tie.Need-pack-requires
 pack-requires c κs =
     let told = c .before .before .before .before .before in
-    let start = told .before .before .before in
-    let a = start .args in
-    let key = told .after .given .0 .0 in
-    let can : CanFinish (a .w .now) (a .start) (Define key) (Done (a .state)) = rw (told .after .given .1) at (start .pre) in
-    let some = can-define key can in
-    let fits = start .pre .4 .fitting in
-    let moved = c .before .before .kept .ensures in
-    (omega (arith, some, moved .floor), omega (arith, fits .below, fits .short))
+    let pre = told .before .before .before .pre in
+    let fits = pre .4 .fitting in
+    let some = can-define (rw (told .after .given .1) at (pre .3)) (pre .4) in
+    (omega (arith, c .before .before .kept .ensures .floor), omega (arith, fits .below, fits .short))
 
 returns : tie.Need-returns
 returns c =
@@ -52,13 +43,7 @@ returns-3 c =
     (define-finished (a .w .now) (k .kept .last .0) (a .state) (a .start) (a .row) (told .after .given .0 .0) (k .kept .result) (k .kept .ensures))
 
 returns-4 : tie.Need-returns-4
-returns-4 c =
-    let start = c .before .before .before in
-    let a = start .args in
-    let code = c .enum-told3 .given .0 .0 in
-    let visible = c .enum-told3 .given .0 .1 .0 in
-    let can : CanFinish (a .w .now) (a .start) (Call code visible) (Done (a .state)) = rw (c .enum-told3 .given .1) at (start .pre) in
-    absurd (no-call code visible can)
+returns-4 c = absurd (rw (c .enum-told3 .given .1) at (no-call (c .before .before .before .pre .3)))
 
 pub finish-values-spec : {M : Type 1} → statement M
 finish-values-spec =

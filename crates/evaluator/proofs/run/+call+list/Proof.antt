@@ -9,31 +9,24 @@ use lib.ListN.{length, drop}
 use borrow.Author.Needs.{needs}
 use borrow.Fn.Kinds.{In}
 use borrow.Fn.PlainCycle.{Measures, is, falls, and}
-use Rattle.spec.specs.Expr.{Exprs}
-use Rattle.spec.specs.Nodes.{Node, Nodes, elements}
-use Rattle.spec.specs.Runs.{Held, hold}
-use Rattle.spec.specs.Plan.{Scope as Definitions, Place, inner, Here, as-call}
-use Rattle.spec.specs.Evaluation.{Left, finish, run-code}
-use Rattle.laws.specs.Holding.{in-list, skip}
+use Rattle.spec.specs.Plan.{inner}
+use Rattle.spec.specs.Evaluation.{run-code}
 use Rattle.evaluator.specs.Stands.{next}
 use Rattle.evaluator.specs.Entries.{Entry, entries}
-use Rattle.evaluator.specs.Completed.{with-top}
-use Rattle.evaluator.specs.Listed.{Ready, SomeReady, Met, LeftBy, GoesInside, stands-in, Begun, Beginning, SomeBeginning, CanFinish, Finished, Calling, SomeCalling, CanCall, Called}
+use Rattle.evaluator.specs.Listed.{SomeReady, LeftBy, stands-in, Begun, CanCall}
 use Rattle.evaluator.specs.declared.values.State.{State}
 use Rattle.evaluator.specs.declared.plan.Stands.{Stands}
-use Rattle.evaluator.specs.declared.plan.Stands.the-variants.{Inner}
-use Rattle.evaluator.specs.declared.plan.After.{After}
+use Rattle.evaluator.specs.declared.plan.Code.{Code}
+use Rattle.evaluator.specs.declared.scope.Scope.{Scope}
 use Rattle.evaluator.specs.declared.values.Out.{Out}
 use Rattle.evaluator.specs.declared.values.Out.the-variants.{Done}
 use Rattle.evaluator.specs.declared.element.Left.{Left as Answer}
-use Rattle.evaluator.specs.declared.element.Left.the-variants.{Stopped}
 use Rattle.evaluator.specs.declared.element.Step.{Step}
-use Rattle.evaluator.specs.declared.element.Step.the-variants.{Inside, Enter}
 use Rattle.evaluator.proofs.Nodes.{node-whole}
 use Rattle.evaluator.proofs.Entries.{entries-length, entries-under, entries-behind}
 use Rattle.evaluator.proofs.Turns.{held-list, Going, going-start, going-over, going-more, standing-here, held-next, going-begins, going-ceased, going-values, going-definition}
-use Rattle.evaluator.proofs.Insides.{steps-of, met-steps, inside-ready-as, inside-fewer, inside-can-finish, inside-finishes, inside-can-call, inside-calls}
-use Rattle.evaluator.proofs.Calling.{in-body, part-is, part-size, call-arguments, call-refused, call-ready, call-can-return, call-returns}
+use Rattle.evaluator.proofs.Insides.{steps-of, inside-some, inside-fewer, inside-can-finish, inside-finishes, inside-steps, inside-can-call, inside-calls}
+use Rattle.evaluator.proofs.Calling.{part-is, part-size, call-refused, call-ready, call-can-return, call-returns}
 use Rattle.evaluator.proofs.run.call.Reads as call
 use Rattle.evaluator.proofs.run.call.Kinds as call-kinds
 use Rattle.evaluator.proofs.run.+call+list.Lts-call as call-lts
@@ -71,12 +64,21 @@ list-at t = and 7 list-kinds.ps (is 7 list-kinds.ps μ-list t) list.Pre
 abbrev list-below : ℕ → In 7 list-kinds.ps
 list-below t = and 7 list-kinds.ps (falls 7 list-kinds.ps _<_ μ-list t) list.Pre
 
+-- what each turn of `list` keeps
+record Turning (s table w₀ names₀ args keys₀ places₀ : List ℕ) (scope₀ : Scope) (state₀ : State) (stands : Stands) (code : Code) (first end floor depth : ℕ)
+    (w names keys places : List ℕ) (scope : Scope) (state : State) (row : ℕ) : Type 0 where
+  -- how the list goes on, for all nodes that may be listed
+  going : (y : SomeReady s table w₀ names₀ args (entries keys₀ places₀ scope₀) state₀ stands code first end)
+      → Going s table (y .bound) (y .codes) args stands code end w₀ w names (entries keys places scope) state₀ state row (held-list y)
+  floor-is : floor ≡ state₀ .floor
+  depth-is : depth ≡ code .depth
+  size : length w ≡ length w₀
+  kept : entries keys places scope₀ ≡ entries keys₀ places₀ scope₀
+  longer : scope₀ .len ≤ scope .len
+
 abbrev list-Inv-loop : list-lts.InvT-loop
-list-Inv-loop s table w₀ names₀ args keys₀ places₀ scope₀ state₀ stands code first end floor depth row₀ w names keys places scope state row =
-    ((y : SomeReady s table w₀ names₀ args (entries keys₀ places₀ scope₀) state₀ stands code first end)
-    → Going s table (y .bound) (y .codes) args stands code end w₀ w names (entries keys places scope) state₀ state row (held-list y))
-    × (floor ≡ state₀ .floor) × (depth ≡ code .depth) × (length w ≡ length w₀)
-    × (entries keys places scope₀ ≡ entries keys₀ places₀ scope₀) × (scope₀ .len ≤ scope .len)
+list-Inv-loop s table w₀ names₀ args keys₀ places₀ scope₀ state₀ stands code first end floor depth row₀ =
+    Turning s table w₀ names₀ args keys₀ places₀ scope₀ state₀ stands code first end floor depth
 
 abbrev list-μ-loop : list-lts.MeasureT-loop
 list-μ-loop s table w₀ names₀ args keys₀ places₀ scope₀ state₀ stands code first end floor depth row₀ w names keys places scope state row = end - row
@@ -105,18 +107,12 @@ module _ (t : ℕ) where
   )
 
   list-loop-holds : list-lts.Need-loop-holds list-calls (list-at t) list.Post list-Inv-loop list-μ-loop
-  list-loop-holds c = (λ y. going-start _ _ _ _ _ _ _ _ _ _ _ (y .ready), refl, refl, refl, refl, omega arith)
+  list-loop-holds c = record { going = λ y. going-start (y .ready); floor-is = refl; depth-is = refl; size = refl; kept = refl; longer = omega arith }
 
   -- before an expression
   module _ (c : list-lts.In-loop list-calls (list-at t) list.Post list-Inv-loop list-μ-loop) where
     abbrev start : list-lts.Start list-calls (list-at t) list.Post list-Inv-loop list-μ-loop
     start = c .before .before .before .before .before
-
-    abbrev stream : List ℕ
-    stream = start .args .s .now
-
-    abbrev table : List ℕ
-    table = start .args .table .now
 
     -- the entries at the list's start, and now
     abbrev shown₀ : List Entry
@@ -128,8 +124,8 @@ module _ (t : ℕ) where
     -- nodes that are listed
     abbrev Listed : Type 0
     Listed =
-        SomeReady stream table (start .args .w .now) (start .args .names .now) (start .args .args .now) shown₀ (start .args .state)
-        (start .args .stands) (start .args .code) (start .args .first) (start .args .end)
+        SomeReady (start .args .s .now) (start .args .table .now) (start .args .w .now) (start .args .names .now) (start .args .args .now) shown₀
+        (start .args .state) (start .args .stands) (start .args .code) (start .args .first) (start .args .end)
 
     some : Listed
     some = start .pre .1
@@ -138,167 +134,83 @@ module _ (t : ℕ) where
     on = c .loop-test .taken
 
     module _ (y : Listed) where
-      going : Going stream table (y .bound) (y .codes) (start .args .args .now) (start .args .stands) (start .args .code) (start .args .end)
-          (start .args .w .now) (c .before .loop .w) (c .before .loop .names) shown (start .args .state) (c .before .loop .state)
-          (c .before .loop .row) (held-list y)
-      going = c .before .loop .inv .0 y
+      going : Going (start .args .s .now) (start .args .table .now) (y .bound) (y .codes) (start .args .args .now) (start .args .stands)
+          (start .args .code) (start .args .end) (start .args .w .now) (c .before .loop .w) (c .before .loop .names) shown (start .args .state)
+          (c .before .loop .state) (c .before .loop .row) (held-list y)
+      going = c .before .loop .inv .going y
 
-      -- the expression, where it is evaluated, and what it answers
-      abbrev node : Node
-      node = going-more _ _ _ _ _ _ _ _ going on .head
-
-      abbrev here : Here
-      here = standing-here _ _ _ _ _ _ _ _ going on
-
-      abbrev answer : Held Left
-      answer = held-next _ _ _ _ _ _ _ _ going on
-
-      begins : Beginning stream table (y .bound) (c .before .loop .w) (c .before .loop .names) (start .args .args .now) shown
-          (c .before .loop .state) (start .args .stands) (start .args .code) (c .before .loop .row) node here
-      begins = going-begins _ _ _ _ _ _ _ _ going on
-
-      -- it has begun, or has left something, with this workspace and these namespaces
+      -- the expression has begun, or has left something, with this workspace and these namespaces
       abbrev BegunBy : List ℕ → List ℕ → Step → Type 0
       BegunBy w names step =
-          Begun stream table (c .before .loop .w) w (c .before .loop .names) names shown (c .before .loop .state)
-          (c .before .loop .row) node here answer step
+          Begun (start .args .s .now) (start .args .table .now) (c .before .loop .w) w (c .before .loop .names) names shown (c .before .loop .state)
+          (c .before .loop .row) (going-more going on .head) (standing-here going on) (held-next going on) step
 
       abbrev Leaving : List ℕ → List ℕ → Answer → Type 0
       Leaving w names left =
-          LeftBy stream table (c .before .loop .w) w names shown (c .before .loop .state) here answer left
-
-      -- what is inside it is evaluated first
-      abbrev Within : State → ℕ → After → Type 0
-      Within st first after =
-          GoesInside stream table (c .before .loop .w) shown (c .before .loop .state) st (c .before .loop .row) first node here after
-
-    some-begins : SomeBeginning stream table (c .before .loop .w) (c .before .loop .names) (start .args .args .now) shown
-        (c .before .loop .state) (start .args .stands) (start .args .code) (c .before .loop .row)
-    some-begins = record { bound = some .bound; node = node some; here = here some; begins = begins some }
+          LeftBy (start .args .s .now) (start .args .table .now) (c .before .loop .w) w names shown (c .before .loop .state) (standing-here going on)
+          (held-next going on) left
 
   list-next-requires : list-lts.Need-next-requires list-calls (list-at t) list.Post list-Inv-loop list-μ-loop
-  list-next-requires c κs = let b = some-begins c in node-whole _ _ _ (b .node) (b .begins .node) .0
+  list-next-requires c κs = node-whole _ _ _ _ (going-more (going c (some c)) (on c) .node) .0
 
   list-begin-requires : list-lts.Need-begin-requires list-calls (list-at t) list.Post list-Inv-loop list-μ-loop
-  list-begin-requires c κs = some-begins (c .before .before .before .before .before)
+  list-begin-requires c κs =
+      let k = c .before .before .before .before .before in
+      record { bound = _; node = _; here = _; begins = going-begins (going k (some k)) (on k) }
 
   -- the row behind it is nearer to the end
   nearer : (c : list-lts.After-next list-calls (list-at t) list.Post list-Inv-loop list-μ-loop)
       → start (c .before) .args .end - c .next .result < start (c .before) .args .end - c .before .before .loop .row
   nearer c =
-      let m = going-more _ _ _ _ _ _ _ _ (going (c .before) (some (c .before))) (on (c .before)) in
+      let m = going-more (going (c .before) (some (c .before))) (on (c .before)) in
       omega (arith, c .next .ensures, m .forward, m .inside, on (c .before))
 
   -- after its step
   module _ (c : list-lts.After-slice-known2 list-calls (list-at t) list.Post list-Inv-loop list-μ-loop) where
+    abbrev behind : list-lts.After-next list-calls (list-at t) list.Post list-Inv-loop list-μ-loop
+    behind = c .before .before .before .before .before .before .before
+
     abbrev turn : list-lts.In-loop list-calls (list-at t) list.Post list-Inv-loop list-μ-loop
-    turn = c .before .before .before .before .before .before .before .before
+    turn = behind .before
 
-    abbrev w₁ : List ℕ
-    w₁ = c .before .before .begin .last .1 .1 .0
-
-    abbrev names₁ : List ℕ
-    names₁ = c .before .before .begin .last .1 .1 .1 .0
-
-    module _ (y : Listed turn) where
-      begun : (step : Step) → c .before .before .begin .result ≡ step → BegunBy turn y w₁ names₁ step
-      begun step e = subst (λ (x : Step). BegunBy turn y w₁ names₁ x) e (c .before .before .begin .ensures (y .bound) (run-code (y .codes)) _ _ (begins turn y))
-
-      -- what is inside it
-      module _ {st′ : State} {first : ℕ} {after : After} (i : Within turn y st′ first after) (same : w₁ ≡ turn .before .loop .w) (same′ : names₁ ≡ turn .before .loop .names) where
-        abbrev inside-held : Held Left
-        inside-held = hold (st′ .steps) (st′ .room) (in-list (run-code (y .codes)) (skip (i .skipped) (elements (node turn y))) (i .place) (here turn y))
-
-        inner-ready : (stands : Stands) → stands ≡ stands-in after
-            → Ready (stream turn) (table turn) (y .bound) (y .codes) w₁ names₁ (start turn .args .args .now) (shown turn) st′ stands
-            (start turn .args .code) first (c .before .before .before .before .before .before .before .next .result) (skip (i .skipped) (elements (node turn y))) (i .place) (here turn y)
-        inner-ready stands e = inside-ready-as (going turn y) (on turn) i w₁ names₁ stands (c .before .before .before .before .before .before .before .next .result) same same′ e (c .before .before .before .before .before .before .before .next .ensures)
-
-        inner-some : (stands : Stands) → stands ≡ stands-in after
-            → SomeReady (stream turn) (table turn) w₁ names₁ (start turn .args .args .now) (shown turn) st′ stands (start turn .args .code) first (c .before .before .before .before .before .before .before .next .result)
-        inner-some stands e = record { bound = y .bound; codes = y .codes; nodes = _; place = _; here = _; ready = inner-ready stands e }
-
-        inner-met : (w₂ names₂ : List ℕ) (out : Out) → Met (stream turn) (table turn) w₁ w₂ names₂ st′ inside-held out
-            → Met (stream turn) (table turn) (turn .before .loop .w) w₂ names₂ st′ inside-held out
-        inner-met w₂ names₂ out m = subst (λ (x : List ℕ). Met (stream turn) (table turn) x w₂ names₂ st′ inside-held out) same m
-
-        inner-fewer : st′ .steps < start turn .args .state .steps
-        inner-fewer = omega (arith, inside-fewer (going turn y) (on turn) i, going turn y .fewer)
-
-    -- the rows inside were evaluated
-    abbrev Evaluated : State → Stands → ℕ → List ℕ → List ℕ → Out → Type 0
-    Evaluated st′ stands first w₂ names₂ out =
-        (bound codes : ℕ) (es : Nodes) (p : Place) (h : Here)
-        → Ready (stream turn) (table turn) bound codes w₁ names₁ (start turn .args .args .now) (shown turn) st′ stands (start turn .args .code) first (c .before .before .before .before .before .before .before .next .result) es p h
-        → Met (stream turn) (table turn) w₁ w₂ names₂ st′ (hold (st′ .steps) (st′ .room) (in-list (run-code codes) es p h)) out
-
-    module _ (y : Listed turn) where
-      -- then the expression is finished
-      module _ (st′ : State) (first : ℕ) (after : After) (told : c .before .before .begin .result ≡ Inside st′ first after) (stands : Stands)
-          (e : stands ≡ stands-in after) (w₂ names₂ : List ℕ) (out : Out) (evaluated : Evaluated st′ stands first w₂ names₂ out) where
-        finish-met : Met (stream turn) (table turn) (turn .before .loop .w) w₂ names₂ st′ (inside-held y (begun y _ told .0) (begun y _ told .2) (begun y _ told .3)) out
-        finish-met =
-            let b = begun y _ told in
-            inner-met y (b .0) (b .2) (b .3) w₂ names₂ out (evaluated _ _ _ _ _ (inner-ready y (b .0) (b .2) (b .3) stands e))
-
-        can-finish : CanFinish w₂ (turn .before .loop .state .top) after out
-        can-finish = let b = begun y _ told in inside-can-finish (going turn y) (on turn) (b .0) (b .1) w₂ names₂ out finish-met
-
-        finished : (w₃ : List ℕ) (left : Answer) → Finished w₂ w₃ (turn .before .loop .state .top) (turn .before .loop .row) after left out → Leaving turn y w₃ names₂ left
-        finished w₃ left f = let b = begun y _ told in inside-finishes (going turn y) (on turn) (b .0) (b .1) w₂ names₂ out w₃ left finish-met f
-
-      -- then code is entered
-      module _ (st′ : State) (first body visible : ℕ) (told : c .before .before .begin .result ≡ Enter st′ first body visible) (w₂ names₂ : List ℕ) (out : Out)
-          (evaluated : Evaluated st′ Inner first w₂ names₂ out) (keys places : List ℕ)
-          (kept : entries keys places (turn .before .loop .scope) ≡ shown turn) (depth : ℕ) (d : depth ≡ start turn .args .code .depth) where
-        enter-met : Met (stream turn) (table turn) (turn .before .loop .w) w₂ names₂ st′ (inside-held y (begun y _ told .0) (begun y _ told .1) (begun y _ told .2)) out
-        enter-met =
-            let b = begun y _ told in
-            inner-met y (b .0) (b .1) (b .2) w₂ names₂ out (evaluated _ _ _ _ _ (inner-ready y (b .0) (b .1) (b .2) Inner refl))
-
-        can-call : CanCall (stream turn) (table turn) w₂ names₂ (entries keys places (turn .before .loop .scope)) visible depth body (turn .before .loop .state .top) out
-        can-call = let b = begun y _ told in rw (d, kept) (inside-can-call (going turn y) (on turn) (b .0) w₂ names₂ out enter-met)
-
-        called : (w₃ names₃ : List ℕ) (left : Answer)
-            → Called (stream turn) (table turn) w₂ w₃ names₂ names₃ (entries keys places (turn .before .loop .scope)) visible depth body (turn .before .loop .state .top) (turn .before .loop .row) left out
-            → Leaving turn y w₃ names₃ left
-        called w₃ names₃ left f =
-            let b = begun y _ told in inside-calls (going turn y) (on turn) (b .0) w₂ names₂ out w₃ names₃ left enter-met (rw (d, kept) at f)
-
-        enter-fewer : steps-of out < start turn .args .state .steps
-        enter-fewer = let b = begun y _ told in omega (arith, inner-fewer y (b .0) (b .1) (b .2), met-steps _ _ _ _ _ st′ _ out enter-met)
+    begun : (y : Listed turn) (step : Step) → c .before .before .begin .result ≡ step
+        → BegunBy turn y (c .before .before .begin .last .1 .1 .0) (c .before .before .begin .last .1 .1 .1 .0) step
+    begun y step e =
+        subst (BegunBy turn y _ _) e (c .before .before .begin .ensures (y .bound) (run-code (y .codes)) _ _ (going-begins (going turn y) (on turn)))
 
   list-list-requires : list-lts.Need-list-requires list-calls (list-at t) list.Post list-Inv-loop list-μ-loop
   list-list-requires c κs =
       let k = c .before .before .before .before .before .before .before .before in
-      let y = some (turn k) in
-      let b = begun k y _ (c .before .before .before .before .before .before .inner .given .1) in (
-        omega (arith, inner-fewer k y (b .0) (b .2) (b .3), start (turn k) .pre .0),
-        inner-some k y (b .0) (b .2) (b .3) (c .stands-in .result) (c .stands-in .ensures),
+      let g = going (turn k) (some (turn k)) in
+      let b = begun k (some (turn k)) _ (c .before .before .before .before .before .before .inner .given .1) in (
+        omega (arith, inside-fewer g (on (turn k)) (b .0), start (turn k) .pre .0),
+        inside-some g (on (turn k)) (b .0) (c .stands-in .ensures) (behind k .next .ensures),
       )
 
   list-finish-requires : list-lts.Need-finish-requires list-calls (list-at t) list.Post list-Inv-loop list-μ-loop
   list-finish-requires c κs =
       let k = c .before .before .before .before .before .before .before .before .before .before .before .before in
-      can-finish k (some (turn k)) _ _ _ (c .before .before .before .before .before .before .before .before .before .before .inner .given .1) (c .before .before .before .before .stands-in .result) (c .before .before .before .before .stands-in .ensures)
-      (c .before .before .before .list .last .1 .1 .0) (c .before .before .before .list .last .1 .1 .1 .0) (c .before .before .before .list .result) (c .before .before .before .list .ensures .0)
+      let b = begun k (some (turn k)) _ (c .before .before .before .before .before .before .before .before .before .before .inner .given .1) in
+      let l = c .before .before .before .list in
+      inside-can-finish (going (turn k) (some (turn k))) (on (turn k)) (b .0) (c .before .before .before .before .stands-in .ensures)
+      (behind k .next .ensures) (l .last .1 .1 .0) (l .last .1 .1 .1 .0) (l .result) (l .ensures .0) (b .1)
 
   list-list-requires-2 : list-lts.Need-list-requires-2 list-calls (list-at t) list.Post list-Inv-loop list-μ-loop
   list-list-requires-2 c κs =
       let k = c .before .before .before .before .before .before .before in
-      let y = some (turn k) in
-      let b = begun k y _ (c .before .before .before .before .before .inner2 .given .1) in
-      (omega (arith, inner-fewer k y (b .0) (b .1) (b .2), start (turn k) .pre .0), inner-some k y (b .0) (b .1) (b .2) Inner refl)
+      let g = going (turn k) (some (turn k)) in
+      let b = begun k (some (turn k)) _ (c .before .before .before .before .before .inner2 .given .1) in
+      (omega (arith, inside-fewer g (on (turn k)) b, start (turn k) .pre .0), inside-some g (on (turn k)) b refl (behind k .next .ensures))
 
   list-call-requires : list-lts.Need-call-requires list-calls (list-at t) list.Post list-Inv-loop list-μ-loop
   list-call-requires c κs =
       let k = c .before .before .before .before .before .before .before .before .before .before .before .before .before .before in
-      let y = some (turn k) in
       let l = c .before .before .before .before .before .before .list2 in
-      let told = c .before .before .before .before .before .before .before .before .before .before .before .before .inner2 .given .1 in
-      let d = turn k .before .loop .inv .2 in (
-        omega (arith, enter-fewer k y _ _ _ _ told (l .last .1 .1 .0) (l .last .1 .1 .1 .0) (l .result) (l .ensures .0) (l .last .1 .1 .1 .1 .1 .0) (l .last .1 .1 .1 .1 .1 .1 .0) (l .ensures .1) _ d, start (turn k) .pre .0),
-        can-call k y _ _ _ _ told (l .last .1 .1 .0) (l .last .1 .1 .1 .0) (l .result) (l .ensures .0) (l .last .1 .1 .1 .1 .1 .0) (l .last .1 .1 .1 .1 .1 .1 .0) (l .ensures .1) _ d,
+      let g = going (turn k) (some (turn k)) in
+      let b = begun k (some (turn k)) _ (c .before .before .before .before .before .before .before .before .before .before .before .before .inner2 .given .1) in (
+        omega (arith, inside-steps g (on (turn k)) b refl (behind k .next .ensures) (l .last .1 .1 .0) (l .last .1 .1 .1 .0) (l .result) (l .ensures .0), start (turn k) .pre .0),
+        inside-can-call g (on (turn k)) b refl (behind k .next .ensures) (l .last .1 .1 .0) (l .last .1 .1 .1 .0) (l .result) (l .ensures .0) refl (l .ensures .1)
+            (turn k .before .loop .inv .depth-is),
       )
 
   -- what it leaves, in each of the three ways
@@ -321,25 +233,28 @@ module _ (t : ℕ) where
     kept-start : entries (c .match .keys) (c .match .places) (start (turn (c .before)) .args .scope) ≡ shown₀ (turn (c .before))
     kept-start =
         let l = turn (c .before) .before .loop in
-        entries-under (c .match .keys) (c .match .places) (l .keys) (l .places) (start (turn (c .before)) .args .scope .len) (l .scope .len) (l .inv .5) kept-left
-        ∙ l .inv .4
+        entries-under (c .match .keys) (c .match .places) (l .keys) (l .places) (start (turn (c .before)) .args .scope .len) (l .scope .len) (l .inv .longer) kept-left
+        ∙ l .inv .kept
 
     module _ (y : Listed (turn (c .before))) where
       left-by-one : Leaving (turn (c .before)) y (c .match .w) (c .match .names) (c .match .left)
       left-by-one =
           let k = c .before in
+          let g = going (turn k) y in
           ⊎-elim (λ x. rw (x .3, x .4, x .7) (begun k y _ (x .1 .given .1)))
           (λ z. ⊎-elim
-          (λ x. rw (x .15, x .16, x .19) (finished k y _ _ _ (x .1 .given .1) (x .7 .result) (x .7 .ensures) (x .8 .last .1 .1 .0) (x .8 .last .1 .1 .1 .0)
-          (x .8 .result) (x .8 .ensures .0) (x .12 .last .0) (x .12 .result) (x .12 .ensures)))
-          (λ x. rw (x .17, x .18, x .21) (called k y _ _ _ _ (x .1 .given .1) (x .7 .last .1 .1 .0) (x .7 .last .1 .1 .1 .0) (x .7 .result) (x .7 .ensures .0)
-          (x .7 .last .1 .1 .1 .1 .1 .0) (x .7 .last .1 .1 .1 .1 .1 .1 .0) (x .7 .ensures .1) _ (turn k .before .loop .inv .2) (x .14 .last .1 .1 .0) (x .14 .last .1 .1 .1 .0) (x .14 .result) (x .14 .ensures))) z) (c .match .came)
+          (λ x. let b = begun k y _ (x .1 .given .1) in
+          rw (x .15, x .16, x .19) (inside-finishes g (on (turn k)) (b .0) (x .7 .ensures) (behind k .next .ensures) (x .8 .last .1 .1 .0)
+          (x .8 .last .1 .1 .1 .0) (x .8 .result) (x .8 .ensures .0) (b .1) (x .12 .last .0) (x .12 .result) (x .12 .ensures)))
+          (λ x. rw (x .17, x .18, x .21) (inside-calls g (on (turn k)) (begun k y _ (x .1 .given .1)) refl (behind k .next .ensures) (x .7 .last .1 .1 .0)
+          (x .7 .last .1 .1 .1 .0) (x .7 .result) (x .7 .ensures .0) refl (x .7 .ensures .1) (turn k .before .loop .inv .depth-is)
+          (x .14 .last .1 .1 .0) (x .14 .last .1 .1 .1 .0) (x .14 .result) (x .14 .ensures))) z) (c .match .came)
 
       left-as : (left : Answer) → c .match .left ≡ left → Leaving (turn (c .before)) y (c .match .w) (c .match .names) left
       left-as left e = subst (λ (x : Answer). Leaving (turn (c .before)) y (c .match .w) (c .match .names) x) e left-by-one
 
   list-same-length : list-lts.Need-same-length list-calls (list-at t) list.Post list-Inv-loop list-μ-loop
-  list-same-length c = same-length-left (c .before .before .before) ∙ turn (c .before .before .before .before) .before .loop .inv .3
+  list-same-length c = same-length-left (c .before .before .before) ∙ turn (c .before .before .before .before) .before .loop .inv .size
 
   list-returns : list-lts.Need-returns list-calls (list-at t) list.Post list-Inv-loop list-μ-loop
   list-returns c =
@@ -347,25 +262,26 @@ module _ (t : ℕ) where
       let k = j .before in (
         λ bound codes es p h r.
             let y : Listed (turn k) = record { bound = bound; codes = codes; nodes = es; place = p; here = h; ready = r } in
-            going-ceased _ _ _ _ _ _ _ _ (going (turn k) y) (on (turn k)) _ _ (left-as j y _ (c .before .left .given .1)),
+            going-ceased (going (turn k) y) (on (turn k)) _ _ (left-as j y _ (c .before .left .given .1)),
         kept-start j,
       )
 
   list-loop-less : list-lts.Need-loop-less list-calls (list-at t) list.Post list-Inv-loop list-μ-loop
-  list-loop-less c = nearer (c .before .before .before .before .before .before .before .before .before .before .before)
+  list-loop-less c = nearer (behind (c .before .before .before .before))
 
   list-loop-again : list-lts.Need-loop-again list-calls (list-at t) list.Post list-Inv-loop list-μ-loop
   list-loop-again c =
       let j = c .before .before .before in
       let k = j .before in
-      let l = turn k .before .loop in (
-        λ y. going-values _ _ _ _ _ _ _ _ (going (turn k) y) (on (turn k)) (k .before .before .before .before .before .before .before .next .ensures) (left-as j y _ (c .before .left2 .given .1)) (kept-left j),
-        l .inv .1,
-        l .inv .2,
-        same-length-left j ∙ l .inv .3,
-        kept-start j,
-        l .inv .5,
-      )
+      let i = turn k .before .loop .inv in
+      record {
+        going = λ y. going-values (going (turn k) y) (on (turn k)) (behind k .next .ensures) (left-as j y _ (c .before .left2 .given .1)) (kept-left j);
+        floor-is = i .floor-is;
+        depth-is = i .depth-is;
+        size = same-length-left j ∙ i .size;
+        kept = kept-start j;
+        longer = i .longer;
+      }
 
   list-add-requires : list-lts.Need-add-requires list-calls (list-at t) list.Post list-Inv-loop list-μ-loop
   list-add-requires c κs =
@@ -375,35 +291,35 @@ module _ (t : ℕ) where
       omega (arith, l .few, entries-length (now .keys) (now .places) (now .scope .len))
 
   list-loop-less-2 : list-lts.Need-loop-less-2 list-calls (list-at t) list.Post list-Inv-loop list-μ-loop
-  list-loop-less-2 c = nearer (c .before .before .before .before .before .before .before .before .before .before .before .before .before .before)
+  list-loop-less-2 c = nearer (behind (c .before .before .before .before .before .before .before))
 
   list-loop-again-2 : list-lts.Need-loop-again-2 list-calls (list-at t) list.Post list-Inv-loop list-μ-loop
   list-loop-again-2 c =
       let j = c .before .before .before .before .before .before in
       let k = j .before in
       let l = turn k .before .loop in
-      let more = c .add .ensures in (
-        λ y. going-definition _ _ _ _ _ _ _ _ (going (turn k) y) (on (turn k)) (k .before .before .before .before .before .before .before .next .ensures) (left-as j y _ (c .before .before .before .before .left3 .given .1)) (more .0) (kept-left j),
-        l .inv .1,
-        l .inv .2,
-        same-length-left j ∙ l .inv .3,
-        entries-under _ _ _ _ (start (turn k) .args .scope .len) (l .scope .len) (l .inv .5) (entries-behind _ _ _ _ _ _ (rw (more .1) at (more .0))) ∙ kept-start j,
-        omega (arith, more .1, l .inv .5),
-      )
+      let i = l .inv in
+      let more = c .add .ensures in
+      record {
+        going = λ y. going-definition (going (turn k) y) (on (turn k)) (behind k .next .ensures) (left-as j y _ (c .before .before .before .before .left3 .given .1)) (more .0) (kept-left j);
+        floor-is = i .floor-is;
+        depth-is = i .depth-is;
+        size = same-length-left j ∙ i .size;
+        kept =
+            entries-under _ _ _ _ (start (turn k) .args .scope .len) (l .scope .len) (i .longer) (entries-behind _ _ _ _ _ _ (rw (more .1) at (more .0)))
+            ∙ kept-start j;
+        longer = omega (arith, more .1, i .longer);
+      }
 
   list-same-length-2 : list-lts.Need-same-length-2 list-calls (list-at t) list.Post list-Inv-loop list-μ-loop
-  list-same-length-2 c = c .before .before .loop .inv .3
+  list-same-length-2 c = c .before .before .loop .inv .size
 
   list-returns-2 : list-lts.Need-returns-2 list-calls (list-at t) list.Post list-Inv-loop list-μ-loop
   list-returns-2 c =
-      let l = c .before .before in
-      let a = l .before .before .before .before .args in (
-        λ bound codes es p h r.
-            let y : SomeReady (a .s .now) (a .table .now) (a .w .now) (a .names .now) (a .args .now) (entries (a .keys .now) (a .places .now) (a .scope)) (a .state) (a .stands) (a .code) (a .first) (a .end) =
-            record { bound = bound; codes = codes; nodes = es; place = p; here = h; ready = r } in
-            subst (λ (x : Out). Met (a .s .now) (a .table .now) (a .w .now) (l .loop .w) (l .loop .names) (a .state) (held-list y) x) (sym (c .over .ensures))
-            (going-over _ _ _ _ _ _ _ _ (l .loop .inv .0 y) (c .before .loop-test .left) _ (l .loop .inv .1)),
-        l .loop .inv .4,
+      let i = c .before .before .loop .inv in (
+        λ bound codes es p h r. rw (c .over .ensures)
+            (going-over (i .going (record { bound = bound; codes = codes; nodes = es; place = p; here = h; ready = r })) (c .before .loop-test .left) _ (i .floor-is)),
+        i .kept,
       )
 
   -- Calls
@@ -425,99 +341,93 @@ module _ (t : ℕ) where
     abbrev lent : List Entry
     lent = entries (first .args .keys .now) (first .args .places .now) (first .args .scope)
 
-    some-calls : SomeCalling (first .args .s .now) (first .args .table .now) (first .args .w .now) (first .args .names .now) lent (first .args .visible) given-state (first .args .depth) (first .args .code) (first .args .start)
-    some-calls = subst (λ (x : Out). CanCall (first .args .s .now) (first .args .table .now) (first .args .w .now) (first .args .names .now) lent (first .args .visible) (first .args .depth) (first .args .code) (first .args .start) x) told (first .pre .1)
+    abbrev Can : Out → Type 0
+    Can out =
+        CanCall (first .args .s .now) (first .args .table .now) (first .args .w .now) (first .args .names .now) lent (first .args .visible)
+        (first .args .depth) (first .args .code) (first .args .start) out
 
-    calls-some : Calling (first .args .s .now) (first .args .table .now) (some-calls .bound) (some-calls .codes) (first .args .w .now) (first .args .names .now) lent (first .args .visible) given-state (first .args .depth) (first .args .code) (first .args .start) (some-calls .body) (some-calls .behind) (some-calls .here) (some-calls .values)
-    calls-some = some-calls .calls
-
-    call-answers : (w′ names′ : List ℕ) (left : Answer)
-        → Called (first .args .s .now) (first .args .table .now) (first .args .w .now) w′ (first .args .names .now) names′ lent (first .args .visible) (first .args .depth) (first .args .code) (first .args .start) (first .args .row) left (Done given-state)
-        → Called (first .args .s .now) (first .args .table .now) (first .args .w .now) w′ (first .args .names .now) names′ lent (first .args .visible) (first .args .depth) (first .args .code) (first .args .start) (first .args .row) left (first .args .out)
-    call-answers w′ names′ left f =
-        subst (λ (x : Out). Called (first .args .s .now) (first .args .table .now) (first .args .w .now) w′ (first .args .names .now) names′ lent (first .args .visible) (first .args .depth) (first .args .code) (first .args .start) (first .args .row) left x) (sym told) f
+    some-calls : Can (Done given-state)
+    some-calls = subst Can told (first .pre .1)
 
   call-returns-1 : call-lts.Need-returns call-calls (call-at t) call.Post
-  call-returns-1 c = call-answers (c .before) _ _ _ λ bound codes body behind h vs es z. call-refused z _ (c .if1 .taken)
+  call-returns-1 c = rw (told (c .before)) λ bound codes body behind h vs es z. call-refused z _ (c .if1 .taken)
 
   call-sub-spread : call-lts.Need-sub-spread call-calls (call-at t) call.Post
-  call-sub-spread c = calls-some (c .before .before .before) .stand .order
+  call-sub-spread c = some-calls (c .before .before .before) .calls .stand .order
 
   call-part-spread-start : call-lts.Need-part-spread-start call-calls (call-at t) call.Post
-  call-part-spread-start c = let z = calls-some (c .before .before .before .before) in search (needs, z .stand .order)
+  call-part-spread-start c = let z = some-calls (c .before .before .before .before) .calls in search (needs, z .stand .order)
 
   call-part-spread-end : call-lts.Need-part-spread-end call-calls (call-at t) call.Post
-  call-part-spread-end c = let z = calls-some (c .before .before .before .before) in search (needs, z .stand .inside)
+  call-part-spread-end c = let z = some-calls (c .before .before .before .before) .calls in search (needs, z .stand .inside)
 
   call-spread-requires : call-lts.Need-spread-requires call-calls (call-at t) call.Post
   call-spread-requires c κs =
       let k = c .before .before .before .before .before .before in
-      let z = calls-some k in
-      (omega (arith, part-size z (first k .args .row), z .stand .inside, z .fitting .short), (some-calls k .values, part-is z (first k .args .row), z .sound .0, z .sound .1))
+      let z = some-calls k .calls in
+      (omega (arith, part-size z, z .stand .inside, z .fitting .short), (some-calls k .values, part-is z, z .sound .0, z .sound .1))
 
   call-add-list : call-lts.Need-add-list call-calls (call-at t) call.Post
-  call-add-list c = let z = calls-some (c .before .before .before .before .before .before .before) in search (needs, c .before .before .before .before .before .before .if1 .left)
+  call-add-list c = let z = some-calls (c .before .before .before .before .before .before .before) .calls in search (needs, c .before .before .before .before .before .before .if1 .left)
 
   call-back-to-requires : call-lts.Need-back-to-requires call-calls (call-at t) call.Post
   call-back-to-requires c κs =
       let k = c .before .before .before .before .before .before .before .before .before .before .before .before in
       let a = first k .args in
-      omega (arith, entries-length (a .keys .now) (a .places .now) (a .scope .len), calls-some k .visible-in)
+      omega (arith, entries-length (a .keys .now) (a .places .now) (a .scope .len), some-calls k .calls .visible-in)
 
   call-add-list-2 : call-lts.Need-add-list-2 call-calls (call-at t) call.Post
-  call-add-list-2 c = let z = calls-some (c .before .before .before .before .before .before .before .before .before .before .before .before .before) in search (needs, z .at .form .few)
+  call-add-list-2 c = let z = some-calls (c .before .before .before .before .before .before .before .before .before .before .before .before .before) .calls in search (needs, z .at .form .few)
 
   call-next-requires : call-lts.Need-next-requires call-calls (call-at t) call.Post
-  call-next-requires c κs = calls-some (c .before .before .before .before .before .before .before .before .before .before .before .before .before) .at .form .inside
+  call-next-requires c κs = some-calls (c .before .before .before .before .before .before .before .before .before .before .before .before .before) .calls .at .form .inside
 
   -- where the code is run
   module _ (c : call-lts.After-next call-calls (call-at t) call.Post) where
     abbrev k : call-lts.After-known-told2 call-calls (call-at t) call.Post
     k = c .before .before .before .before .before .before .before .before .before .before .before .before .before .before
 
-    -- of the entries that are lent, those behind the code's definition
-    abbrev inner-shown : List Entry
-    inner-shown = let a = first k .args in entries (a .keys .now) (a .places .now) (c .before .back-to .result)
+    abbrev spread-in : call-lts.After-spread call-calls (call-at t) call.Post
+    spread-in = c .before .before .before .before .before .before .before
 
-    behind-code : inner-shown ≡ drop (length (lent k) - first k .args .visible) (lent k)
+    few-codes : first k .args .depth < 32
+    few-codes = c .before .before .before .before .before .before .before .before .before .before .before .before .before .if1 .left
+
+    -- of the entries that are lent, those behind the code's definition are visible
+    behind-code : let a = first k .args in entries (a .keys .now) (a .places .now) (c .before .back-to .result) ≡ drop (length (lent k) - a .visible) (lent k)
     behind-code =
         let a = first k .args in
         c .before .back-to .ensures (a .keys .now) (a .places .now)
         ∙ ap (λ (n : ℕ). drop (n - a .visible) (lent k)) (sym (entries-length (a .keys .now) (a .places .now) (a .scope .len)))
 
-    body-ready : {bound codes : ℕ} {body : Nodes} {behind : Definitions} {h : Here} {vs : Exprs} (z : Calling (first k .args .s .now) (first k .args .table .now) bound codes (first k .args .w .now) (first k .args .names .now) (lent k) (first k .args .visible) (given-state k) (first k .args .depth) (first k .args .code) (first k .args .start) body behind h vs)
-        → Ready (first k .args .s .now) (first k .args .table .now) bound (codes - 1) (first k .args .w .now) (first k .args .names .now) (c .before .before .before .before .before .before .before .spread .last .1 .1 .0) inner-shown (given-state k) Inner
-        (record { depth = first k .args .depth + 1; count = c .before .before .before .before .before .before .before .spread .result; to = given-state k .top }) (first k .args .code + 2) (c .next .result) body inner (in-body z (first k .args .row))
-    body-ready z =
-        call-ready z (first k .args .row) (c .before .before .before .before .before .before .before .before .before .before .before .before .before .if1 .left) _ _ _ _ (c .next .ensures) behind-code (call-arguments z (first k .args .row) _ _ (c .before .before .before .before .before .before .before .spread .ensures))
-
   call-list-requires : call-lts.Need-list-requires call-calls (call-at t) call.Post
   call-list-requires c κs =
       let y = some-calls (k c) in
       let steps = ap steps-of (told (k c)) in
-      (omega (arith, steps, first (k c) .pre .0), record { bound = y .bound; codes = y .codes - 1; nodes = _; place = _; here = _; ready = body-ready c (calls-some (k c)) })
+      let ready = call-ready (y .calls) (few-codes c) _ _ (c .next .ensures) (behind-code c) (spread-in c .spread .ensures) in
+      (omega (arith, first (k c) .pre .0), record { bound = y .bound; codes = y .codes - 1; nodes = _; place = _; here = _; ready = ready })
 
   call-returned-requires : call-lts.Need-returned-requires call-calls (call-at t) call.Post
   call-returned-requires c κs =
       let n = c .before .before .before .before in
-      let y = some-calls (k n) in
-      let z = calls-some (k n) in
-      ((y .body, z .at), call-can-return z (first (k n) .args .row) (n .before .before .before .before .before .before .before .before .before .before .before .before .before .if1 .left) (c .before .before .before .list .last .1 .1 .0) (c .before .before .before .list .last .1 .1 .1 .0) (c .before .before .before .list .result) (c .before .before .before .list .ensures .0 _ _ _ _ _ (body-ready n z)))
+      let l = c .before .before .before .list in
+      let y = some-calls (k n) in (
+        (y .body, y .calls .at),
+        call-can-return (y .calls) (few-codes n) _ _ (n .next .ensures) (behind-code n) (spread-in n .spread .ensures) (l .last .1 .1 .0) (l .last .1 .1 .1 .0)
+            (l .result) (l .ensures .0),
+      )
 
   call-returns-2 : call-lts.Need-returns-2 call-calls (call-at t) call.Post
-  call-returns-2 c =
-      let a = c .before .before .before .before .before .before .args in
-      subst (λ (x : Out). Called (a .s .now) (a .table .now) (a .w .now) (a .w .now) (a .names .now) (a .names .now) (entries (a .keys .now) (a .places .now) (a .scope)) (a .visible) (a .depth) (a .code) (a .start) (a .row) (Stopped (c .before .out .given .0 .0) (c .before .out .given .0 .1 .0)) x) (sym (c .before .out .given .1)) refl
+  call-returns-2 c = rw (c .before .out .given .1) refl
 
   call-returns-3 : call-lts.Need-returns-3 call-calls (call-at t) call.Post
   call-returns-3 c =
       let n = c .before .before .before .before .before .before .before .before in
-      call-answers (k n) _ _ _ λ bound codes body behind h vs es z.
-      let m = c .before .before .before .before .before .before .before .list .ensures .0 _ _ _ _ _ (body-ready n z) in
-      subst (λ (x : Answer). LeftBy (first (k n) .args .s .now) (first (k n) .args .table .now) (first (k n) .args .w .now) (c .before .before .before .returned .last .1 .1 .0) (c .before .before .before .before .before .before .before .list .last .1 .1 .1 .0) es
-      (with-top (given-state (k n)) (given-state (k n) .room) (first (k n) .args .start)) h (hold (given-state (k n) .steps) (given-state (k n) .room) (finish (run-code codes) (first (k n) .args .row) h (as-call body behind) vs)) x)
-      (sym (c .leaves .ensures))
-      (call-returns z (first (k n) .args .row) (n .before .before .before .before .before .before .before .before .before .before .before .before .before .if1 .left) (c .before .before .before .before .before .before .before .list .last .1 .1 .0) (c .before .before .before .before .before .before .before .list .last .1 .1 .1 .0) (c .before .before .before .before .before .before .before .list .result) (c .before .before .before .returned .last .1 .1 .0) es (c .before .before .before .returned .result) m (c .before .before .before .returned .ensures))
+      let l = c .before .before .before .before .before .before .before .list in
+      let returned = c .before .before .before .returned in
+      rw (told (k n), c .leaves .ensures) λ bound codes body behind h vs es z.
+      call-returns z (few-codes n) _ _ (n .next .ensures) (behind-code n) (spread-in n .spread .ensures) (l .last .1 .1 .0) (l .last .1 .1 .1 .0)
+      (l .result) (l .ensures .0) (first (k n) .args .row) (returned .last .1 .1 .0) es (returned .result) (returned .ensures)
 
 pub +call+list-spec : {M : Type 1} → statement M
 +call+list-spec = close μ-call μ-list
