@@ -24,7 +24,7 @@ use Rattle.evaluator.specs.declared.plan.Task.{Task}
 use Rattle.evaluator.specs.declared.plan.Task.the-variants.{Refuse, Own, Again, Inside}
 use Rattle.evaluator.proofs.Rules.{code-at}
 use Rattle.evaluator.proofs.Nodes.{MoreAt, nodes-done, form-row, form-nodes, leaf-skipped}
-use Rattle.evaluator.proofs.Keys.{key-small, Function as Named, word-key, plain-key, word-of, word-again, is-word, is-plain, HeadFits, head-word-of, first-fits, head-fits, headed-by-key}
+use Rattle.evaluator.proofs.Keys.{key-small, Function as Named, word-key, plain-key, word-of, word-again, NoWord, no-word-is, is-word, is-plain, HeadFits, head-word-of, first-fits, head-fits, headed-by-key}
 use Rattle.evaluator.proofs.Parts.{head-at}
 use Rattle.evaluator.proofs.Shown.{Answers, no-answer, value-answer, function-answer}
 
@@ -151,25 +151,18 @@ pub record PlainHead (es : Nodes) (h : Here) : Type 0 where
 
 -- no key of a function name, and not that of no reference
 abbrev pub Plain : ℕ → Type 0
-Plain k =
-    (k ≡ 0x2006 → ⊥)
-    × (k ≡ 0x2009 → ⊥)
-    × (k ≡ 0x200A → ⊥)
-    × (k ≡ 0x200B → ⊥)
-    × (k ≡ 0x200C → ⊥)
-    × (k ≡ 0x200D → ⊥)
-    × (k ≡ no-key → ⊥)
+Plain k = NoWord k × (k ≡ no-key → ⊥)
 
 plain-head : (es : Nodes) (h : Here) → HeadFits es → Plain (head-key es) → PlainHead es h
 unfolding plan-form
-plain-head empty h f p = absurd (p .6 refl)
-plain-head (cons (leaf q nil) es) h f p = absurd (p .6 refl)
-plain-head (cons (leaf q (array bs)) es) h f p = absurd (p .6 refl)
-plain-head (cons (leaf q (int v)) es) h f p = absurd (p .6 refl)
+plain-head empty h f p = absurd (p .1 refl)
+plain-head (cons (leaf q nil) es) h f p = absurd (p .1 refl)
+plain-head (cons (leaf q (array bs)) es) h f p = absurd (p .1 refl)
+plain-head (cons (leaf q (int v)) es) h f p = absurd (p .1 refl)
 plain-head (cons (leaf q (ref m n)) es) h f p =
-    let as-plain : word m n ≡ plain = is-plain (word-of m n (f .2)) (p .0) (p .1) (p .2) (p .3) (p .4) (p .5) in
+    let as-plain : word m n ≡ plain = is-plain (word-of m n (f .2)) (no-word-is (p .0)) in
     record { row = q; marker = m; name = n; rest = es; is = refl; fits = f; plans = rw as-plain }
-plain-head (cons (branch q fs) es) h f p = absurd (p .6 refl)
+plain-head (cons (branch q fs) es) h f p = absurd (p .1 refl)
 
 module _ (s t : List ℕ) (row q : ℕ) (es : Nodes) (h : Here) (b : Bytes s) (at : NodeAt s t row (branch q es)) (k : ℕ) (key : k ≡ head-key es) where
   head-fit : HeadFits es
@@ -182,10 +175,7 @@ module _ (s t : List ℕ) (row q : ℕ) (es : Nodes) (h : Here) (b : Bytes s) (a
   unfolding plan-form
   form-none e =
       let none : head-key es ≡ no-key = sym key ∙ e in
-      let as-plain : head-word es ≡ plain =
-      is-plain (head-word-of es head-fit) (λ z. omega (arith, none, z)) (λ z. omega (arith, none, z)) (λ z. omega (arith, none, z))
-      (λ z. omega (arith, none, z)) (λ z. omega (arith, none, z)) (λ z. omega (arith, none, z)) in
-      rw as-plain
+      rw (is-plain (head-word-of es head-fit) (λ w f z. omega (arith, none, z)))
 
   pub form-plain : Plain k → PlainHead es h
   form-plain p = plain-head es h head-fit (rw key at p)

@@ -44,13 +44,6 @@ module _ (start : tie.Start) where
       let set = known .setting in
       record { namespaces = known .here .namespaces; are = set .namespaces; counted = set .counted; most = set .most }
 
--- the key is none that the match names
-module _ (c : tie.At-match-rest) where
-  unlisted : Plain (c .before .head .result)
-  unlisted =
-      let no = c .match .rest in
-      (no .0 .0 .0 .0 .0 .0 .1, no .0 .0 .0 .0 .0 .1, no .0 .0 .0 .1, no .0 .0 .0 .0 .1, no .0 .0 .1, no .0 .1, no .1)
-
 head-requires : tie.Need-head-requires
 head-requires c κs =
     let f = c .before .before .pre .0 in
@@ -81,7 +74,7 @@ named-requires c κs =
     let start = c .before .before .before .before in
     let a = start .args in
     let f = start .pre .0 in
-    let p = as-plain (c .before) (f .number) (f .elements) (f .at) (start .pre .1 .here) (unlisted c) in
+    let p = as-plain (c .before) (f .number) (f .elements) (f .at) (start .pre .1 .here) (c .match .rest) in
     let key : c .before .head .result ≡ key-of (p .marker) (p .name) = c .before .head .ensures (branch (f .number) (f .elements)) (f .at) ∙ ap head-key (p .is) in (
       omega (arith, entries-length (a .keys .now) (a .places .now) (a .scope .len), start .pre .1 .setting .few),
       omega (arith, key, key-small (p .marker) (p .name) (p .fits .1) (p .fits .2)),
@@ -137,7 +130,7 @@ returns-7 c = λ w floor top q es h at set.
 returns-8 : tie.Need-returns-8
 returns-8 c = λ w floor top q es h at set.
     let a = c .before .before .before .before .before .args in
-    let p = as-plain (c .before .before) q es at h (unlisted (c .before)) in
+    let p = as-plain (c .before .before) q es at h (c .before .match .rest) in
     let key = c .before .before .head .ensures (branch q es) at ∙ ap head-key (p .is) in
     let there = along (λ (x : Nodes). NodeAt (a .s .now) (a .table .now) (a .row) (branch q x)) (p .is) at in
     let plans = plan-head (look-up (p .marker) (p .name) (h .scope)) in
