@@ -3,13 +3,13 @@
 use Prim.Native.Nat.{ℕ, _+_, _-_, _≤_, _<_}
 use mathlib.Core.Path.{_≡_, refl, sym, ap, _∙_, subst as along}
 use mathlib.Core.List.{List}
-use mathlib.Core.Bool.{Bool, true, false, not}
+use mathlib.Core.Bool.{Bool}
 use native.Mathlib.Omega.{arith}
 use lib.ListN.{length}
 use borrow.Author.Tests.{eq-eqb, ne-eqb}
 use Rattle.spec.specs.Expr.{if_then_else_, Atom, nil, array, int, ref, atom, only}
 use Rattle.spec.specs.Nodes.{Word, subst, plain, is, word, Node, leaf, branch, Nodes, empty, cons, elements, tail, head-word}
-use Rattle.spec.specs.Plan.{Scope, Found as Sought, look-up, inner, element, Here, as-form, as-call, refuse, leave, inside, data-form, plan-head, plan-other, plan-form, plan-reference, plan-atom}
+use Rattle.spec.specs.Plan.{Scope, Found as Sought, look-up, inner, element, Here, as-form, as-call, Plan, refuse, leave, inside, data-form, plan-head, plan-other, plan-form, plan-reference, plan-atom}
 use Rattle.spec.specs.Reading.{atom-kind}
 use Rattle.laws.specs.Demands.{Bytes}
 use Rattle.laws.specs.Holding.{skip}
@@ -164,18 +164,23 @@ plain-head (cons (leaf q (ref m n)) es) h f p =
     record { row = q; marker = m; name = n; rest = es; is = refl; fits = f; plans = rw as-plain }
 plain-head (cons (branch q fs) es) h f p = absurd (p .1 refl)
 
-module _ (s t : List ℕ) (row q : ℕ) (es : Nodes) (h : Here) (b : Bytes s) (at : NodeAt s t row (branch q es)) (k : ℕ) (key : k ≡ head-key es) where
+module _ (s t : List ℕ) (row q : ℕ) (es : Nodes) (b : Bytes s) (at : NodeAt s t row (branch q es)) (k : ℕ) (key : k ≡ head-key es) where
   head-fit : HeadFits es
   head-fit = head-fits s t row b (branch q es) at
 
   pub form-word : (v : Word) → Named v → k ≡ word-key v → head-word es ≡ v
   form-word v f e = is-word (head-word-of es head-fit) v f (sym key ∙ e)
 
-  pub form-none : k ≡ no-key → plan-form (head-word es) es h ≡ plan-other es (h .scope)
+  pub form-none : (h : Here) → k ≡ no-key → plan-form (head-word es) es h ≡ plan-other es (h .scope)
   unfolding plan-form
-  form-none e =
+  form-none h e =
       let none : head-key es ≡ no-key = sym key ∙ e in
       rw (is-plain (head-word-of es head-fit) (λ w f z. omega (arith, none, z)))
 
-  pub form-plain : Plain k → PlainHead es h
-  form-plain p = plain-head es h head-fit (rw key at p)
+  pub form-plain : (h : Here) → Plain k → PlainHead es h
+  form-plain h p = plain-head es h head-fit (rw key at p)
+
+-- what is planned for the same elements
+pub planned-of : {s t w : List ℕ} {floor : ℕ} {sc : List Entry} {row : ℕ} {es fs : Nodes} {r : Task} {p : Plan} → es ≡ fs
+    → Planned s t w floor sc row fs r p → Planned s t w floor sc row es r p
+planned-of e h = rw e h

@@ -1,14 +1,14 @@
 -- `evaluator::plan::named` meets its contract: what the head's key found says what is done. Assumes nothing.
 use borrow.Author.Needs.{needs}
 use Prim.Native.Nat.{ℕ}
-use mathlib.Core.Path.{_≡_, sym, ap, _∙_}
+use mathlib.Core.Path.{_≡_}
 use mathlib.Core.List.{List}
 use Rattle.spec.specs.Expr.{ref}
 use Rattle.spec.specs.Nodes.{leaf, branch, Nodes, cons}
 use Rattle.spec.specs.Plan.{Scope, look-up, plan-head}
 use Rattle.laws.proofs.Fits.{Fits}
 use Rattle.evaluator.specs.Stands.{NodeAt, key-of}
-use Rattle.evaluator.specs.Entries.{Entry, entries, find}
+use Rattle.evaluator.specs.Entries.{Entry, entries}
 use Rattle.evaluator.specs.Planned.{Shows, Planned}
 use Rattle.evaluator.specs.declared.scope.Found.{Found}
 use Rattle.evaluator.proofs.Shown.{answers}

@@ -1,7 +1,7 @@
 -- `evaluator::plan::reference` meets its contract: a function name is refused, else what the key found says what is done. Assumes nothing.
 use borrow.Author.Needs.{needs}
 use Prim.Native.Nat.{ℕ}
-use mathlib.Core.Path.{_≡_, sym, ap, _∙_}
+use mathlib.Core.Path.{_≡_, sym, _∙_}
 use mathlib.Core.List.{List}
 use native.Mathlib.Omega.{arith}
 use borrow.Author.Tests.{not-true, not-false}
@@ -10,8 +10,8 @@ use Rattle.spec.specs.Nodes.{empty}
 use Rattle.spec.specs.Plan.{Scope, plan-atom}
 use Rattle.laws.proofs.Fits.{Fits}
 use Rattle.laws.proofs.Steps.{all-bytes}
-use Rattle.evaluator.specs.Stands.{LeafAt, key-of}
-use Rattle.evaluator.specs.Entries.{Entry, entries, find}
+use Rattle.evaluator.specs.Stands.{LeafAt}
+use Rattle.evaluator.specs.Entries.{Entry, entries}
 use Rattle.evaluator.specs.Planned.{Shows, Planned, refuses}
 use Rattle.evaluator.specs.declared.scope.Found.{Found}
 use Rattle.evaluator.proofs.Nodes.{leaf-fits}
