@@ -25,34 +25,32 @@ named-marker m row h = omega arith
 named-row : (m row : ℕ) → row < 65536 → named m row % 65536 ≡ row
 named-row m row h = omega arith
 
-module _ (s t : List ℕ) where
-  -- What is left
+-- What is left
 
-  -- the first i namespaces, when the test of all of them is that of these
-  pub record Left (names : List ℕ) (test : Namespace → Bool) (all : Bool) (i : ℕ) : Type 0 where
-    pub rest : List Namespace
-    pub stand : Named s t names rest
-    pub count : i ≡ length rest
-    pub tells : all ≡ some test rest
+-- the first i namespaces, when the test of all of them is that of these
+pub record Left (s t names : List ℕ) (test : Namespace → Bool) (all : Bool) (i : ℕ) : Type 0 where
+  pub rest : List Namespace
+  pub stand : Named s t names rest
+  pub count : i ≡ length rest
+  pub tells : all ≡ some test rest
 
-  -- the latest of them, by the number that stands for it
-  pub record Latest (names : List ℕ) (test : Namespace → Bool) (all : Bool) (i : ℕ) : Type 0 where
-    pub is : Namespace
-    pub marked : getD names i 0 / 65536 ≡ is .marker
-    pub id-at : LeafAt s t (getD names i 0 % 65536) (array (is .id))
-    pub passes : test is ≡ true → true ≡ all
-    pub fails : test is ≡ false → Left names test all i
+-- the latest of them, by the number that stands for it
+pub record Latest (s t names : List ℕ) (test : Namespace → Bool) (all : Bool) (i : ℕ) : Type 0 where
+  pub is : Namespace
+  pub marked : getD names i 0 / 65536 ≡ is .marker
+  pub id-at : LeafAt s t (getD names i 0 % 65536) (array (is .id))
+  pub passes : test is ≡ true → true ≡ all
+  pub fails : test is ≡ false → Left s t names test all i
 
-  pub left-all : (names : List ℕ) (test : Namespace → Bool) (ks : List Namespace) (i : ℕ) → Named s t names ks → i ≡ length ks
-      → Left names test (some test ks) i
-  left-all names test ks i n e = record { rest = ks; stand = n; count = e; tells = refl }
+module _ {s t names : List ℕ} {test : Namespace → Bool} {i : ℕ} where
+  pub left-all : (ks : List Namespace) → Named s t names ks → i ≡ length ks → Left s t names test (some test ks) i
+  left-all ks n e = record { rest = ks; stand = n; count = e; tells = refl }
 
-  pub left-latest : (names : List ℕ) (test : Namespace → Bool) (all : Bool) (i : ℕ) → Left names test all i → 0 < i
-      → Latest names test all (i - 1)
+  pub left-latest : {all : Bool} → Left s t names test all i → 0 < i → Latest s t names test all (i - 1)
   unfolding Named some
-  left-latest names test all i l h = go (l .rest) (l .stand) (l .count) (l .tells)
+  left-latest {all} l h = go (l .rest) (l .stand) (l .count) (l .tells)
     where
-      go : (ks : List Namespace) → Named s t names ks → i ≡ length ks → all ≡ some test ks → Latest names test all (i - 1)
+      go : (ks : List Namespace) → Named s t names ks → i ≡ length ks → all ≡ some test ks → Latest s t names test all (i - 1)
       go [] n e q = absurd (omega arith)
       go (k ∷ ks) ((row, is, leaf), n) e q =
           let at : i - 1 ≡ length ks = omega arith in
@@ -65,16 +63,17 @@ module _ (s t : List ℕ) where
             fails = λ p. record { rest = ks; stand = n; count = refl; tells = rw p at q };
           }
 
-  pub left-none : (names : List ℕ) (test : Namespace → Bool) (all : Bool) → Left names test all 0 → false ≡ all
+  pub left-none : {all : Bool} → Left s t names test all i → i ≤ 0 → false ≡ all
   unfolding some
-  left-none names test all l = go (l .rest) (l .count) (l .tells)
+  left-none {all} l h = go (l .rest) (l .count) (l .tells)
     where
-      go : (ks : List Namespace) → 0 ≡ length ks → all ≡ some test ks → false ≡ all
+      go : (ks : List Namespace) → i ≡ length ks → all ≡ some test ks → false ≡ all
       go [] e q = sym q
       go (k ∷ ks) e q = absurd (omega arith)
 
-  -- One more
+-- One more
 
+module _ (s t : List ℕ) where
   -- what is stored behind the namespaces changes none of them
   named-kept : (names : List ℕ) (i v : ℕ) (ks : List Namespace) → length ks ≤ i → Named s t names ks → Named s t (set names i v) ks
   unfolding Named
