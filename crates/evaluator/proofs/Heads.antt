@@ -3,13 +3,13 @@
 use Prim.Native.Nat.{ℕ, _+_, _-_, _≤_, _<_}
 use mathlib.Core.Path.{_≡_, refl, sym, ap, _∙_, subst as along}
 use mathlib.Core.List.{List}
-use mathlib.Core.Bool.{Bool, true, false, not}
+use mathlib.Core.Bool.{Bool}
 use native.Mathlib.Omega.{arith}
 use lib.ListN.{length}
 use borrow.Author.Tests.{eq-eqb, ne-eqb}
 use Rattle.spec.specs.Expr.{if_then_else_, Atom, nil, array, int, ref, atom, only}
 use Rattle.spec.specs.Nodes.{Word, subst, plain, is, word, Node, leaf, branch, Nodes, empty, cons, elements, tail, head-word}
-use Rattle.spec.specs.Plan.{Scope, Found as Sought, look-up, inner, element, Here, as-form, as-call, refuse, leave, inside, data-form, plan-head, plan-other, plan-form, plan-reference, plan-atom}
+use Rattle.spec.specs.Plan.{Scope, Found as Sought, look-up, inner, element, Here, as-form, as-call, Plan, refuse, leave, inside, data-form, plan-head, plan-other, plan-form, plan-reference, plan-atom}
 use Rattle.spec.specs.Reading.{atom-kind}
 use Rattle.laws.specs.Demands.{Bytes}
 use Rattle.laws.specs.Holding.{skip}
@@ -24,7 +24,7 @@ use Rattle.evaluator.specs.declared.plan.Task.{Task}
 use Rattle.evaluator.specs.declared.plan.Task.the-variants.{Refuse, Own, Again, Inside}
 use Rattle.evaluator.proofs.Rules.{code-at}
 use Rattle.evaluator.proofs.Nodes.{MoreAt, nodes-done, form-row, form-nodes, leaf-skipped}
-use Rattle.evaluator.proofs.Keys.{key-small, Function as Named, word-key, plain-key, word-of, word-again, is-word, is-plain, HeadFits, head-word-of, first-fits, head-fits, headed-by-key}
+use Rattle.evaluator.proofs.Keys.{key-small, Function as Named, word-key, plain-key, word-of, word-again, NoWord, no-word-is, is-word, is-plain, HeadFits, head-word-of, first-fits, head-fits, headed-by-key}
 use Rattle.evaluator.proofs.Parts.{head-at}
 use Rattle.evaluator.proofs.Shown.{Answers, no-answer, value-answer, function-answer}
 
@@ -151,41 +151,36 @@ pub record PlainHead (es : Nodes) (h : Here) : Type 0 where
 
 -- no key of a function name, and not that of no reference
 abbrev pub Plain : ℕ → Type 0
-Plain k =
-    (k ≡ 0x2006 → ⊥)
-    × (k ≡ 0x2009 → ⊥)
-    × (k ≡ 0x200A → ⊥)
-    × (k ≡ 0x200B → ⊥)
-    × (k ≡ 0x200C → ⊥)
-    × (k ≡ 0x200D → ⊥)
-    × (k ≡ no-key → ⊥)
+Plain k = NoWord k × (k ≡ no-key → ⊥)
 
 plain-head : (es : Nodes) (h : Here) → HeadFits es → Plain (head-key es) → PlainHead es h
 unfolding plan-form
-plain-head empty h f p = absurd (p .6 refl)
-plain-head (cons (leaf q nil) es) h f p = absurd (p .6 refl)
-plain-head (cons (leaf q (array bs)) es) h f p = absurd (p .6 refl)
-plain-head (cons (leaf q (int v)) es) h f p = absurd (p .6 refl)
+plain-head empty h f p = absurd (p .1 refl)
+plain-head (cons (leaf q nil) es) h f p = absurd (p .1 refl)
+plain-head (cons (leaf q (array bs)) es) h f p = absurd (p .1 refl)
+plain-head (cons (leaf q (int v)) es) h f p = absurd (p .1 refl)
 plain-head (cons (leaf q (ref m n)) es) h f p =
-    let as-plain : word m n ≡ plain = is-plain (word-of m n (f .2)) (p .0) (p .1) (p .2) (p .3) (p .4) (p .5) in
+    let as-plain : word m n ≡ plain = is-plain (word-of m n (f .2)) (no-word-is (p .0)) in
     record { row = q; marker = m; name = n; rest = es; is = refl; fits = f; plans = rw as-plain }
-plain-head (cons (branch q fs) es) h f p = absurd (p .6 refl)
+plain-head (cons (branch q fs) es) h f p = absurd (p .1 refl)
 
-module _ (s t : List ℕ) (row q : ℕ) (es : Nodes) (h : Here) (b : Bytes s) (at : NodeAt s t row (branch q es)) (k : ℕ) (key : k ≡ head-key es) where
+module _ (s t : List ℕ) (row q : ℕ) (es : Nodes) (b : Bytes s) (at : NodeAt s t row (branch q es)) (k : ℕ) (key : k ≡ head-key es) where
   head-fit : HeadFits es
   head-fit = head-fits s t row b (branch q es) at
 
   pub form-word : (v : Word) → Named v → k ≡ word-key v → head-word es ≡ v
   form-word v f e = is-word (head-word-of es head-fit) v f (sym key ∙ e)
 
-  pub form-none : k ≡ no-key → plan-form (head-word es) es h ≡ plan-other es (h .scope)
+  pub form-none : (h : Here) → k ≡ no-key → plan-form (head-word es) es h ≡ plan-other es (h .scope)
   unfolding plan-form
-  form-none e =
+  form-none h e =
       let none : head-key es ≡ no-key = sym key ∙ e in
-      let as-plain : head-word es ≡ plain =
-      is-plain (head-word-of es head-fit) (λ z. omega (arith, none, z)) (λ z. omega (arith, none, z)) (λ z. omega (arith, none, z))
-      (λ z. omega (arith, none, z)) (λ z. omega (arith, none, z)) (λ z. omega (arith, none, z)) in
-      rw as-plain
+      rw (is-plain (head-word-of es head-fit) (λ w f z. omega (arith, none, z)))
 
-  pub form-plain : Plain k → PlainHead es h
-  form-plain p = plain-head es h head-fit (rw key at p)
+  pub form-plain : (h : Here) → Plain k → PlainHead es h
+  form-plain h p = plain-head es h head-fit (rw key at p)
+
+-- what is planned for the same elements
+pub planned-of : {s t w : List ℕ} {floor : ℕ} {sc : List Entry} {row : ℕ} {es fs : Nodes} {r : Task} {p : Plan} → es ≡ fs
+    → Planned s t w floor sc row fs r p → Planned s t w floor sc row es r p
+planned-of e h = rw e h

@@ -3,7 +3,7 @@
 use Prim.Native.Nat.{ℕ, suc, _+_, _*_, _-_, _/_, _%_, _≤_, _<_}
 use mathlib.Core.Path.{_≡_, refl, sym, ap, _∙_}
 use mathlib.Core.List.{List, [], _∷_, _++_, append-assoc}
-use mathlib.Core.Bool.{Bool, true, false, not}
+use mathlib.Core.Bool.{Bool, true, false}
 use mathlib.Core.Logic.{_⊎_, inl, inr}
 use lib.ListN.{length, getD, take, length-append, replicate, length-replicate}
 use lib.Seq.{slice, getD-take, getD-drop, getD-at, length-slice}
@@ -56,6 +56,20 @@ word-named arg h = refl
 word-named rest h = refl
 word-named plain h = absurd (omega arith)
 
+-- no function name's key, in the order in which code looks for them
+abbrev pub NoWord : ℕ → Type 0
+NoWord k =
+    (((((Unit {0} × (k ≡ 0x2006 → ⊥)) × (k ≡ 0x2009 → ⊥)) × (k ≡ 0x200B → ⊥)) × (k ≡ 0x200A → ⊥)) × (k ≡ 0x200C → ⊥)) × (k ≡ 0x200D → ⊥)
+
+pub no-word-is : {k : ℕ} → NoWord k → (w : Word) → Function w → k ≡ word-key w → ⊥
+no-word-is h ns f e = h .0 .0 .0 .0 .0 .1 e
+no-word-is h define f e = h .0 .0 .0 .0 .1 e
+no-word-is h subst f e = h .0 .0 .0 .1 e
+no-word-is h concat f e = h .0 .0 .1 e
+no-word-is h arg f e = h .0 .1 e
+no-word-is h rest f e = h .1 e
+no-word-is h plain f e = omega arith
+
 -- what a key says of the word
 module _ {k : ℕ} {v : Word} where
   pub is-word : WordOf k v → (w : Word) → Function w → k ≡ word-key w → v ≡ w
@@ -64,19 +78,9 @@ module _ {k : ℕ} {v : Word} where
       sym (word-named v f) ∙ ap (word core) same ∙ word-named w g
   is-word (other e none) w g q = absurd (none w g q)
 
-  pub is-plain : WordOf k v → (k ≡ 0x2006 → ⊥) → (k ≡ 0x2009 → ⊥) → (k ≡ 0x200A → ⊥) → (k ≡ 0x200B → ⊥) → (k ≡ 0x200C → ⊥)
-      → (k ≡ 0x200D → ⊥) → v ≡ plain
-  is-plain (other e none) h₁ h₂ h₃ h₄ h₅ h₆ = e
-  is-plain (function f e) h₁ h₂ h₃ h₄ h₅ h₆ = go v e
-    where
-      go : (w : Word) → k ≡ word-key w → w ≡ plain
-      go ns q = absurd (h₁ q)
-      go define q = absurd (h₂ q)
-      go concat q = absurd (h₃ q)
-      go subst q = absurd (h₄ q)
-      go arg q = absurd (h₅ q)
-      go rest q = absurd (h₆ q)
-      go plain q = refl
+  pub is-plain : WordOf k v → ((w : Word) → Function w → k ≡ word-key w → ⊥) → v ≡ plain
+  is-plain (other e none) h = e
+  is-plain (function f e) h = absurd (h v f e)
 
   -- a test for a function name is a test of keys
   is-test : WordOf k v → (w : Word) → Function w → eqb k (word-key w) ≡ is v w
@@ -151,10 +155,8 @@ module _ (k : ℕ) where
           absurd
           (omega (arith, none define (omega arith), none concat (omega arith), none subst (omega arith), none arg (omega arith), none rest (omega arith)))
 
-  pub plain-else : (k ≡ 0x2006 → ⊥) → (0x2009 ≤ k → k ≤ 0x200D → ⊥) → true ≡ plain-key k
-  plain-else h o =
-      rw (is-plain (number-word k) h (λ z. o (omega arith) (omega arith)) (λ z. o (omega arith) (omega arith)) (λ z. o (omega arith) (omega arith))
-      (λ z. o (omega arith) (omega arith)) (λ z. o (omega arith) (omega arith)))
+  pub plain-else : NoWord k → true ≡ plain-key k
+  plain-else h = rw (is-plain (number-word k) (no-word-is h))
 
 -- head-key
 

@@ -1,13 +1,13 @@
 -- Laws of the array of namespaces: what is left of it while code goes from the latest to the first, and one more namespace. And of `same`:
--- bytes at two places, one by one, and arrays by their rows. Document 01: "associates ref's marker with id", "id used before". Assumes nothing.
+-- byte by byte, and of arrays by their rows. Document 01: "associates ref's marker with id", "id used before". Assumes nothing.
 use Prim.Native.Nat.{ℕ, suc, _+_, _-_, _/_, _%_, _≤_, _<_}
 use mathlib.Core.Path.{_≡_, refl, sym, ap, _∙_}
 use mathlib.Core.List.{List, [], _∷_}
 use mathlib.Core.Bool.{Bool, true, false, _&&_}
 use native.Mathlib.Omega.{arith}
-use native.Mathlib.Nat.{add-zero}
-use lib.ListN.{length, getD, set}
-use lib.Seq.{slice, slice-empty, slice-cons, getD-set-same, getD-set-other}
+use native.Mathlib.Numerals.{add-one}
+use lib.ListN.{length, take, drop, getD, set, drop-of-length-le}
+use lib.Seq.{drop-cons, getD-set-same, getD-set-other}
 use lib.Dec.{eqb}
 use borrow.Author.Tests.{eq-eqb, ne-eqb}
 use Rattle.spec.specs.Expr.{same, some, array}
@@ -15,6 +15,7 @@ use Rattle.spec.specs.Plan.{Namespace}
 use Rattle.evaluator.specs.Stands.{cell, LeafAt}
 use Rattle.evaluator.specs.Named.{named, Named}
 use Rattle.evaluator.proofs.Nodes.{leaf-array}
+use Rattle.evaluator.proofs.Places.{slice-take}
 
 -- A marker and a row in one number
 
@@ -24,34 +25,32 @@ named-marker m row h = omega arith
 named-row : (m row : ℕ) → row < 65536 → named m row % 65536 ≡ row
 named-row m row h = omega arith
 
-module _ (s t : List ℕ) where
-  -- What is left
+-- What is left
 
-  -- the first i namespaces, when the test of all of them is that of these
-  pub record Left (names : List ℕ) (test : Namespace → Bool) (all : Bool) (i : ℕ) : Type 0 where
-    pub rest : List Namespace
-    pub stand : Named s t names rest
-    pub count : i ≡ length rest
-    pub tells : all ≡ some test rest
+-- the first i namespaces, when the test of all of them is that of these
+pub record Left (s t names : List ℕ) (test : Namespace → Bool) (all : Bool) (i : ℕ) : Type 0 where
+  pub rest : List Namespace
+  pub stand : Named s t names rest
+  pub count : i ≡ length rest
+  pub tells : all ≡ some test rest
 
-  -- the latest of them, by the number that stands for it
-  pub record Latest (names : List ℕ) (test : Namespace → Bool) (all : Bool) (i : ℕ) : Type 0 where
-    pub is : Namespace
-    pub marked : getD names i 0 / 65536 ≡ is .marker
-    pub id-at : LeafAt s t (getD names i 0 % 65536) (array (is .id))
-    pub passes : test is ≡ true → true ≡ all
-    pub fails : test is ≡ false → Left names test all i
+-- the latest of them, by the number that stands for it
+pub record Latest (s t names : List ℕ) (test : Namespace → Bool) (all : Bool) (i : ℕ) : Type 0 where
+  pub is : Namespace
+  pub marked : getD names i 0 / 65536 ≡ is .marker
+  pub id-at : LeafAt s t (getD names i 0 % 65536) (array (is .id))
+  pub passes : test is ≡ true → true ≡ all
+  pub fails : test is ≡ false → Left s t names test all i
 
-  pub left-all : (names : List ℕ) (test : Namespace → Bool) (ks : List Namespace) (i : ℕ) → Named s t names ks → i ≡ length ks
-      → Left names test (some test ks) i
-  left-all names test ks i n e = record { rest = ks; stand = n; count = e; tells = refl }
+module _ {s t names : List ℕ} {test : Namespace → Bool} {i : ℕ} where
+  pub left-all : (ks : List Namespace) → Named s t names ks → i ≡ length ks → Left s t names test (some test ks) i
+  left-all ks n e = record { rest = ks; stand = n; count = e; tells = refl }
 
-  pub left-latest : (names : List ℕ) (test : Namespace → Bool) (all : Bool) (i : ℕ) → Left names test all i → 0 < i
-      → Latest names test all (i - 1)
+  pub left-latest : {all : Bool} → Left s t names test all i → 0 < i → Latest s t names test all (i - 1)
   unfolding Named some
-  left-latest names test all i l h = go (l .rest) (l .stand) (l .count) (l .tells)
+  left-latest {all} l h = go (l .rest) (l .stand) (l .count) (l .tells)
     where
-      go : (ks : List Namespace) → Named s t names ks → i ≡ length ks → all ≡ some test ks → Latest names test all (i - 1)
+      go : (ks : List Namespace) → Named s t names ks → i ≡ length ks → all ≡ some test ks → Latest s t names test all (i - 1)
       go [] n e q = absurd (omega arith)
       go (k ∷ ks) ((row, is, leaf), n) e q =
           let at : i - 1 ≡ length ks = omega arith in
@@ -64,16 +63,17 @@ module _ (s t : List ℕ) where
             fails = λ p. record { rest = ks; stand = n; count = refl; tells = rw p at q };
           }
 
-  pub left-none : (names : List ℕ) (test : Namespace → Bool) (all : Bool) → Left names test all 0 → false ≡ all
+  pub left-none : {all : Bool} → Left s t names test all i → i ≤ 0 → false ≡ all
   unfolding some
-  left-none names test all l = go (l .rest) (l .count) (l .tells)
+  left-none {all} l h = go (l .rest) (l .count) (l .tells)
     where
-      go : (ks : List Namespace) → 0 ≡ length ks → all ≡ some test ks → false ≡ all
+      go : (ks : List Namespace) → i ≡ length ks → all ≡ some test ks → false ≡ all
       go [] e q = sym q
       go (k ∷ ks) e q = absurd (omega arith)
 
-  -- One more
+-- One more
 
+module _ (s t : List ℕ) where
   -- what is stored behind the namespaces changes none of them
   named-kept : (names : List ℕ) (i v : ℕ) (ks : List Namespace) → length ks ≤ i → Named s t names ks → Named s t (set names i v) ks
   unfolding Named
@@ -90,10 +90,6 @@ module _ (s t : List ℕ) where
 
 -- The same bytes
 
-same-empty : true ≡ same [] []
-unfolding same
-same-empty = refl
-
 -- lists of different lengths are not the same
 pub same-long : (x y : List ℕ) → (length x ≡ length y → ⊥) → false ≡ same x y
 unfolding same
@@ -106,44 +102,24 @@ same-long (a ∷ x) (b ∷ y) h = go (eqb a b) (same-long x y (λ e. h (ap suc e
     go true e = e
     go false e = refl
 
-slice-next : (s : List ℕ) (a i n : ℕ) → i < n → a + n ≤ length s
-    → slice (a + i) (a + n) s ≡ getD s (a + i) 0 ∷ slice (a + (i + 1)) (a + n) s
-slice-next s a i n l h =
-    let next : suc (a + i) ≡ a + (i + 1) = omega arith in
-    slice-cons (a + i) (a + n) s 0 (omega arith) h ∙ ap (λ (j : ℕ). getD s (a + i) 0 ∷ slice j (a + n) s) next
+-- what is left of both, byte by byte
+module _ (x y : List ℕ) (i : ℕ) where
+  pub same-done : length x ≡ length y → length x ≤ i → true ≡ same (drop i x) (drop i y)
+  unfolding same
+  same-done h k = rw (drop-of-length-le x k, drop-of-length-le y {i = i} (omega arith))
 
-module _ (s u : List ℕ) (a b n : ℕ) where
-  -- n bytes of two lists, and these without the first i
-  abbrev pub same-all : Bool
-  same-all = same (slice a (a + n) s) (slice b (b + n) u)
+  same-turn : i < length x → i < length y → same (drop i x) (drop i y) ≡ eqb (getD x i 0) (getD y i 0) && same (drop (i + 1) x) (drop (i + 1) y)
+  unfolding same
+  same-turn h k = rw (drop-cons x i 0 h, drop-cons y i 0 k, add-one)
 
-  abbrev pub same-from : ℕ → Bool
-  same-from i = same (slice (a + i) (a + n) s) (slice (b + i) (b + n) u)
+  pub same-next : i < length x → i < length y → getD x i 0 ≡ getD y i 0 → same (drop (i + 1) x) (drop (i + 1) y) ≡ same (drop i x) (drop i y)
+  same-next h k e = sym (rw (eq-eqb (getD x i 0) (getD y i 0) e) at (same-turn h k))
 
-  pub same-start : same-from 0 ≡ same-all
-  same-start = rw (add-zero a, add-zero b) refl
+  pub same-differs : i < length x → i < length y → (getD x i 0 ≡ getD y i 0 → ⊥) → false ≡ same (drop i x) (drop i y)
+  same-differs h k e = sym (rw (ne-eqb (getD x i 0) (getD y i 0) e) at (same-turn h k))
 
-  pub same-done : true ≡ same-from n
-  same-done = rw (slice-empty (a + n) s, slice-empty (b + n) u) same-empty
-
-  module _ (h : a + n ≤ length s) (k : b + n ≤ length u) (i : ℕ) (l : i < n) where
-    same-turn : same-from i ≡ eqb (getD s (a + i) 0) (getD u (b + i) 0) && same-from (i + 1)
-    unfolding same
-    same-turn =
-        ap (λ (x : List ℕ). same x (slice (b + i) (b + n) u)) (slice-next s a i n l h)
-        ∙ ap (same (getD s (a + i) 0 ∷ slice (a + (i + 1)) (a + n) s)) (slice-next u b i n l k)
-
-    pub same-next : getD s (a + i) 0 ≡ getD u (b + i) 0 → same-from (i + 1) ≡ same-from i
-    same-next e = sym (rw (eq-eqb (getD s (a + i) 0) (getD u (b + i) 0) e) at same-turn)
-
-    pub same-differs : (getD s (a + i) 0 ≡ getD u (b + i) 0 → ⊥) → false ≡ same-from i
-    same-differs e = sym (rw (ne-eqb (getD s (a + i) 0) (getD u (b + i) 0) e) at same-turn)
-
--- an array's bytes, by where they begin and how many they are
-pub array-bytes : (s t : List ℕ) (r p n : ℕ) (bs : List ℕ) → LeafAt s t r (array bs) → p ≡ cell t r 2 - length bs → n ≡ cell t r 2 - p
-    → (slice p (p + n) s ≡ bs) × (n ≡ length bs) × (p + n ≤ length s)
-array-bytes s t r p n bs l e q =
-    let a = leaf-array l in
-    let fits : length bs < cell t r 2 = omega (arith, a .1) in
-    let end : cell t r 2 ≡ p + n = omega (arith, fits, e, q) in
-    (rw (← e, end) at (a .0), omega (arith, fits, e, q), omega (arith, end, l .row .ends))
+-- an array's bytes, by where they begin and end
+pub array-part : {s t : List ℕ} {r : ℕ} {bs : List ℕ} → LeafAt s t r (array bs) → {p e : ℕ} → p ≡ cell t r 2 - length bs → e ≡ cell t r 2
+    → (p ≤ e) × (e ≤ length s) × (take (e - p) (drop p s) ≡ bs)
+array-part {s} l {p} {e} begins ends =
+    (omega arith, omega (arith, l .row .ends), sym (slice-take p e s) ∙ rw (begins, ends) (leaf-array l .0))

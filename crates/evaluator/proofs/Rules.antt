@@ -1,38 +1,34 @@
 -- Laws of the rules: which elements a form has, by its parts; what each rule refuses, in its order, and what it does, by the tests that code
 -- makes; and where the arguments of code stand. Document 01: the rules of "Evaluation", refusals 11 to 15 and 19. Assumes nothing.
-use Prim.Native.Nat.{ℕ, zero, suc, _+_, _-_, _/_, _≤_, _<_}
+use Prim.Native.Nat.{ℕ, zero, suc, _+_, _≤_, _<_}
 use mathlib.Core.Path.{_≡_, refl, sym, ap, _∙_, subst}
 use mathlib.Core.List.{List, append-nil}
-use mathlib.Core.Bool.{Bool, true, false, _||_}
+use mathlib.Core.Bool.{Bool, true, false}
 use lib.ListN.{length, getD}
 use lib.Seq.{slice-empty}
-use lib.Dec.{ltb, leb, eqb}
-use borrow.Author.Tests.{lt-ltb, le-ltb, le-leb, lt-leb, eq-eqb, ne-eqb}
+use lib.Dec.{eqb}
+use borrow.Author.Tests.{eq-eqb, ne-eqb}
 use native.Mathlib.Omega.{arith}
-use Rattle.spec.specs.Expr.{if_then_else_, same, some, nil, array, int, ref, Exprs, none, more, size, first, without, bytes, canonical}
-use Rattle.spec.specs.Nodes.{core, Word, ns, rest, subst as substitution, Node, leaf, branch, Nodes, empty, cons, elements, tail, head-word, headed-by, markers-all}
-use Rattle.spec.specs.Plan.{function, Place, top, element, inner, Arguments, outside, given, as-definition, as-concat, Plan, refuse, leave, associate, define-function, inside, expect-one, expect-two, expect-ref, expect-array, expect-int, plan-ns, plan-definition, plan-concat, plan-arg, plan-rest}
+use Rattle.spec.specs.Expr.{if_then_else_, some, nil, array, int, ref, Exprs, none, more, size, first, without, bytes, canonical}
+use Rattle.spec.specs.Nodes.{Word, ns, rest, Node, leaf, branch, Nodes, empty, cons, elements, tail, head-word, headed-by, markers-all}
+use Rattle.spec.specs.Plan.{function, Place, top, element, inner, Arguments, outside, given, as-definition, Plan, refuse, define-function, inside, expect-one, expect-two, expect-ref, expect-array, expect-int}
 use Rattle.laws.specs.Demands.{Bytes}
-use Rattle.laws.specs.Holding.{skip}
 use Rattle.laws.proofs.Basics.{impossible}
 use Rattle.laws.proofs.Fits.{Fits}
 use Rattle.evaluator.specs.Stands.{cell, next, LeafAt, NodeAt, NodesAt, parts-of, key-of, no-key, head-key}
-use Rattle.evaluator.specs.Entries.{pack, packed-from, packed-to, Entry}
-use Rattle.evaluator.specs.Named.{named}
+use Rattle.evaluator.specs.Entries.{packed-from, packed-to, Entry}
 use Rattle.evaluator.specs.Completed.{Stand, ArgumentsAt}
-use Rattle.evaluator.specs.Planned.{CodeAt, ArgumentsOf, no-code, in-code, Placed, at-top, at-element, at-inner, OneMore, Finishes, define-finishes, Planned, repeats, defines}
+use Rattle.evaluator.specs.Planned.{CodeAt, ArgumentsOf, no-code, in-code, Placed, at-top, at-element, at-inner, OneMore, Finishes, define-finishes, Planned, defines}
 use Rattle.evaluator.specs.declared.rows.Parts.{Parts}
 use Rattle.evaluator.specs.declared.plan.Stands.{Stands}
 use Rattle.evaluator.specs.declared.plan.Stands.the-variants.{Top, Element, Inner}
 use Rattle.evaluator.specs.declared.plan.Code.{Code}
-use Rattle.evaluator.specs.declared.plan.After.the-variants.{Define, Concat}
-use Rattle.evaluator.specs.declared.plan.Task.{Task}
-use Rattle.evaluator.specs.declared.plan.Task.the-variants.{Refuse, Again, Ns, Function, Inside}
+use Rattle.evaluator.specs.declared.plan.After.the-variants.{Define}
+use Rattle.evaluator.specs.declared.plan.Task.the-variants.{Function}
 use Rattle.evaluator.proofs.Entries.{from-packed, to-packed}
 use Rattle.evaluator.proofs.Places.{slice-split}
-use Rattle.evaluator.proofs.Nodes.{kind-array, kind-int, leaf-kind, leaf-array, leaf-fits, nodes-first, node-row, leaf-at, form-row, form-nodes, leaf-skipped, kind-leaf}
-use Rattle.evaluator.proofs.Keys.{key-marker, Function as Named-by, word-key, head-fits, headed-by-key}
-use Rattle.evaluator.proofs.Parts.{ReferenceAt}
+use Rattle.evaluator.proofs.Nodes.{kind-array, kind-int, leaf-kind, nodes-first, node-row, leaf-at, form-row, form-nodes, leaf-skipped, kind-leaf}
+use Rattle.evaluator.proofs.Keys.{Function as Named-by, word-key, head-fits, headed-by-key}
 
 -- A form's elements, by its parts
 

@@ -1,5 +1,6 @@
 // The evaluator: a stream whose rows are in a table, evaluated in a workspace. Document 01: "Evaluate", refusals 9 and 10.
 mod arrays;
+mod compare;
 mod core;
 mod element;
 mod forms;
@@ -47,18 +48,10 @@ fn is_versioned(s: &[u8], table: &[u32], rows: usize) -> bool
 fn has_version(s: &[u8]) -> bool
     ensures { λ r. ⌜ r ≡ same (take 6 (now (s .entry))) version-bytes ⌝ }
 {
-    let version = b"\x01\x20\x00\x81\x80\x02";
     if s.len() < 6 {
         return false;
     }
-    let mut i: usize = 0;
-    while i < 6 {
-        if s[i] != version[i] {
-            return false;
-        }
-        i += 1;
-    }
-    true
+    compare::same_bytes(&s[..6], b"\x01\x20\x00\x81\x80\x02")
 }
 
 // How much of the workspace counts.

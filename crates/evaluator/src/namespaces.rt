@@ -1,5 +1,6 @@
 // The namespaces that are associated: of each its marker, and the row of its id. Document 01: `( ns ref id )`.
 use crate::arrays;
+use crate::compare;
 use crate::rows;
 use atoms::Kind;
 ghost use mathlib.Core.Path.{_≡_};
@@ -30,21 +31,6 @@ pub fn associated(names: &[u32; 64], count: usize, marker: u32) -> bool
     false
 }
 
-// Whether n bytes from one place on are those from another place on.
-fn same_bytes(s: &[u8], a: usize, b: usize, n: usize) -> bool
-    requires { ⌜ (a + n ≤ length (now s)) × (b + n ≤ length (now s)) ⌝ }
-    ensures { λ r. ⌜ r ≡ same (slice a (a + n) (now (s .entry))) (slice b (b + n) (now (s .entry))) ⌝ }
-{
-    let mut i: usize = 0;
-    while i < n {
-        if s[a + i] != s[b + i] {
-            return false;
-        }
-        i += 1;
-    }
-    true
-}
-
 // Whether two rows are arrays of the same bytes.
 fn same_array(s: &[u8], table: &[u32], a: usize, b: usize) -> bool
     requires { ⌜ ((x y : List ℕ) × LeafAt (now s) (now table) a (array x) × LeafAt (now s) (now table) b (array y)) ⌝ }
@@ -52,11 +38,9 @@ fn same_array(s: &[u8], table: &[u32], a: usize, b: usize) -> bool
 {
     let p = arrays::body(s, table, a);
     let q = arrays::body(s, table, b);
-    let n = rows::end(table, a) - p;
-    if n != rows::end(table, b) - q {
-        return false;
-    }
-    same_bytes(s, p, q, n)
+    let end = rows::end(table, a);
+    let other_end = rows::end(table, b);
+    compare::same_bytes(&s[p..end], &s[q..other_end])
 }
 
 // Whether an id is used.

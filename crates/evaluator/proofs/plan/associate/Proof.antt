@@ -1,7 +1,7 @@
 -- `evaluator::plan::associate` meets its contract: each test of the code is one of the rule's. Assumes nothing.
 use borrow.Author.Needs.{needs}
-use Prim.Native.Nat.{ℕ, _+_, _-_, _/_, _≤_, _<_}
-use mathlib.Core.Path.{_≡_, refl, sym, ap, _∙_}
+use Prim.Native.Nat.{ℕ, _-_, _/_, _≤_, _<_}
+use mathlib.Core.Path.{_≡_, refl, sym, _∙_}
 use mathlib.Core.List.{List}
 use mathlib.Core.Bool.{false, _||_}
 use native.Mathlib.Omega.{arith}
@@ -14,8 +14,7 @@ use Rattle.spec.specs.Plan.{Place, Here}
 use Rattle.laws.proofs.Steps.{all-bytes}
 use Rattle.evaluator.specs.Stands.{LeafAt}
 use Rattle.evaluator.specs.Named.{Named}
-use Rattle.evaluator.specs.Planned.{Placed, refuses, associates}
-use Rattle.evaluator.specs.declared.plan.Stands.the-variants.{Top}
+use Rattle.evaluator.specs.Planned.{refuses, associates}
 use Rattle.evaluator.proofs.Nodes.{leaf-array, leaf-fits}
 use Rattle.evaluator.proofs.Keys.{key-marker}
 use Rattle.evaluator.proofs.Rules.{TopAt, is-top}

@@ -14,7 +14,7 @@ use Rattle.spec.specs.Plan.{Here, inner}
 use Rattle.laws.specs.Demands.{Bytes}
 use Rattle.laws.specs.Holding.{skip}
 use Rattle.laws.proofs.Steps.{all-bytes}
-use Rattle.evaluator.specs.Stands.{NodeAt, head-key, no-key}
+use Rattle.evaluator.specs.Stands.{NodeAt}
 use Rattle.evaluator.specs.Named.{Named}
 use Rattle.evaluator.specs.Planned.{one-more, refuses, goes-inside}
 use Rattle.evaluator.specs.declared.rows.Parts.{Parts}

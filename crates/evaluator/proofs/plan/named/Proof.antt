@@ -1,14 +1,14 @@
 -- `evaluator::plan::named` meets its contract: what the head's key found says what is done. Assumes nothing.
 use borrow.Author.Needs.{needs}
 use Prim.Native.Nat.{ℕ}
-use mathlib.Core.Path.{_≡_, sym, ap, _∙_}
+use mathlib.Core.Path.{_≡_}
 use mathlib.Core.List.{List}
 use Rattle.spec.specs.Expr.{ref}
 use Rattle.spec.specs.Nodes.{leaf, branch, Nodes, cons}
 use Rattle.spec.specs.Plan.{Scope, look-up, plan-head}
 use Rattle.laws.proofs.Fits.{Fits}
 use Rattle.evaluator.specs.Stands.{NodeAt, key-of}
-use Rattle.evaluator.specs.Entries.{Entry, entries, find}
+use Rattle.evaluator.specs.Entries.{Entry, entries}
 use Rattle.evaluator.specs.Planned.{Shows, Planned}
 use Rattle.evaluator.specs.declared.scope.Found.{Found}
 use Rattle.evaluator.proofs.Shown.{answers}
@@ -26,17 +26,7 @@ module _ (c : tie.After-look-up) where
       NodeAt s t (a .row) (branch q (cons (leaf q′ (ref m n)) fs)) → Fits (ref m n) → a .head ≡ key-of m n → Shows s t w floor sc ds
       → Planned s t w floor sc (a .row) (cons (leaf q′ (ref m n)) fs) (head-task (a .row) f) (plan-head (look-up m n ds))
   done f is s t w floor m n q q′ fs ds at fits key sh =
-      let found : find (key-of m n) sc ≡ f = ap (λ (k : ℕ). find k sc) (sym key) ∙ sym (c .look-up .ensures) ∙ is in
-      head-planned s t w floor sc (c .before .args .row) q q′ (ref m n) fs at (rw found at (answers s t w floor m n fits sc ds sh))
-
-returns : tie.Need-returns
-returns c = done (c .before .before .before) _ (c .before .code .given .1)
-
-returns-2 : tie.Need-returns-2
-returns-2 c = rw (c .data .ensures) (done (c .before .before .before) _ (c .before .enum-told .given .1))
-
-returns-3 : tie.Need-returns-3
-returns-3 c = rw (c .data2 .ensures) (done (c .before .before .before) _ (c .before .enum-told2 .given .1))
+      head-planned s t w floor sc _ q q′ (ref m n) fs at (rw (← key, ← c .look-up .ensures, is) at (answers s t w floor m n fits sc ds sh))
 
 pub named-spec : {M : Type 1} → statement M
 named-spec =
@@ -49,6 +39,6 @@ named-spec =
     (λ c κs. search needs)
     (λ c. search needs)
     (λ c κs. search needs)
-    returns
-    returns-2
-    returns-3)
+    (λ c. done (c .before .before .before) _ (c .before .code .given .1))
+    (λ c. rw (c .data .ensures) (done (c .before .before .before) _ (c .before .enum-told .given .1)))
+    (λ c. rw (c .data2 .ensures) (done (c .before .before .before) _ (c .before .enum-told2 .given .1))))

@@ -1,7 +1,7 @@
 -- `evaluator::plan::ns` meets its contract: the place first, then the elements as they are written. Assumes nothing.
 use borrow.Author.Needs.{needs}
 use Prim.Native.Nat.{ℕ}
-use mathlib.Core.Path.{_≡_, sym, ap, _∙_}
+use mathlib.Core.Path.{_≡_, sym, _∙_}
 use mathlib.Core.List.{List}
 use Rattle.spec.specs.Expr.{array}
 use Rattle.spec.specs.Nodes.{leaf, branch, Node, Nodes}

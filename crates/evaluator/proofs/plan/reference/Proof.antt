@@ -1,7 +1,7 @@
 -- `evaluator::plan::reference` meets its contract: a function name is refused, else what the key found says what is done. Assumes nothing.
 use borrow.Author.Needs.{needs}
 use Prim.Native.Nat.{ℕ}
-use mathlib.Core.Path.{_≡_, sym, ap, _∙_}
+use mathlib.Core.Path.{_≡_, sym, _∙_}
 use mathlib.Core.List.{List}
 use native.Mathlib.Omega.{arith}
 use borrow.Author.Tests.{not-true, not-false}
@@ -10,8 +10,8 @@ use Rattle.spec.specs.Nodes.{empty}
 use Rattle.spec.specs.Plan.{Scope, plan-atom}
 use Rattle.laws.proofs.Fits.{Fits}
 use Rattle.laws.proofs.Steps.{all-bytes}
-use Rattle.evaluator.specs.Stands.{LeafAt, key-of}
-use Rattle.evaluator.specs.Entries.{Entry, entries, find}
+use Rattle.evaluator.specs.Stands.{LeafAt}
+use Rattle.evaluator.specs.Entries.{Entry, entries}
 use Rattle.evaluator.specs.Planned.{Shows, Planned, refuses}
 use Rattle.evaluator.specs.declared.scope.Found.{Found}
 use Rattle.evaluator.proofs.Nodes.{leaf-fits}
@@ -23,8 +23,7 @@ use Rattle.evaluator.proofs.plan.reference.Tie as tie
 
 -- a reference there fits
 fits : (c : tie.After-key) (m n : ℕ) → let a = c .before .before .before .args in LeafAt (a .s .now) (a .table .now) (a .row) (ref m n) → Fits (ref m n)
-fits c m n l =
-    leaf-fits (all-bytes (c .before .before .before .args .s .now) (λ i. c .before .before .shared-slice-known .given i .fits)) l
+fits c m n l = leaf-fits (all-bytes (c .before .before .before .args .s .now) (λ i. c .before .before .shared-slice-known .given i .fits)) l
 
 module _ (c : tie.After-look-up) where
   abbrev sc : List Entry
@@ -37,39 +36,23 @@ module _ (c : tie.After-look-up) where
       → Planned (a .s .now) (a .table .now) w floor sc (a .row) empty (reference-task f) (plan-atom (ref m n) ds)
   done f is w floor m n ds at sh =
       let k = c .before .before .before in
-      let a = k .before .before .before .args in
       let key = k .key .ensures m n at in
       let fit = fits k m n at in
-      let looked : c .look-up .result ≡ find (k .key .result) sc = c .look-up .ensures in
-      let found : find (key-of m n) sc ≡ f = ap (λ (x : ℕ). find x sc) (sym key) ∙ sym looked ∙ is in
-      let name = c .before .before .is-function in
-      rw (plan-name (k .key .result) m n ds key fit (not-false _ (sym (name .ensures) ∙ c .before .if1 .left)))
-      (reference-planned (a .s .now) (a .table .now) w floor sc (a .row) (ref m n) empty at
-      (rw found at (answers (a .s .now) (a .table .now) w floor m n fit sc ds sh)))
+      rw (plan-name _ m n ds key fit (not-false _ (sym (c .before .before .is-function .ensures) ∙ c .before .if1 .left)))
+      (reference-planned _ _ w floor sc _ (ref m n) empty at (rw (← key, ← c .look-up .ensures, is) at (answers _ _ w floor m n fit sc ds sh)))
 
 returns : tie.Need-returns
 returns c = λ w floor m n ds at sh.
     let k = c .before .before in
-    let name = c .before .is-function in
-    let plans = plan-name (k .key .result) m n ds (k .key .ensures m n at) (fits k m n at) (not-true _ (sym (name .ensures) ∙ c .if1 .taken)) in
-    rw (plans) (refuses 12)
+    rw (plan-name _ m n ds (k .key .ensures m n at) (fits k m n at) (not-true _ (sym (c .before .is-function .ensures) ∙ c .if1 .taken))) (refuses 12)
 
 look-up-requires : tie.Need-look-up-requires
 look-up-requires c κs =
     let k = c .before .before in
-    let start = k .before .before .before in
-    let at = start .pre .0 in
+    let pre = k .before .before .before .pre in
+    let at = pre .0 in
     let fit = fits k (at .0) (at .1) (at .2) in
-    (start .pre .1, omega (arith, k .key .ensures (at .0) (at .1) (at .2), key-small (at .0) (at .1) (fit .1) (fit .2)))
-
-returns-2 : tie.Need-returns-2
-returns-2 c = done (c .before .before .before) _ (c .before .from .given .1)
-
-returns-3 : tie.Need-returns-3
-returns-3 c = (done (c .before .before) _ (c .enum-told .given .1))
-
-returns-4 : tie.Need-returns-4
-returns-4 c = done (c .before .before) _ (c .enum-told2 .given .1)
+    (pre .1, omega (arith, k .key .ensures _ _ (at .2), key-small (at .0) (at .1) (fit .1) (fit .2)))
 
 pub reference-spec : {M : Type 1} → statement M
 reference-spec =
@@ -82,6 +65,6 @@ reference-spec =
     (λ c. search needs)
     (λ c. search needs)
     (λ c. search needs)
-    returns-2
-    returns-3
-    returns-4)
+    (λ c. done (c .before .before .before) _ (c .before .from .given .1))
+    (λ c. done (c .before .before) _ (c .enum-told .given .1))
+    (λ c. done (c .before .before) _ (c .enum-told2 .given .1)))
