@@ -19,8 +19,6 @@ pub mod Holding
 pub mod Values
 pub mod Prefix
 pub mod Calls
-pub mod Results
-pub mod Places
 pub mod Retry
 pub mod Count
 pub mod Theorems

@@ -131,6 +131,7 @@ pub record Meant (s : List ℕ) (room : ℕ) (rs : List Row) (es : Exprs) : Type
   pub fits : FitsAll es
   pub shallow : deepest es ≤ 64
   pub shorter : length (canonical es) ≤ length s
+  pub short : length (canonical es) ≤ 65536
   pub counted : length rs ≡ rows-all es
   pub roomy : rows-all es ≤ room
 
@@ -146,8 +147,18 @@ read-meant s room rs es b r =
     only-list : (ls : List Exprs) → ListsFit 0 ls → 0 + weight ls ≤ length s + 1 → length rs ≡ rows-in ls → length rs ≤ room
         → Meant s room rs (getD ls 0 none)
     only-list [] o w c k = absurd o
-    only-list (fs ∷ []) o w c k = record { fits = o .0; shallow = o .1; shorter = omega arith; counted = omega arith; roomy = omega arith }
+    only-list (fs ∷ []) o w c k = record {
+      fits = o .0;
+      shallow = o .1;
+      shorter = omega arith;
+      short = omega (arith, r .short);
+      counted = omega arith;
+      roomy = omega arith;
+    }
     only-list (fs ∷ gs ∷ ls) o w c k = absurd o
+
+pub meant : (s : List ℕ) (room : ℕ) (rs : List Row) (es : Exprs) → Bytes s → read s room ≡ readable rs es → Meant s room rs es
+meant s room rs es b h = read-meant s room rs es b (read-readable s room rs es h)
 
 -- with as many rows as bytes, more rows make no difference
 pub read-room : (s : List ℕ) (room : ℕ) → length s ≤ room → read s room ≡ read s (length s)
