@@ -8,7 +8,7 @@ use lib.Seq.{take-append-seam}
 use lib.Dec.{ltb}
 use borrow.Author.Tests.{ltb-true, ltb-false, le-ltb}
 use native.Mathlib.Omega.{arith}
-use Rattle.spec.specs.Expr.{same, Exprs, deepest, canonical}
+use Rattle.spec.specs.Expr.{same, Exprs, canonical}
 use Rattle.spec.specs.Reading.{tokens, Row, rows-of, row-width, numbers, Reading, refused, readable}
 use Rattle.spec.specs.Runs.{End, done, stopped, cut, steps-in}
 use Rattle.spec.specs.Evaluation.{run, result}
@@ -19,9 +19,8 @@ use Rattle.laws.proofs.Basics.{impossible, by-test}
 use Rattle.laws.proofs.Fits.{FitsAll}
 use Rattle.laws.proofs.Rows.{rows-room, numbers-length}
 use Rattle.laws.proofs.Reading.{read-refused, read-readable, meant}
-use Rattle.laws.proofs.Charges.{run-paid}
 use Rattle.laws.proofs.Runs.{Within, cut-done, StoppedBy, by-steps, by-work, by-rule, cut-stopped}
-use Rattle.laws.proofs.Values.{not-rule, run-fits, run-proper}
+use Rattle.laws.proofs.Values.{Sound, not-rule, run-fits, run-proper}
 
 -- put-out
 
@@ -302,10 +301,7 @@ module _ (s : List ℕ) (l : Lent) (stream : Bytes s) (accepted : evaluation s l
   pub left-values : result (ran .left) ≡ values-of s
   left-values = rw ran-ends
 
-  pub left-fits : FitsAll (values-of s) × (deepest (values-of s) ≤ 64)
+  pub left-fits : Sound (values-of s) × (length (canonical (values-of s)) ≤ 65536)
   left-fits =
-      rw (← left-values)
-      (run-fits (ran .meaning) (ran .left) (reading-fits s (l .table) (ran .rows) (ran .meaning) stream (ran .reads)) (ran .within .ends))
-
-  pub left-short : length (canonical (values-of s)) ≤ 65536
-  left-short = rw (← left-values) (omega (arith, run-paid (ran .meaning) (ran .left) (ran .within .ends), ran .within .work))
+      let f = run-fits (ran .meaning) (ran .left) (reading-fits s (l .table) (ran .rows) (ran .meaning) stream (ran .reads)) (ran .within .ends) in
+      rw (← left-values) (f .0, omega (arith, f .1, ran .within .work))

@@ -12,7 +12,6 @@ pub mod Written
 pub mod Steps
 pub mod Items
 pub mod Runs
-pub mod Charges
 pub mod Walk
 pub mod Singles
 pub mod Holding

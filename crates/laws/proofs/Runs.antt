@@ -2,7 +2,7 @@
 -- 17; what an accepted run took; when 16 is given. Document 01: "Step count". Assumes nothing.
 use Prim.Native.Nat.{ℕ, zero, suc, _+_, _-_, _≤_, _<_}
 use mathlib.Core.Path.{_≡_, refl, sym, _∙_}
-use mathlib.Core.List.{List, [], _∷_}
+use mathlib.Core.List.{List, [], _∷_, _++_}
 use mathlib.Core.Bool.{Bool, true, false}
 use lib.ListN.{length, getD}
 use lib.Dec.{ltb}
@@ -29,6 +29,12 @@ unfoldable pub charges : List Event → ℕ
 charges [] = 0
 charges (step r ∷ es) = charges es
 charges (charge r n ∷ es) = n + charges es
+
+pub charges-append : (es fs : List Event) → charges (es ++ fs) ≡ charges es + charges fs
+unfolding charges
+charges-append [] fs = omega arith
+charges-append (step r ∷ es) fs = charges-append es fs
+charges-append (charge r n ∷ es) fs = omega (arith, charges-append es fs)
 
 -- the row of the first charge that does not fit a workspace
 unfoldable pub full-row : ℕ → List Event → ℕ

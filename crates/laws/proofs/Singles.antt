@@ -1,23 +1,22 @@
 -- What evaluation leaves of where it happens: in which places the namespaces and the definitions stay the same. And an invariant: a
 -- definition that is no function has one value.
 -- Document 01: "The definition is visible to what follows in the same list [..] and ends with that list." Assumes nothing.
-use Prim.Native.Nat.{ℕ, zero, suc, _<_}
+use Prim.Native.Nat.{ℕ, zero, suc, _≤_, _<_}
 use mathlib.Core.Path.{_≡_, refl, ap, _∙_}
 use mathlib.Core.List.{List, [], _∷_, _++_}
 use mathlib.Core.Bool.{Bool, true, false, _&&_}
 use native.Mathlib.Omega.{arith}
 use lib.ListN.{length, drop}
-use lib.Dec.{eqb}
-use borrow.Author.Tests.{not-true}
-use Rattle.spec.specs.Expr.{if_then_else_, nil, array, int, ref, Expr, atom, form, Exprs, none, more, only, append, size, first, without}
+use lib.Dec.{ltb, eqb}
+use borrow.Author.Tests.{ltb-false, not-true}
+use Rattle.spec.specs.Expr.{if_then_else_, nil, array, int, ref, Expr, atom, form, Exprs, none, more, only, append, size, first, without, deepest, canonical}
 use Rattle.spec.specs.Nodes.{Word, rest, is, Node, leaf, branch, Nodes, empty, cons, elements, tail, headed-by}
-use Rattle.spec.specs.Runs.{done}
+use Rattle.spec.specs.Runs.{charge, done, Run, give, stop, before}
 use Rattle.spec.specs.Plan.{Defined, value, function, Definition, Scope, Found, latest, nothing, look-up, Namespace, Place, element, inner, given, Here, as-form, as-concat, as-call, Plan, associate, inside, plan}
 use Rattle.spec.specs.Evaluation.{Left, standing, add-namespace, add-definition, complete, join, one-value, Call, Meaning, in-order, perform, eval, eval-all, run-code}
 use Rattle.laws.specs.Holding.{NotTop, beyond, together, in-list}
-use Rattle.laws.proofs.Basics.{impossible}
+use Rattle.laws.proofs.Basics.{impossible, by-test}
 use Rattle.laws.proofs.Runs.{bind-done}
-use Rattle.laws.proofs.Charges.{complete-cases}
 use Rattle.laws.proofs.Walk.{Rule, refuses, own, defined, argument, others, associates, defines, names, joins, forms, calls, calls-subst, rule}
 
 -- What is so of each definition that is visible
@@ -83,6 +82,11 @@ pub append-none : (vs : Exprs) → append vs none ≡ vs
 unfolding append
 append-none none = refl
 append-none (more v vs) = ap (more v) (append-none vs)
+
+-- a value that is complete has at most 64 forms one inside another, and is charged
+pub complete-cases : (P : Run Left → Type 0) (r : ℕ) (vs : Exprs) (h : Here) → P (stop 6 r) →
+    (deepest vs ≤ 64 → P (before (charge r (length (canonical vs))) (give (record { values = vs; here = h })))) → P (complete r vs h)
+complete-cases P r vs h p q = by-test P (ltb 64 (deepest vs)) (λ e. p) (λ e. q (ltb-false 64 (deepest vs) e))
 
 complete-done : (r : ℕ) (vs : Exprs) (h : Here) (left : Left) → complete r vs h .end ≡ done left → left ≡ record { values = vs; here = h }
 complete-done r vs h left =

@@ -23,10 +23,9 @@ use Rattle.laws.proofs.Parsing.{read-spells}
 use Rattle.laws.proofs.Shortest.{all-shortest}
 use Rattle.laws.proofs.Items.{spelled-rows, item-spelled, item-past}
 use Rattle.laws.proofs.Runs.{cut-more, cut-done}
-use Rattle.laws.proofs.Charges.{run-paid}
-use Rattle.laws.proofs.Values.{not-rule, run-proper}
+use Rattle.laws.proofs.Values.{not-rule, run-fits, run-proper}
 use Rattle.laws.proofs.Prefix.{run-first, result-split}
-use Rattle.laws.proofs.Calls.{put-out-bytes, rows-fit, filled-length, read-cases, not-read, refuses, accepts, answers-kept, answers-within, answers-table, answers-counted, answers-place, write-answers, write-out, write-room, Written, written, bounded, Way, way, evaluation-answered, Why, no-version, other-version, stops, too-long, Evaluates, evaluation-answers, reading-fits, CutNumber, for-steps, for-work, for-rule, cut-refused, ran, ran-means, ran-ends, left-values, left-fits, left-short}
+use Rattle.laws.proofs.Calls.{put-out-bytes, rows-fit, filled-length, read-cases, not-read, refuses, accepts, answers-kept, answers-within, answers-table, answers-counted, answers-place, write-answers, write-out, write-room, Written, written, bounded, Way, way, evaluation-answered, Why, no-version, other-version, stops, too-long, Evaluates, evaluation-answers, reading-fits, CutNumber, for-steps, for-work, for-rule, cut-refused, ran, ran-means, ran-ends, left-values, left-fits}
 use Rattle.laws.proofs.Retry.{refusals-alike, put-out-alike, end-alike, same-end-alike, reads-same, evaluations-alike}
 use Rattle.laws.proofs.Count.{stepped, steps-stepped, way-enough, OutOfSteps, way-short, way-sixteen, ran-all-steps}
 
@@ -191,13 +190,13 @@ module _ (s : List ℕ) (l : Lent) (stream : Bytes s) (accepted : evaluation s l
       ap (λ (a : Answer). a .given) (ran s l stream accepted .is) ∙ ap (λ (es : Exprs). length (canonical es)) (left-values s l stream accepted)
 
   pub result-stream : Bytes (result-bytes (evaluation s l))
-  result-stream = rw result-canonical (canonical-bytes (values-of s) (left-fits s l stream accepted .0) (left-short s l stream accepted))
+  result-stream = let f = left-fits s l stream accepted in rw result-canonical (canonical-bytes (values-of s) (f .0 .0) (f .1))
 
   pub result-readable : (room : ℕ) → rows-all (values-of s) ≤ room
       → read (result-bytes (evaluation s l)) room ≡ readable (rows-of (tokens 0 0 (result-bytes (evaluation s l)))) (values-of s)
   result-readable room h =
       let f = left-fits s l stream accepted in
-      rw result-canonical (read-canonical (values-of s) room (f .0) (f .1) (left-short s l stream accepted) h)
+      rw result-canonical (read-canonical (values-of s) room (f .0 .0) (f .0 .1) (f .1) h)
 
   result-begins : (q : ℕ) → Begins (result-bytes (evaluation s l)) (bytes-of-first q s)
   result-begins q =
@@ -231,7 +230,7 @@ output-enough s l b long = go (evaluation-answers s l)
     why rs es e (stops v r c) z = cut-so (cut-refused es (reading-fits s (l .table) rs es b e) (l .steps) (min (l .work) 65536) v r c) z
     why rs es e (too-long ls c h) z =
         let within = cut-done (run es .events) (run es .end) (l .steps) (min (l .work) 65536) ls c in
-        omega (arith, run-paid es ls (within .ends), within .work)
+        omega (arith, run-fits es ls (reading-fits s (l .table) rs es b e) (within .ends) .1, within .work)
 
     go : {a : Answer} → Evaluates s l a → a .number ≡ 18 → ⊥
     go (not-read v p e) z = omega (arith, read-refused s (length (l .table) / row-width) v p b e .1)
