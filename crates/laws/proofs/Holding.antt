@@ -44,14 +44,10 @@ module _ {A B : Type 0} where
   unfolding hold-events
   hold-follow [] (done a) f s w = refl
   hold-follow [] (stopped v r) f s w = refl
-  hold-follow (step r ∷ es) (done a) f s w =
-      and-hold-if (eqb s 0) 16 r (hold-events (s - 1) w es (done a)) _ (hold-follow es (done a) f (s - 1) w)
-  hold-follow (step r ∷ es) (stopped v q) f s w =
-      and-hold-if (eqb s 0) 16 r (hold-events (s - 1) w es (stopped v q)) _ (hold-follow es (stopped v q) f (s - 1) w)
-  hold-follow (charge r n ∷ es) (done a) f s w =
-      and-hold-if (ltb w n) 17 r (hold-events s (w - n) es (done a)) _ (hold-follow es (done a) f s (w - n))
-  hold-follow (charge r n ∷ es) (stopped v q) f s w =
-      and-hold-if (ltb w n) 17 r (hold-events s (w - n) es (stopped v q)) _ (hold-follow es (stopped v q) f s (w - n))
+  hold-follow (step r ∷ es) (done a) f s w = and-hold-if (eqb s 0) 16 r _ _ (hold-follow es (done a) f (s - 1) w)
+  hold-follow (step r ∷ es) (stopped v q) f s w = and-hold-if (eqb s 0) 16 r _ _ (hold-follow es (stopped v q) f (s - 1) w)
+  hold-follow (charge r n ∷ es) (done a) f s w = and-hold-if (ltb w n) 17 r _ _ (hold-follow es (done a) f s (w - n))
+  hold-follow (charge r n ∷ es) (stopped v q) f s w = and-hold-if (ltb w n) 17 r _ _ (hold-follow es (stopped v q) f s (w - n))
 
   pub hold-bind : (s w : ℕ) (run : Run A) (f : A → Run B) → hold s w (bind run f) ≡ and-hold (hold s w run) (λ a s′ w′. hold s′ w′ (f a))
   hold-bind s w run f = hold-follow (run .events) (run .end) f s w
@@ -77,27 +73,20 @@ module _ {A : Type 0} (s w : ℕ) where
     unfolding hold-events
     hold-step h = rw (ne-eqb s 0 (λ e. omega arith))
 
-    -- 17: "workspace charge doesn't fit"
-    hold-charge-none : (n : ℕ) → w < n → hold s w (before (charge r n) run) ≡ ceased 17 r
-    unfolding hold-events
-    hold-charge-none n h = rw (lt-ltb w n h)
-
-    hold-charge : (n : ℕ) → n ≤ w → hold s w (before (charge r n) run) ≡ hold s (w - n) run
-    unfolding hold-events
-    hold-charge n h = rw (le-ltb w n h)
-
 module _ (s w r : ℕ) (vs : Exprs) (h : Here) where
   pub hold-complete-deep : 64 < deepest vs → hold s w (complete r vs h) ≡ ceased 6 r
-  hold-complete-deep d = rw (lt-ltb 64 (deepest vs) d) (hold-stop s w 6 r)
+  unfolding hold-events
+  hold-complete-deep d = rw (lt-ltb 64 (deepest vs) d)
 
+  -- 17: "workspace charge doesn't fit"
   pub hold-complete-none : deepest vs ≤ 64 → w < length (canonical vs) → hold s w (complete r vs h) ≡ ceased 17 r
-  hold-complete-none d l = rw (le-ltb 64 (deepest vs) d) (hold-charge-none s w r _ (length (canonical vs)) l)
+  unfolding hold-events
+  hold-complete-none d l = rw (le-ltb 64 (deepest vs) d, lt-ltb w (length (canonical vs)) l)
 
   pub hold-complete : deepest vs ≤ 64 → length (canonical vs) ≤ w
       → hold s w (complete r vs h) ≡ kept (record { values = vs; here = h }) s (w - length (canonical vs))
-  hold-complete d l =
-      let left : Left = record { values = vs; here = h } in
-      rw (le-ltb 64 (deepest vs) d) (hold-charge s w r (give left) (length (canonical vs)) l ∙ hold-give s (w - length (canonical vs)) left)
+  unfolding hold-events
+  hold-complete d l = rw (le-ltb 64 (deepest vs) d, le-ltb w (length (canonical vs)) l)
 
 -- hold, by its answer
 
