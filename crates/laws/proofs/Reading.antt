@@ -188,7 +188,7 @@ token-atom : (a : Atom) (x : List ℕ) (f : Front a x) (p : ℕ) (s : List ℕ)
 unfolding token
 token-atom a x f p s =
     let end : p + 1 + length (f .others ++ s) - length s ≡ p + suc (length (f .others)) = simp length-append (omega arith) in
-    rw (ne-eqb (f .byte) 0x01 (f .no-opening), ne-eqb (f .byte) 0x02 (f .no-closing), f .reads s, end)
+    rw (ne-eqb (f .byte) 0x01 (f .no-form .0), ne-eqb (f .byte) 0x02 (f .no-form .1), f .reads s, end)
 
 pub tokens-atom : (a : Atom) (x : List ℕ) → SpellsAtom a x → (p : ℕ) (s : List ℕ)
     → tokens p 0 (x ++ s) ≡ whole a p (p + length x) ∷ tokens (p + length x) 0 s
