@@ -4,7 +4,7 @@
 use Prim.Native.Nat.{ℕ, zero, suc, _≤_, _<_}
 use mathlib.Core.Path.{_≡_, refl, ap, _∙_}
 use mathlib.Core.List.{List, [], _∷_, _++_}
-use mathlib.Core.Bool.{Bool, true, false, _&&_}
+use mathlib.Core.Bool.{true, false, _&&_}
 use native.Mathlib.Omega.{arith}
 use lib.ListN.{length, drop}
 use lib.Dec.{ltb, eqb}
@@ -32,11 +32,7 @@ EachFound P nothing = Unit {0}
 pub look-up-each : (P : Defined → Type 0) (m n : ℕ) (ds : Scope) → EachDefined P ds → EachFound P (look-up m n ds)
 unfolding look-up
 look-up-each P m n [] s = tt
-look-up-each P m n (d ∷ ds) s = go (eqb (d .marker) m && eqb (d .name) n) (look-up-each P m n ds (s .1))
-  where
-    go : (b : Bool) → EachFound P (look-up m n ds) → EachFound P (if b then latest (d .content) ds else look-up m n ds)
-    go true t = s
-    go false t = t
+look-up-each P m n (d ∷ ds) s = by-test (EachFound P) (eqb (d .marker) m && eqb (d .name) n) (λ t. s) (λ t. look-up-each P m n ds (s .1))
 
 -- one value, and no more
 pub record Single (vs : Exprs) : Type 0 where
@@ -239,11 +235,8 @@ SingleCall call = (r : ℕ) (code : Nodes) (h : Here) (left : Left) → one-valu
 module _ (call : Call) (call-single : SingleCall call) where
   call-value : (r : ℕ) (code : Nodes) (h : Here) (left : Left) → h .place ≡ inner → SingleScope (h .scope) → call r code h .end ≡ done left
       → Single (if one-value code then left .values else only (form (left .values)))
-  call-value r code h left i s e = go (one-value code) refl
-    where
-      go : (b : Bool) → one-value code ≡ b → Single (if b then left .values else only (form (left .values)))
-      go true q = call-single r code h left q i s e
-      go false q = record { value = form (left .values); is = refl }
+  call-value r code h left i s e =
+      by-test Single (one-value code) (λ q. call-single r code h left q i s e) (λ q. record { value = form (left .values); is = refl })
 
   perform-single : (r : ℕ) (ms : List Meaning) (h : Here) {w : Word} {e : Node} {p : Plan} → Rule h w e p → is w rest ≡ false → (left : Left)
       → h .place ≡ inner → SingleScope (h .scope) → perform call r ms h p .end ≡ done left → Single (left .values)

@@ -125,41 +125,41 @@ pub write-accepts : (s t o : List ℕ) (rs : List Row) (es : Exprs) → reading 
 write-accepts s t o rs es r = (write-room s t o rs es r, λ h. ap (λ (a : Answer). a .number) (write-out s t o rs es r h))
 
 module _ (s t o : List ℕ) (stream : Bytes s) (accepted : Write s t o .number ≡ 0) where
-  abbrev w : Written s t o
-  w = written s t o stream accepted
+  abbrev writing : Written s t o
+  writing = written s t o stream accepted
 
-  means : w .meaning ≡ meaning-of s
-  means = read-readable s (length t / row-width) (w .rows) (w .meaning) (w .reads) .means
+  written-means : writing .meaning ≡ meaning-of s
+  written-means = read-readable s (length t / row-width) (writing .rows) (writing .meaning) (writing .reads) .means
 
   -- what is written is the canonical stream, and its length is given
   pub write-canonical : result-bytes (Write s t o) ≡ canonical (meaning-of s)
-  write-canonical = ap result-bytes (w .is) ∙ put-out-bytes (canonical (w .meaning)) 0 (filled (w .rows) t) o ∙ ap canonical means
+  write-canonical = ap result-bytes (writing .is) ∙ put-out-bytes (canonical (writing .meaning)) 0 (filled (writing .rows) t) o ∙ ap canonical written-means
 
   pub write-length : Write s t o .given ≡ length (canonical (meaning-of s))
-  write-length = ap (λ (a : Answer). a .given) (w .is) ∙ ap (λ (es : Exprs). length (canonical es)) means
+  write-length = ap (λ (a : Answer). a .given) (writing .is) ∙ ap (λ (es : Exprs). length (canonical es)) written-means
 
   pub write-stream : Bytes (result-bytes (Write s t o))
   write-stream =
-      let m = meant s (length t / row-width) (w .rows) (w .meaning) stream (w .reads) in
-      rw (write-canonical, ← means)
-      (canonical-bytes (w .meaning) (m .fits) (m .short))
+      let m = meant s (length t / row-width) (writing .rows) (writing .meaning) stream (writing .reads) in
+      rw (write-canonical, ← written-means)
+      (canonical-bytes (writing .meaning) (m .fits) (m .short))
 
   -- "reading what was written gives the meaning back", with the same table
   pub write-read-back : reading (result-bytes (Write s t o)) t ≡ readable (rows-of (tokens 0 0 (result-bytes (Write s t o)))) (meaning-of s)
   write-read-back =
-      let m = meant s (length t / row-width) (w .rows) (w .meaning) stream (w .reads) in
-      rw (write-canonical, ← means)
-      (read-back s (length t / row-width) (w .rows) (w .meaning) stream (w .reads) (length t / row-width) (omega (arith, m .counted, m .roomy)))
+      let m = meant s (length t / row-width) (writing .rows) (writing .meaning) stream (writing .reads) in
+      rw (write-canonical, ← written-means)
+      (read-back s (length t / row-width) (writing .rows) (writing .meaning) stream (writing .reads) (length t / row-width) (omega (arith, m .counted, m .roomy)))
 
 -- "two readable streams of equal meaning are written to equal bytes, two of different meaning never"
 pub write-same : (s s′ t t′ o o′ : List ℕ) → Bytes s → Bytes s′ → Write s t o .number ≡ 0 → Write s′ t′ o′ .number ≡ 0
     → (meaning-of s ≡ meaning-of s′) ↔ (result-bytes (Write s t o) ≡ result-bytes (Write s′ t′ o′))
 write-same s s′ t t′ o o′ b b′ a a′ =
-    let m = means s t o b a in
-    let m′ = means s′ t′ o′ b′ a′ in
+    let m = written-means s t o b a in
+    let m′ = written-means s′ t′ o′ b′ a′ in
     let c = write-canonical s t o b a in
     let c′ = write-canonical s′ t′ o′ b′ a′ in
-    let same = canonical-equal s s′ (length t / row-width) (length t′ / row-width) _ _ _ _ b b′ (w s t o b a .reads) (w s′ t′ o′ b′ a′ .reads) .0 in
+    let same = canonical-equal s s′ (length t / row-width) (length t′ / row-width) _ _ _ _ b b′ (writing s t o b a .reads) (writing s′ t′ o′ b′ a′ .reads) .0 in
     (λ h. c ∙ ap canonical h ∙ sym c′, λ h. sym m ∙ same (ap canonical m ∙ sym c ∙ h ∙ c′ ∙ ap canonical (sym m′)) ∙ m′)
 
 -- Reading is exactly document 01's: `read` is the parser of the grammar in specs/Grammar, and the rows are those of the spelled expressions.
@@ -291,17 +291,17 @@ count s l b = record {
 -- `all-steps` lists the places of the steps that the rules take with this table and workspace and no bound on steps
 
 module _ (s : List ℕ) (l : Lent) where
-  abbrev y : Way s (l .table)
-  y = way s (l .table)
+  abbrev its-way : Way s (l .table)
+  its-way = way s (l .table)
 
-  steps-are : all-steps s l ≡ stepped y (l .work)
-  steps-are = steps-stepped s (l .table) y (l .work)
+  steps-are : all-steps s l ≡ stepped its-way (l .work)
+  steps-are = steps-stepped s (l .table) its-way (l .work)
 
   short-refused : l .steps < length (all-steps s l) → OutOfSteps (evaluation s l) (getD (all-steps s l) (l .steps) 0)
-  short-refused h = rw (evaluation-answered s l y, steps-are) (way-short s (l .table) y l (rw steps-are at h))
+  short-refused h = rw (evaluation-answered s l its-way, steps-are) (way-short s (l .table) its-way l (rw steps-are at h))
 
   pub sixteen : Bytes s → (evaluation s l .number ≡ 16) ↔ (l .steps < length (all-steps s l))
-  sixteen b = (λ h. rw steps-are (way-sixteen s (l .table) y l b (rw (evaluation-answered s l y) at h)), λ h. short-refused h .0)
+  sixteen b = (λ h. rw steps-are (way-sixteen s (l .table) its-way l b (rw (evaluation-answered s l its-way) at h)), λ h. short-refused h .0)
 
   pub sixteen-place : l .steps < length (all-steps s l) → evaluation s l .place ≡ getD (all-steps s l) (l .steps) 0
   sixteen-place h = short-refused h .1
@@ -309,9 +309,9 @@ module _ (s : List ℕ) (l : Lent) where
   -- "If they accept or refuse within the steps given, that is the answer": with steps enough, how many makes no difference
   pub steps-enough : (n : ℕ) → length (all-steps s l) ≤ l .steps → length (all-steps s l) ≤ n → evaluation s l ≡ evaluation s (with-steps n l)
   steps-enough n h k =
-      evaluation-answered s l y
-      ∙ way-enough s (l .table) y l n (rw steps-are at h) (rw steps-are at k)
-      ∙ sym (evaluation-answered s (with-steps n l) y)
+      evaluation-answered s l its-way
+      ∙ way-enough s (l .table) its-way l n (rw steps-are at h) (rw steps-are at k)
+      ∙ sym (evaluation-answered s (with-steps n l) its-way)
 
 -- "And take any two accepted streams and any number q. If their first q top-level expressions are equal in meaning, these give the same
 -- bytes in both, and the result bytes of every run that accepts either stream begin with them."

@@ -4,7 +4,7 @@
 use Prim.Native.Nat.{ℕ, zero, suc, _+_, _≤_, _<_}
 use mathlib.Core.Path.{_≡_, refl}
 use mathlib.Core.List.{List, [], _∷_, _++_}
-use mathlib.Core.Bool.{Bool, true, false}
+use mathlib.Core.Bool.{false}
 use native.Mathlib.Omega.{arith}
 use lib.ListN.{length, drop, length-append}
 use Rattle.spec.specs.Expr.{if_then_else_, Atom, nil, array, int, ref, Expr, atom, form, Exprs, none, more, only, append, first, without, rows, rows-all, depth, deepest, canonical}
@@ -15,7 +15,7 @@ use Rattle.spec.specs.Evaluation.{Left, complete, join, Call, one-value, finish
 use Rattle.laws.specs.Demands.{Bytes}
 use Rattle.laws.specs.Holding.{beyond, in-list}
 use Rattle.laws.specs.Sanity.{RowsBelow, rule-number, RuleNumber, Proper}
-use Rattle.laws.proofs.Basics.{impossible}
+use Rattle.laws.proofs.Basics.{impossible, by-test}
 use Rattle.laws.proofs.Fits.{bytes-append, Fits, FitsExpr, FitsAll}
 use Rattle.laws.proofs.Canonical.{canonical-append}
 use Rattle.laws.proofs.Runs.{charges, charges-append}
@@ -54,11 +54,6 @@ first-sound (suc n) none s = s
 first-sound (suc n) (more v vs) s =
     let others : Sound (first n vs) = first-sound n vs (s .0 .1, omega arith) in
     ((s .0 .0, others .0), omega arith)
-
--- a call's value
-call-fits : (b : Bool) (vs : Exprs) → FitsAll vs → FitsAll (if b then vs else only (form vs))
-call-fits true vs f = f
-call-fits false vs f = (f, tt)
 
 -- Rows and refusals
 
@@ -261,7 +256,7 @@ module _ (bound : ℕ) where
     finish-sound r h (as-call code scope) vs q f v s =
         after-goes (calls r code _ q (f .0) (f .1, v))
         λ left l. complete-sound r (if one-value code then left .values else only (form (left .values))) h q
-        (call-fits (one-value code) (left .values) (l .0 .0)) s
+        (by-test FitsAll (one-value code) (λ e. l .0 .0) (λ e. (l .0 .0, tt))) s
 
     perform-sound : (r : ℕ) (ms : List Meaning) (h : Here) (p : Plan) → r < bound → SoundPlan p → SoundMeanings ms → SoundHere h →
         Goes SoundLeft (perform call r ms h p)
