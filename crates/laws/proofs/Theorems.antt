@@ -17,8 +17,9 @@ use Rattle.laws.specs.Demands.{Bytes, Begins, Kept, Lent, evaluation, re
 use Rattle.laws.specs.Grammar.{SpellsAll, all-rows, WellFormed, item-reading, SpellsItem}
 use Rattle.laws.specs.Sanity.{Inside, FirstFrom, Proper}
 use Rattle.laws.proofs.Canonical.{canonical-append, canonical-bytes}
+use Rattle.laws.proofs.Tokens.{tokens-few, check-room}
 use Rattle.laws.proofs.Rows.{rows-ordered, rows-inside, ordered-starts, inside-start, next-row-first, numbers-fourth, numbers-length}
-use Rattle.laws.proofs.Reading.{stream-laid, read-readable, read-refused, read-refused-roomy, read-enough, meant, read-room, read-spelled, read-canonical}
+use Rattle.laws.proofs.Reading.{stream-laid, read-readable, read-refusal, read-refused, read-enough, meant, read-spelled, read-canonical}
 use Rattle.laws.proofs.Parsing.{read-spells}
 use Rattle.laws.proofs.Shortest.{all-shortest}
 use Rattle.laws.proofs.Items.{spelled-rows, item-spelled, item-past}
@@ -395,7 +396,10 @@ module _ (stream result : List ℕ) (b : Buffer) (k : ℕ) where
 
 -- Item reads with as many rows as bytes: more make no difference, and 8 does not arise
 pub item-rows : (s : List ℕ) (room : ℕ) → length s ≤ room → read s room ≡ read s (length s)
-item-rows = read-room
+unfolding read
+item-rows s room h =
+    let few = tokens-few s 0 0 in
+    rw (check-room (length s) room (length s) (tokens 0 0 s) 0 0 (omega arith) (omega arith))
 
 pub item-eight : (s : List ℕ) (w p : ℕ) → Bytes s → read s (length s) ≡ refused w p → w ≤ 7
-item-eight = read-refused-roomy
+item-eight s w p b h = omega (arith, read-refusal s (length s) w p b h)
