@@ -1,7 +1,6 @@
--- Laws of the calls: the ways in which they answer, what they leave in the buffers, and what follows from an acceptance.
--- Document 01: "The calls". Assumes nothing.
+-- Laws of the calls: how they answer, and what follows from an answer and from an acceptance. Document 01: "The calls". Assumes nothing.
 use Prim.Native.Nat.{ℕ, _*_, _/_, _≤_, _<_, min}
-use mathlib.Core.Path.{_≡_, refl, ap, _∙_}
+use mathlib.Core.Path.{_≡_, refl, ap}
 use mathlib.Core.List.{List, []}
 use mathlib.Core.Bool.{Bool, true, false, not}
 use lib.ListN.{length, take, drop, length-append, length-drop}
@@ -9,18 +8,19 @@ use lib.Seq.{take-append-seam}
 use lib.Dec.{ltb}
 use borrow.Author.Tests.{ltb-true, ltb-false, le-ltb}
 use native.Mathlib.Omega.{arith}
-use Rattle.spec.specs.Expr.{if_then_else_, same, Exprs, canonical}
+use Rattle.spec.specs.Expr.{same, Exprs, canonical}
 use Rattle.spec.specs.Reading.{tokens, Row, rows-of, row-width, numbers, Reading, refused, readable}
 use Rattle.spec.specs.Runs.{End, done, stopped, cut, steps-in}
 use Rattle.spec.specs.Evaluation.{run, result}
 use Rattle.spec.specs.Calls.{Answer, refusal, acceptance, over, filled, put-out, once-read, reading, Read, Write, is-versioned, version-bytes, row-at, end-answer, run-answer, Evaluate}
-use Rattle.laws.specs.Demands.{Bytes, Kept, Lent, evaluation, result-bytes}
+use Rattle.laws.specs.Demands.{Bytes, Kept, Lent, evaluation, result-bytes, meaning-of, values-of}
 use Rattle.laws.specs.Sanity.{RuleNumber}
+use Rattle.laws.proofs.Basics.{impossible, by-test}
 use Rattle.laws.proofs.Fits.{FitsAll}
 use Rattle.laws.proofs.Rows.{rows-room, numbers-length}
-use Rattle.laws.proofs.Reading.{read-refused, read-readable, read-meant}
+use Rattle.laws.proofs.Reading.{read-refused, read-readable, meant}
 use Rattle.laws.proofs.Runs.{Within, cut-done, StoppedBy, by-steps, by-work, by-rule, cut-stopped}
-use Rattle.laws.proofs.Values.{not-rule, run-proper}
+use Rattle.laws.proofs.Values.{Sound, not-rule, run-fits, run-proper}
 
 -- put-out
 
@@ -30,113 +30,111 @@ pub data Put (bs : List ℕ) (k : ℕ) (t o : List ℕ) : Answer → Type 0 wher
 
 pub put-out-is : (bs : List ℕ) (k : ℕ) (t o : List ℕ) → Put bs k t o (put-out bs k t o)
 unfolding put-out
-put-out-is bs k t o = go (ltb (length o) (length bs)) refl
-  where
-    go : (b : Bool) → ltb (length o) (length bs) ≡ b → Put bs k t o (if b then refusal 18 0 t o else acceptance (length bs) k t (over bs o))
-    go true e = too-short (ltb-true (length o) (length bs) e)
-    go false e = fits (ltb-false (length o) (length bs) e)
-
--- an output that is long enough is not refused
-pub put-long : {bs : List ℕ} {k : ℕ} {t o : List ℕ} {a : Answer} → Put bs k t o a → length bs ≤ length o → a .number ≡ 18 → ⊥
-put-long (too-short l) h e = omega arith
-put-long (fits l) h e = omega arith
-
-put-out-room : (bs : List ℕ) (k : ℕ) (t o : List ℕ) → length bs ≤ length o → put-out bs k t o ≡ acceptance (length bs) k t (over bs o)
-unfolding put-out
-put-out-room bs k t o h = rw (le-ltb (length o) (length bs) h)
-
--- an acceptance had room
-put-room : {bs : List ℕ} {k : ℕ} {t o : List ℕ} {a : Answer} → Put bs k t o a → a .number ≡ 0 → length bs ≤ length o
-put-room (too-short l) h = absurd (omega arith)
-put-room (fits l) h = l
-
-pub put-place : {bs : List ℕ} {k : ℕ} {t o : List ℕ} {a : Answer} → Put bs k t o a → a .place ≡ 0
-put-place (too-short l) = refl
-put-place (fits l) = refl
-
-put-table : {bs : List ℕ} {k : ℕ} {t o : List ℕ} {a : Answer} → Put bs k t o a → a .table ≡ t
-put-table (too-short l) = refl
-put-table (fits l) = refl
-
-over-length : (new old : List ℕ) → length new ≤ length old → length (over new old) ≡ length old
-over-length new old h = simp (length-append, length-drop) (omega arith)
-
-put-kept : {bs : List ℕ} {k : ℕ} {t o : List ℕ} {a : Answer} (u : List ℕ) → length t ≡ length u → Put bs k t o a → Kept u o a
-put-kept u h (too-short l) = record { tables = h; outputs = refl; refused = λ z. refl }
-put-kept {bs} {k} {t} {o} u h (fits l) = record { tables = h; outputs = over-length bs o l; refused = λ z. absurd (z refl) }
-
-refusal-kept : (w p : ℕ) (t o u : List ℕ) → length t ≡ length u → Kept u o (refusal w p t o)
-refusal-kept w p t o u h = record { tables = h; outputs = refl; refused = λ z. refl }
-
--- the rows have room in the table
-filled-length : (s t : List ℕ) (rs : List Row) (es : Exprs) → reading s t ≡ readable rs es → length (filled rs t) ≡ length t
-filled-length s t rs es e =
-    let r = read-readable s (length t / 4) rs es e in
-    let size : length rs ≡ length (rows-of (tokens 0 0 s)) = ap length (r .rows-are) in
-    let room = rows-room (r .well) (omega arith) in
-    over-length (numbers rs rs) t (omega (arith, numbers-length rs rs))
+put-out-is bs k t o =
+    let short : Bool = ltb (length o) (length bs) in
+    by-test (Put bs k t o) short (λ e. too-short (ltb-true (length o) (length bs) e)) (λ e. fits (ltb-false (length o) (length bs) e))
 
 pub put-out-bytes : (bs : List ℕ) (k : ℕ) (t o : List ℕ) → result-bytes (acceptance (length bs) k t (over bs o)) ≡ bs
 put-out-bytes bs k t o = take-append-seam bs (drop (length bs) o)
 
--- Read and Write
+over-length : (new old : List ℕ) → length new ≤ length old → length (over new old) ≡ length old
+over-length new old h = simp (length-append, length-drop) (omega arith)
 
--- what holds of an answer that follows reading: the refusal, or what is done with the rows and the meaning
-pub once-read-cases : (P : Answer → Type 0) (s t o : List ℕ) (go : List Row → Exprs → Answer)
-    → ((w p : ℕ) → reading s t ≡ refused w p → P (refusal w p t o)) → ((rs : List Row) (es : Exprs) → reading s t ≡ readable rs es → P (go rs es))
-    → P (once-read t o go (reading s t))
-once-read-cases P s t o go f g = cases (reading s t) refl
-  where
-    cases : (r : Reading) → reading s t ≡ r → P (once-read t o go r)
-    cases (refused w p) e = f w p e
-    cases (readable rs es) e = g rs es e
+-- the rows have room in the table
 
-pub read-kept : (s t : List ℕ) → Kept t [] (Read s t)
-unfolding Read
-read-kept s t =
-    once-read-cases (Kept t []) s t [] (λ rs es. acceptance (length rs) 0 (filled rs t) []) (λ w p e. refusal-kept w p t [] t refl)
-    (λ rs es e. record { tables = filled-length s t rs es e; outputs = refl; refused = λ z. refl })
-
--- no more rows are given than the table has
-pub read-within : (s t : List ℕ) → row-width * Read s t .given ≤ length t
-unfolding Read
-read-within s t =
-    once-read-cases (λ (a : Answer). row-width * a .given ≤ length t) s t [] (λ rs es. acceptance (length rs) 0 (filled rs t) []) (λ w p e. omega arith)
-    (λ rs es e. let r = read-readable s (length t / row-width) rs es e in
+pub rows-fit : (s t : List ℕ) (rs : List Row) (es : Exprs) → reading s t ≡ readable rs es → row-width * length rs ≤ length t
+rows-fit s t rs es e =
+    let r = read-readable s (length t / row-width) rs es e in
     let size : length rs ≡ length (rows-of (tokens 0 0 s)) = ap length (r .rows-are) in
-    omega (arith, rows-room (r .well) (omega arith)))
+    omega (arith, rows-room (r .well) (omega arith))
+
+pub filled-length : (s t : List ℕ) (rs : List Row) (es : Exprs) → reading s t ≡ readable rs es → length (filled rs t) ≡ length t
+filled-length s t rs es e = over-length (numbers rs rs) t (omega (arith, numbers-length rs rs, rows-fit s t rs es e))
+
+-- what holds of both answers of Read holds of its answer
+pub read-cases : (P : Answer → Type 0) (s t : List ℕ) → ((v p : ℕ) → reading s t ≡ refused v p → P (refusal v p t []))
+    → ((rs : List Row) (es : Exprs) → reading s t ≡ readable rs es → P (acceptance (length rs) 0 (filled rs t) [])) → P (Read s t)
+unfolding Read
+read-cases P s t f g = go (reading s t) refl
+  where
+    go : (r : Reading) → reading s t ≡ r → P (once-read t [] (λ rs es. acceptance (length rs) 0 (filled rs t) []) r)
+    go (refused v p) e = f v p e
+    go (readable rs es) e = g rs es e
+
+-- How Write and Evaluate answer
+
+-- with a stream, a table and an output: reading refuses; else there is a refusal of which W holds, or bytes are put out with a number of steps,
+-- of which A holds
+pub data Answers (s t o : List ℕ) (W : List Row → Exprs → ℕ → ℕ → Type 0) (A : List Row → Exprs → List ℕ → ℕ → Type 0) : Answer → Type 0 where
+  not-read : (v p : ℕ) → reading s t ≡ refused v p → Answers s t o W A (refusal v p t o)
+  refuses : {v p : ℕ} (rs : List Row) (es : Exprs) → reading s t ≡ readable rs es → W rs es v p → Answers s t o W A (refusal v p (filled rs t) o)
+  accepts : {bs : List ℕ} {k : ℕ} (rs : List Row) (es : Exprs) → reading s t ≡ readable rs es → A rs es bs k → length bs ≤ length o
+      → Answers s t o W A (acceptance (length bs) k (filled rs t) (over bs o))
+
+module _ {s t o : List ℕ} {W : List Row → Exprs → ℕ → ℕ → Type 0} {A : List Row → Exprs → List ℕ → ℕ → Type 0} where
+  put-answers : (rs : List Row) (es : Exprs) → reading s t ≡ readable rs es → {bs : List ℕ} {k : ℕ} {a : Answer}
+      → (length o < length bs → W rs es 18 0) → A rs es bs k → Put bs k (filled rs t) o a → Answers s t o W A a
+  put-answers rs es e w a (too-short l) = refuses rs es e (w l)
+  put-answers rs es e w a (fits l) = accepts rs es e a l
+
+  pub answers-kept : {a : Answer} → Answers s t o W A a → Kept t o a
+  answers-kept (not-read v p e) = record { tables = refl; outputs = refl; refused = λ z. refl }
+  answers-kept (refuses rs es e w) = record { tables = filled-length s t rs es e; outputs = refl; refused = λ z. refl }
+  answers-kept (accepts {bs} rs es e w room) =
+      record { tables = filled-length s t rs es e; outputs = over-length bs o room; refused = λ z. absurd (z refl) }
+
+  -- no more bytes are given than the output has
+  pub answers-within : {a : Answer} → Answers s t o W A a → a .given ≤ length o
+  answers-within (not-read v p e) = omega arith
+  answers-within (refuses rs es e w) = omega arith
+  answers-within (accepts rs es e w room) = room
+
+  pub answers-table : {a : Answer} → Answers s t o W A a → (rs : List Row) (es : Exprs) → reading s t ≡ readable rs es → a .table ≡ filled rs t
+  answers-table (not-read v p e) rs es q = impossible (cc)
+  answers-table (refuses rs′ es′ e w) rs es q = let same : rs′ ≡ rs = cc in rw same
+  answers-table (accepts rs′ es′ e w room) rs es q = let same : rs′ ≡ rs = cc in rw same
+
+  -- a refusal counts nothing
+  pub answers-counted : {a : Answer} → Answers s t o W A a → (a .number ≡ 0 → ⊥) → a .steps ≡ 0
+  answers-counted (not-read v p e) h = refl
+  answers-counted (refuses rs es e w) h = refl
+  answers-counted (accepts rs es e w room) h = absurd (h refl)
+
+  pub answers-place : {a : Answer} → Bytes s → ((rs : List Row) (es : Exprs) (v p : ℕ) → reading s t ≡ readable rs es → W rs es v p → p ≤ length s)
+      → Answers s t o W A a → a .place ≤ length s
+  answers-place b f (not-read v p e) = read-refused s (length t / row-width) v p b e .2
+  answers-place b f (refuses {v} {p} rs es e w) = f rs es v p e w
+  answers-place b f (accepts rs es e w room) = omega arith
+
+-- Write
+
+abbrev pub WriteRefuses : List Row → Exprs → ℕ → ℕ → Type 0
+WriteRefuses rs es v p = (v ≡ 18) × (p ≡ 0)
+
+abbrev pub WritePuts : List Row → Exprs → List ℕ → ℕ → Type 0
+WritePuts rs es bs k = bs ≡ canonical es
+
+pub write-answers : (s t o : List ℕ) → Answers s t o WriteRefuses WritePuts (Write s t o)
+unfolding Write
+write-answers s t o = go (reading s t) refl
+  where
+    go : (r : Reading) → reading s t ≡ r
+        → Answers s t o WriteRefuses WritePuts (once-read t o (λ rs es. put-out (canonical es) 0 (filled rs t) o) r)
+    go (refused v p) e = not-read v p e
+    go (readable rs es) e = put-answers rs es e (λ l. (refl, refl)) refl (put-out-is (canonical es) 0 (filled rs t) o)
 
 module _ (s t o : List ℕ) (rs : List Row) (es : Exprs) (reads : reading s t ≡ readable rs es) where
   pub write-out : length (canonical es) ≤ length o → Write s t o ≡ acceptance (length (canonical es)) 0 (filled rs t) (over (canonical es) o)
-  unfolding Write
-  write-out h = rw reads (put-out-room (canonical es) 0 (filled rs t) o h)
+  unfolding Write put-out
+  write-out h = rw (reads, le-ltb (length o) (length (canonical es)) h)
 
   pub write-room : Write s t o .number ≡ 0 → length (canonical es) ≤ length o
-  unfolding Write
-  write-room h = put-room (put-out-is (canonical es) 0 (filled rs t) o) (rw reads at h)
-
-  pub write-rows : Write s t o .table ≡ filled rs t
-  unfolding Write
-  write-rows = rw reads (put-table (put-out-is (canonical es) 0 (filled rs t) o))
-
-pub write-cases : (P : Answer → Type 0) (s t o : List ℕ) → ((w p : ℕ) → reading s t ≡ refused w p → P (refusal w p t o))
-    → ((rs : List Row) (es : Exprs) → reading s t ≡ readable rs es → P (put-out (canonical es) 0 (filled rs t) o)) → P (Write s t o)
-unfolding Write
-write-cases P s t o f g = once-read-cases P s t o (λ rs es. put-out (canonical es) 0 (filled rs t) o) f g
-
--- no more bytes are given than the output has
-put-within : {bs t o : List ℕ} {k : ℕ} {a : Answer} → Put bs k t o a → a .given ≤ length o
-put-within (too-short h) = omega arith
-put-within (fits h) = h
-
-pub write-within : (s t o : List ℕ) → Write s t o .given ≤ length o
-write-within s t o =
-    write-cases (λ (a : Answer). a .given ≤ length o) s t o (λ w p e. omega arith) (λ rs es e. put-within (put-out-is (canonical es) 0 (filled rs t) o))
-
-pub write-kept : (s t o : List ℕ) → Kept t o (Write s t o)
-write-kept s t o =
-    write-cases (Kept t o) s t o (λ w p e. refusal-kept w p t o t refl)
-    (λ rs es e. put-kept t (filled-length s t rs es e) (put-out-is (canonical es) 0 (filled rs t) o))
+  write-room = go (write-answers s t o)
+    where
+      go : {a : Answer} → Answers s t o WriteRefuses WritePuts a → a .number ≡ 0 → length (canonical es) ≤ length o
+      go (not-read v p e) z = impossible (cc)
+      go (refuses rs′ es′ e w) z = absurd (omega (arith, w .0))
+      go (accepts rs′ es′ e w room) z = let same : es′ ≡ es = cc in rw (← same, ← w) room
 
 -- an acceptance
 pub record Written (s t o : List ℕ) : Type 0 where
@@ -146,12 +144,18 @@ pub record Written (s t o : List ℕ) : Type 0 where
   pub is : Write s t o ≡ acceptance (length (canonical meaning)) 0 (filled rows t) (over (canonical meaning) o)
 
 pub written : (s t o : List ℕ) → Bytes s → Write s t o .number ≡ 0 → Written s t o
-written s t o b h =
-    write-cases (λ (a : Answer). a .number ≡ 0 → Written s t o) s t o
-    (λ w p e z. absurd (omega (arith, read-refused s (length t / 4) w p b e .0)))
-    (λ rs es e z. record { rows = rs; meaning = es; reads = e; is = write-out s t o rs es e (write-room s t o rs es e h) }) h
+written s t o b h = go (write-answers s t o) h
+  where
+    go : {a : Answer} → Answers s t o WriteRefuses WritePuts a → a .number ≡ 0 → Written s t o
+    go (not-read v p e) z = absurd (omega (arith, read-refused s (length t / row-width) v p b e .0))
+    go (refuses rs es e w) z = absurd (omega (arith, w .0))
+    go (accepts rs es e w room) z = record { rows = rs; meaning = es; reads = e; is = write-out s t o rs es e (write-room s t o rs es e h) }
 
 -- Evaluate
+
+-- the end of the run of what was read, held to its bounds
+abbrev pub bounded : Lent → Exprs → End (List Exprs)
+bounded l es = cut (l .steps) (min (l .work) 65536) (run es .events) (run es .end)
 
 -- how far it comes with a stream and a table: not past reading, the version's name, the version's bytes; or a run is begun
 pub data Way (s t : List ℕ) : Type 0 where
@@ -181,7 +185,7 @@ answered {s} {t} (unread v p e) l = refusal v p t (l .output)
 answered {s} {t} (unversioned rs es e h) l = refusal 9 0 (filled rs t) (l .output)
 answered {s} {t} (wrong-version rs es e h k) l = refusal 10 0 (filled rs t) (l .output)
 answered {s} {t} (runs rs es e h k) l =
-    end-answer rs (steps-in (run es .events)) (filled rs t) (l .output) (cut (l .steps) (min (l .work) 65536) (run es .events) (run es .end))
+    end-answer rs (steps-in (run es .events)) (filled rs t) (l .output) (bounded l es)
 
 pub evaluation-answered : (s : List ℕ) (l : Lent) (y : Way s (l .table)) → evaluation s l ≡ answered y l
 unfolding Evaluate run-answer
@@ -190,63 +194,39 @@ evaluation-answered s l (unversioned rs es e h) = rw (e, h)
 evaluation-answered s l (wrong-version rs es e h k) = rw (e, h, k)
 evaluation-answered s l (runs rs es e h k) = rw (e, h, k)
 
-pub evaluation-kept : (s : List ℕ) (l : Lent) → Kept (l .table) (l .output) (evaluation s l)
-evaluation-kept s l = rw (evaluation-answered s l (way s t)) (go (way s t))
+-- why Evaluate refuses what was read
+pub data Why (l : Lent) (rs : List Row) (es : Exprs) : ℕ → ℕ → Type 0 where
+  no-version : Why l rs es 9 0
+  other-version : Why l rs es 10 0
+  stops : (v r : ℕ) → bounded l es ≡ stopped v r → Why l rs es v (row-at rs r .start)
+  too-long : (ls : List Exprs) → bounded l es ≡ done ls → length (l .output) < length (canonical (result ls)) → Why l rs es 18 0
+
+-- what it puts out
+pub data Leaves (s : List ℕ) (l : Lent) (rs : List Row) (es : Exprs) : List ℕ → ℕ → Type 0 where
+  leaves : (ls : List Exprs) → bounded l es ≡ done ls → not (is-versioned es) ≡ false → not (same (take 6 s) version-bytes) ≡ false
+      → Leaves s l rs es (canonical (result ls)) (steps-in (run es .events))
+
+abbrev pub Evaluates : List ℕ → Lent → Answer → Type 0
+Evaluates s l = Answers s (l .table) (l .output) (Why l) (Leaves s l)
+
+pub evaluation-answers : (s : List ℕ) (l : Lent) → Evaluates s l (evaluation s l)
+evaluation-answers s l = rw (evaluation-answered s l (way s (l .table))) (go (way s (l .table)))
   where
-    t : List ℕ
-    t = l .table
+    by-end : (rs : List Row) (es : Exprs) → reading s (l .table) ≡ readable rs es → not (is-versioned es) ≡ false
+        → not (same (take 6 s) version-bytes) ≡ false → (x : End (List Exprs)) → bounded l es ≡ x
+        → Evaluates s l (end-answer rs (steps-in (run es .events)) (filled rs (l .table)) (l .output) x)
+    by-end rs es e h k (done ls) q = put-answers rs es e (too-long ls q) (leaves ls q h k) (put-out-is (canonical (result ls)) _ _ _)
+    by-end rs es e h k (stopped v r) q = refuses rs es e (stops v r q)
 
-    o : List ℕ
-    o = l .output
-
-    by-end : (rs : List Row) (k : ℕ) → length (filled rs t) ≡ length t → (x : End (List Exprs)) → Kept t o (end-answer rs k (filled rs t) o x)
-    by-end rs k h (done ls) = put-kept t h (put-out-is (canonical (result ls)) k (filled rs t) o)
-    by-end rs k h (stopped v r) = refusal-kept v (row-at rs r .start) (filled rs t) o t h
-
-    go : (y : Way s t) → Kept t o (answered y l)
-    go (unread v p e) = refusal-kept v p t o t refl
-    go (unversioned rs es e h) = refusal-kept 9 0 (filled rs t) o t (filled-length s t rs es e)
-    go (wrong-version rs es e h k) = refusal-kept 10 0 (filled rs t) o t (filled-length s t rs es e)
-    go (runs rs es e h k) =
-        by-end rs (steps-in (run es .events)) (filled-length s t rs es e) (cut (l .steps) (min (l .work) 65536) (run es .events) (run es .end))
-
-pub evaluation-within : (s : List ℕ) (l : Lent) → evaluation s l .given ≤ length (l .output)
-evaluation-within s l = rw (evaluation-answered s l (way s (l .table))) (go (way s (l .table)))
-  where
-    by-end : (rs : List Row) (k : ℕ) (x : End (List Exprs)) → end-answer rs k (filled rs (l .table)) (l .output) x .given ≤ length (l .output)
-    by-end rs k (done ls) = put-within (put-out-is (canonical (result ls)) k (filled rs (l .table)) (l .output))
-    by-end rs k (stopped v r) = omega arith
-
-    go : (y : Way s (l .table)) → answered y l .given ≤ length (l .output)
-    go (unread v p e) = omega arith
-    go (unversioned rs es e h) = omega arith
-    go (wrong-version rs es e h k) = omega arith
-    go (runs rs es e h k) = by-end rs (steps-in (run es .events)) (cut (l .steps) (min (l .work) 65536) (run es .events) (run es .end))
-
-pub evaluation-rows : (s : List ℕ) (l : Lent) (rs : List Row) (es : Exprs) → reading s (l .table) ≡ readable rs es
-    → evaluation s l .table ≡ filled rs (l .table)
-unfolding Evaluate run-answer
-evaluation-rows s l rs es e =
-    rw e (go (not (is-versioned es)) (not (same (take 6 s) version-bytes)) (cut (l .steps) (min (l .work) 65536) (run es .events) (run es .end)))
-  where
-    t : List ℕ
-    t = filled rs (l .table)
-
-    o : List ℕ
-    o = l .output
-
-    k : ℕ
-    k = steps-in (run es .events)
-
-    go : (a b : Bool) (x : End (List Exprs)) → (if a then refusal 9 0 t o else if b then refusal 10 0 t o else end-answer rs k t o x) .table ≡ t
-    go true b x = refl
-    go false true x = refl
-    go false false (done ls) = put-table (put-out-is (canonical (result ls)) k t o)
-    go false false (stopped v r) = refl
+    go : (y : Way s (l .table)) → Evaluates s l (answered y l)
+    go (unread v p e) = not-read v p e
+    go (unversioned rs es e h) = refuses rs es e no-version
+    go (wrong-version rs es e h k) = refuses rs es e other-version
+    go (runs rs es e h k) = by-end rs es e h k (bounded l es) refl
 
 -- what was read fits
 pub reading-fits : (s t : List ℕ) (rs : List Row) (es : Exprs) → Bytes s → reading s t ≡ readable rs es → FitsAll es
-reading-fits s t rs es b r = read-meant s (length t / 4) rs es b (read-readable s (length t / 4) rs es r) .fits
+reading-fits s t rs es b r = meant s (length t / row-width) rs es b r .fits
 
 -- a run that is cut is refused with 16, 17 or a rule's number
 pub data CutNumber (v : ℕ) : Type 0 where
@@ -273,36 +253,55 @@ pub record Ran (s : List ℕ) (l : Lent) : Type 0 where
   pub meaning : Exprs
   pub left : List Exprs
   pub reads : reading s (l .table) ≡ readable rows meaning
+  pub versioned : not (is-versioned meaning) ≡ false
+  pub one-zero : not (same (take 6 s) version-bytes) ≡ false
   pub within : Within (l .steps) (min (l .work) 65536) (run meaning .events) (run meaning .end) left
   pub is : evaluation s l
       ≡ acceptance (length (canonical (result left))) (steps-in (run meaning .events)) (filled rows (l .table)) (over (canonical (result left)) (l .output))
 
 pub evaluate-ran : (s : List ℕ) (l : Lent) → Bytes s → evaluation s l .number ≡ 0 → Ran s l
-evaluate-ran s l b h = go (way s t) (evaluation-answered s l (way s t)) h
+evaluate-ran s l b h = go (evaluation-answers s l) refl h
   where
-    t : List ℕ
-    t = l .table
+    refused : {v p : ℕ} (rs : List Row) (es : Exprs) → reading s (l .table) ≡ readable rs es → Why l rs es v p → v ≡ 0 → ⊥
+    refused rs es e no-version z = omega arith
+    refused rs es e other-version z = omega arith
+    refused rs es e (stops v r c) z = not-accepted v (cut-refused es (reading-fits s (l .table) rs es b e) (l .steps) (min (l .work) 65536) v r c) z
+    refused rs es e (too-long ls c k) z = omega arith
 
-    o : List ℕ
-    o = l .output
+    accepted : {bs : List ℕ} {k : ℕ} (rs : List Row) (es : Exprs) → reading s (l .table) ≡ readable rs es → Leaves s l rs es bs k
+        → evaluation s l ≡ acceptance (length bs) k (filled rs (l .table)) (over bs (l .output)) → Ran s l
+    accepted rs es e (leaves ls c v o) q = record {
+      rows = rs;
+      meaning = es;
+      left = ls;
+      reads = e;
+      versioned = v;
+      one-zero = o;
+      within = cut-done (run es .events) (run es .end) (l .steps) (min (l .work) 65536) ls c;
+      is = q;
+    }
 
-    cut-ran : (rs : List Row) (es : Exprs) → reading s t ≡ readable rs es
-        → (x : End (List Exprs)) → cut (l .steps) (min (l .work) 65536) (run es .events) (run es .end) ≡ x
-        → evaluation s l ≡ end-answer rs (steps-in (run es .events)) (filled rs t) o x → evaluation s l .number ≡ 0 → Ran s l
-    cut-ran rs es e (done ls) c q h =
-        let room = put-room (put-out-is (canonical (result ls)) (steps-in (run es .events)) (filled rs t) o) (rw q at h) in record {
-          rows = rs;
-          meaning = es;
-          left = ls;
-          reads = e;
-          within = cut-done (run es .events) (run es .end) (l .steps) (min (l .work) 65536) ls c;
-          is = q ∙ put-out-room (canonical (result ls)) (steps-in (run es .events)) (filled rs t) o room;
-        }
-    cut-ran rs es e (stopped v r) c q h =
-        absurd (not-accepted v (cut-refused es (reading-fits s t rs es b e) (l .steps) (min (l .work) 65536) v r c) (rw q at h))
+    go : {a : Answer} → Evaluates s l a → evaluation s l ≡ a → a .number ≡ 0 → Ran s l
+    go (not-read v p e) q z = absurd (omega (arith, read-refused s (length (l .table) / row-width) v p b e .0))
+    go (refuses rs es e w) q z = absurd (refused rs es e w z)
+    go (accepts rs es e w room) q z = accepted rs es e w q
 
-    go : (y : Way s t) → evaluation s l ≡ answered y l → evaluation s l .number ≡ 0 → Ran s l
-    go (unread v p e) q h = absurd (let z : v ≡ 0 = rw q at h in omega (arith, read-refused s (length t / 4) v p b e .0))
-    go (unversioned rs es e x) q h = absurd (let z : 9 ≡ 0 = rw q at h in omega arith)
-    go (wrong-version rs es e x y) q h = absurd (let z : 10 ≡ 0 = rw q at h in omega arith)
-    go (runs rs es e x y) q h = cut-ran rs es e (cut (l .steps) (min (l .work) 65536) (run es .events) (run es .end)) refl q h
+-- what it has left
+
+module _ (s : List ℕ) (l : Lent) (stream : Bytes s) (accepted : evaluation s l .number ≡ 0) where
+  pub ran : Ran s l
+  ran = evaluate-ran s l stream accepted
+
+  pub ran-means : ran .meaning ≡ meaning-of s
+  ran-means = read-readable s (length (l .table) / row-width) (ran .rows) (ran .meaning) (ran .reads) .means
+
+  pub ran-ends : run (meaning-of s) .end ≡ done (ran .left)
+  ran-ends = rw (← ran-means) (ran .within .ends)
+
+  pub left-values : result (ran .left) ≡ values-of s
+  left-values = rw ran-ends
+
+  pub left-fits : Sound (values-of s) × (length (canonical (values-of s)) ≤ 65536)
+  left-fits =
+      let f = run-fits (ran .meaning) (ran .left) (reading-fits s (l .table) (ran .rows) (ran .meaning) stream (ran .reads)) (ran .within .ends) in
+      rw (← left-values) (f .0, omega (arith, f .1, ran .within .work))

@@ -3,13 +3,13 @@
 use Prim.Native.Nat.{ℕ, zero, suc, _+_, _-_, _/_, _%_, _≤_, _<_}
 use mathlib.Core.Path.{_≡_, refl}
 use mathlib.Core.List.{List, [], _∷_, _++_, append-assoc}
-use mathlib.Core.Bool.{Bool, true, false}
 use native.Mathlib.Omega.{arith}
 use lib.ListN.{length, replicate, length-append}
 use lib.Dec.{ltb}
 use borrow.Author.Tests.{ltb-true, ltb-false}
-use Rattle.spec.specs.Expr.{if_then_else_, nil, array, int, ref, Expr, atom, form, Exprs, none, more, append, array-head, marker-bytes, atom-bytes, bytes, canonical}
+use Rattle.spec.specs.Expr.{nil, array, int, ref, Expr, atom, form, Exprs, none, more, append, array-head, marker-bytes, atom-bytes, bytes, canonical}
 use Rattle.laws.specs.Demands.{Bytes}
+use Rattle.laws.proofs.Basics.{by-test}
 use Rattle.laws.proofs.Fits.{bytes-append, FitsExpr, FitsAll}
 
 -- array-head
@@ -21,13 +21,9 @@ pub data Head (n : ℕ) : List ℕ → Type 0 where
 
 pub array-head-is : (n : ℕ) → Head n (array-head n)
 unfolding array-head
-array-head-is n = go (ltb n 64) refl (ltb n 256) refl
-  where
-    go : (b : Bool) → ltb n 64 ≡ b → (c : Bool) → ltb n 256 ≡ c
-        → Head n (if b then (0xC0 + n) ∷ [] else if c then 0x03 ∷ 0xC1 ∷ n ∷ [] else 0x03 ∷ 0xC2 ∷ (n / 256) ∷ (n % 256) ∷ [])
-    go true e c e′ = one-byte (ltb-true n 64 e)
-    go false e true e′ = three-bytes (ltb-false n 64 e) (ltb-true n 256 e′)
-    go false e false e′ = four-bytes (ltb-false n 256 e′)
+array-head-is n =
+    by-test (Head n) (ltb n 64) (λ e. one-byte (ltb-true n 64 e)) λ e.
+    by-test (Head n) (ltb n 256) (λ k. three-bytes (ltb-false n 64 e) (ltb-true n 256 k)) (λ k. four-bytes (ltb-false n 256 k))
 
 -- marker-bytes
 
@@ -37,11 +33,7 @@ pub data Mark (m : ℕ) : List ℕ → Type 0 where
 
 pub marker-bytes-are : (m : ℕ) → Mark m (marker-bytes m)
 unfolding marker-bytes
-marker-bytes-are m = go (ltb m 0x7F) refl
-  where
-    go : (b : Bool) → ltb m 0x7F ≡ b → Mark m (if b then m ∷ [] else 0x7F ∷ (replicate ((m - 0x7F) / 0xFF) 0xFF ++ (((m - 0x7F) % 0xFF) ∷ [])))
-    go true e = short (ltb-true m 0x7F e)
-    go false e = long (ltb-false m 0x7F e)
+marker-bytes-are m = by-test (Mark m) (ltb m 0x7F) (λ e. short (ltb-true m 0x7F e)) (λ e. long (ltb-false m 0x7F e))
 
 -- canonical
 

@@ -7,52 +7,27 @@ use lib.ListN.{length, getD, length-map, List·getD-map}
 use lib.Dec.{ltb}
 use borrow.Author.Tests.{ltb-true, ltb-false}
 use native.Mathlib.Omega.{arith}
-use native.Mathlib.Decide.{ℕ-discrete}
 use Rattle.spec.specs.Expr.{Exprs, canonical}
-use Rattle.spec.specs.Reading.{Row}
+use Rattle.spec.specs.Reading.{row-width}
 use Rattle.spec.specs.Runs.{End, done, stopped, cut, steps-in}
 use Rattle.spec.specs.Evaluation.{run, result}
-use Rattle.spec.specs.Calls.{Answer, refusal, filled, row-at, end-answer}
-use Rattle.laws.specs.Demands.{Bytes, Lent, evaluation, step-rows, step-places, all-steps, with-steps, Counted}
-use Rattle.laws.proofs.Basics.{impossible}
+use Rattle.spec.specs.Calls.{Answer, filled, row-at, end-answer}
+use Rattle.laws.specs.Demands.{Bytes, Lent, step-rows, step-places, all-steps, with-steps}
 use Rattle.laws.proofs.Reading.{read-refused}
 use Rattle.laws.proofs.Runs.{cut-enough, cut-short, cut-own}
 use Rattle.laws.proofs.Values.{not-rule, run-proper}
-use Rattle.laws.proofs.Calls.{Put, too-short, fits, put-out-is, Way, unread, unversioned, wrong-version, runs, way, answered, evaluation-answered, reading-fits, Ran}
-use Rattle.laws.proofs.Results.{ran, ran-means}
-
--- a refusal counts nothing
-abbrev CountsNothing : Answer → Type 0
-CountsNothing a = (a .number ≡ 0 → ⊥) → a .steps ≡ 0
-
-put-counted : {bs : List ℕ} {k : ℕ} {t o : List ℕ} {a : Answer} → Put bs k t o a → CountsNothing a
-put-counted (too-short l) h = refl
-put-counted (fits l) h = absurd (h refl)
-
-end-counted : (rs : List Row) (k : ℕ) (t o : List ℕ) (x : End (List Exprs)) → CountsNothing (end-answer rs k t o x)
-end-counted rs k t o (done ls) h = put-counted (put-out-is (canonical (result ls)) k t o) h
-end-counted rs k t o (stopped v r) h = refl
-
-way-counted : (s t : List ℕ) (y : Way s t) (l : Lent) → CountsNothing (answered y l)
-way-counted s t (unread v p e) l h = refl
-way-counted s t (unversioned rs es e x) l h = refl
-way-counted s t (wrong-version rs es e x y) l h = refl
-way-counted s t (runs rs es e x y) l h =
-    end-counted rs _ (filled rs t) (l .output) (cut (l .steps) (min (l .work) 65536) (run es .events) (run es .end)) h
-
-refused-counted : (s : List ℕ) (l : Lent) → CountsNothing (evaluation s l)
-refused-counted s l = rw (evaluation-answered s l (way s (l .table))) (way-counted s (l .table) (way s (l .table)) l)
+use Rattle.laws.proofs.Calls.{Put, too-short, fits, put-out-is, Way, unread, unversioned, wrong-version, runs, way, answered, reading-fits, Ran}
 
 -- Refusal 16
 
 -- the places of the steps that are taken with a workspace
-abbrev stepped : {s t : List ℕ} → Way s t → ℕ → List ℕ
+abbrev pub stepped : {s t : List ℕ} → Way s t → ℕ → List ℕ
 stepped (unread v p e) w = []
 stepped (unversioned rs es e h) w = []
 stepped (wrong-version rs es e h k) w = []
 stepped (runs rs es e h k) w = map (λ r. row-at rs r .start) (step-rows (min w 65536) (run es .events))
 
-steps-stepped : (s t : List ℕ) (y : Way s t) (w : ℕ) → step-places s t w ≡ stepped y w
+pub steps-stepped : (s t : List ℕ) (y : Way s t) (w : ℕ) → step-places s t w ≡ stepped y w
 unfolding step-places
 steps-stepped s t (unread v p e) w = rw e
 steps-stepped s t (unversioned rs es e h) w = rw (e, h)
@@ -60,7 +35,7 @@ steps-stepped s t (wrong-version rs es e h k) w = rw (e, h, k)
 steps-stepped s t (runs rs es e h k) w = rw (e, h, k)
 
 -- steps enough for both
-way-enough : (s t : List ℕ) (y : Way s t) (l : Lent) (n : ℕ) → length (stepped y (l .work)) ≤ l .steps → length (stepped y (l .work)) ≤ n
+pub way-enough : (s t : List ℕ) (y : Way s t) (l : Lent) (n : ℕ) → length (stepped y (l .work)) ≤ l .steps → length (stepped y (l .work)) ≤ n
     → answered y l ≡ answered y (with-steps n l)
 way-enough s t (unread v p e) l n h k = refl
 way-enough s t (unversioned rs es e x) l n h k = refl
@@ -71,23 +46,16 @@ way-enough s t (runs rs es e x y) l n h k =
     ap (end-answer rs (steps-in (run es .events)) (filled rs t) (l .output))
     (cut-enough (run es .events) (run es .end) (l .steps) w (omega (arith, size)) ∙ sym (cut-enough (run es .events) (run es .end) n w (omega (arith, size))))
 
-pub enough-same : (s : List ℕ) (l : Lent) (n : ℕ) → length (all-steps s l) ≤ l .steps → length (all-steps s l) ≤ n
-    → evaluation s l ≡ evaluation s (with-steps n l)
-enough-same s l n h k =
-    let y = way s (l .table) in
-    let e = steps-stepped s (l .table) y (l .work) in
-    evaluation-answered s l y ∙ way-enough s (l .table) y l n (rw e at h) (rw e at k) ∙ sym (evaluation-answered s (with-steps n l) y)
-
 getD-inside : (l : List ℕ) (i a b : ℕ) → i < length l → getD l i a ≡ getD l i b
 getD-inside [] i a b h = absurd (omega arith)
 getD-inside (x ∷ l) zero a b h = refl
 getD-inside (x ∷ l) (suc i) a b h = getD-inside l i a b (omega arith)
 
 -- refusal 16 at a place
-abbrev OutOfSteps : Answer → ℕ → Type 0
+abbrev pub OutOfSteps : Answer → ℕ → Type 0
 OutOfSteps a p = (a .number ≡ 16) × (a .place ≡ p)
 
-way-short : (s t : List ℕ) (y : Way s t) (l : Lent) → l .steps < length (stepped y (l .work))
+pub way-short : (s t : List ℕ) (y : Way s t) (l : Lent) → l .steps < length (stepped y (l .work))
     → OutOfSteps (answered y l) (getD (stepped y (l .work)) (l .steps) 0)
 way-short s t (unread v p e) l h = absurd (omega arith)
 way-short s t (unversioned rs es e x) l h = absurd (omega arith)
@@ -98,19 +66,13 @@ way-short s t (runs rs es e x y) l h =
     let short = cut-short (run es .events) (run es .end) (l .steps) (min (l .work) 65536) (rw (length-map rows place) at h) in
     (rw short, rw short (sym (getD-inside (map place rows) (l .steps) 0 (place 0) h ∙ List·getD-map place rows (l .steps) 0)))
 
-pub short-refused : (s : List ℕ) (l : Lent) → l .steps < length (all-steps s l) → OutOfSteps (evaluation s l) (getD (all-steps s l) (l .steps) 0)
-short-refused s l h =
-    let y = way s (l .table) in
-    let e = steps-stepped s (l .table) y (l .work) in
-    rw (evaluation-answered s l y, e) (way-short s (l .table) y l (rw e at h))
-
 put-number : {bs : List ℕ} {k : ℕ} {t o : List ℕ} {a : Answer} → Put bs k t o a → a .number ≡ 16 → ⊥
 put-number (too-short l) h = omega arith
 put-number (fits l) h = omega arith
 
 -- a run with steps enough does not give 16: it would be its own end
-way-sixteen : (s t : List ℕ) (y : Way s t) (l : Lent) → Bytes s → answered y l .number ≡ 16 → l .steps < length (stepped y (l .work))
-way-sixteen s t (unread v p e) l b h = absurd (omega (arith, read-refused s (length t / 4) v p b e .1))
+pub way-sixteen : (s t : List ℕ) (y : Way s t) (l : Lent) → Bytes s → answered y l .number ≡ 16 → l .steps < length (stepped y (l .work))
+way-sixteen s t (unread v p e) l b h = absurd (omega (arith, read-refused s (length t / row-width) v p b e .1))
 way-sixteen s t (unversioned rs es e x) l b h = absurd (omega arith)
 way-sixteen s t (wrong-version rs es e x y) l b h = absurd (omega arith)
 way-sixteen s t (runs rs es e x y) l b h = rw (length-map rows (λ r. row-at rs r .start)) (go (ltb (l .steps) (length rows)) refl)
@@ -132,42 +94,9 @@ way-sixteen s t (runs rs es e x y) l b h = rw (length-map rows (λ r. row-at rs 
     go true c = ltb-true (l .steps) (length rows) c
     go false c = absurd (own _ (sym (cut-enough (run es .events) (run es .end) (l .steps) w (ltb-false (l .steps) (length rows) c))) h)
 
-pub sixteen-short : (s : List ℕ) (l : Lent) → Bytes s → evaluation s l .number ≡ 16 → l .steps < length (all-steps s l)
-sixteen-short s l b h =
-    let y = way s (l .table) in
-    rw (steps-stepped s (l .table) y (l .work)) (way-sixteen s (l .table) y l b (rw (evaluation-answered s l y) at h))
-
 -- an accepted evaluation takes all the steps that the rules take
-ran-all-steps : (s : List ℕ) (l : Lent) → evaluation s l .number ≡ 0 → (r : Ran s l)
-    → steps-in (run (r .meaning) .events) ≡ length (all-steps s l)
-ran-all-steps s l h r = go (way s (l .table))
-  where
-    refused-way : (y : Way s (l .table)) (v p : ℕ) (u : List ℕ) → 0 < v → answered y l ≡ refusal v p u (l .output) → ⊥
-    refused-way y v p u k e = let z : 0 ≡ v = sym h ∙ ap (λ (a : Answer). a .number) (evaluation-answered s l y ∙ e) in omega arith
-
-    go : (y : Way s (l .table)) → steps-in (run (r .meaning) .events) ≡ length (all-steps s l)
-    go (unread v p e) = impossible (cc (r .reads, e))
-    go (unversioned rs es e x) = absurd (refused-way (unversioned rs es e x) 9 0 (filled rs (l .table)) (omega arith) refl)
-    go (wrong-version rs es e x y) = absurd (refused-way (wrong-version rs es e x y) 10 0 (filled rs (l .table)) (omega arith) refl)
-    go (runs rs es e x y) =
-        let w : ℕ = min (l .work) 65536 in
-        let meant : r .meaning ≡ es = cc (r .reads, e) in
-        let places = ap length (steps-stepped s (l .table) (runs rs es e x y) (l .work)) in
-        let size = length-map (step-rows w (run es .events)) (λ k. row-at rs k .start) in
-        sym (places ∙ size ∙ ap (λ (fs : Exprs). length (step-rows w (run fs .events))) (sym meant) ∙ r .within .all)
-
--- the whole of what is counted
-pub counted : (s : List ℕ) (l : Lent) → Bytes s → Counted s l
-counted s l b = record {
-  accepted = λ h. taken h ∙ ran-all-steps s l h (ran s l b h);
-  of-run = λ h. taken h ∙ ap (λ (es : Exprs). steps-in (run es .events)) (ran-means s l b h);
-  refused = refused-counted s l;
-  bounded = go (ℕ-discrete (evaluation s l .number) 0);
-}
-  where
-    taken : (h : evaluation s l .number ≡ 0) → evaluation s l .steps ≡ steps-in (run (ran s l b h .meaning) .events)
-    taken h = ap (λ (a : Answer). a .steps) (ran s l b h .is)
-
-    go : Dec (evaluation s l .number ≡ 0) → evaluation s l .steps ≤ l .steps
-    go (yes h) = omega (arith, taken h, ran s l b h .within .steps)
-    go (no h) = omega (arith, refused-counted s l h)
+pub ran-all-steps : (s : List ℕ) (l : Lent) (r : Ran s l) → steps-in (run (r .meaning) .events) ≡ length (all-steps s l)
+ran-all-steps s l r =
+    let rows = step-rows (min (l .work) 65536) (run (r .meaning) .events) in
+    let way : Way s (l .table) = runs (r .rows) (r .meaning) (r .reads) (r .versioned) (r .one-zero) in
+    sym (ap length (steps-stepped s (l .table) way (l .work)) ∙ length-map rows (λ k. row-at (r .rows) k .start) ∙ r .within .all)

@@ -15,7 +15,7 @@ use Rattle.spec.specs.Evaluation.{Left, standing, complete, Call, in-order, eva
 use Rattle.laws.specs.Holding.{and-hold, beyond, NotTop, together, in-list, skip}
 use Rattle.laws.specs.Sanity.{RowsBelow, Proper}
 use Rattle.laws.proofs.Basics.{impossible, by-test}
-use Rattle.laws.proofs.Runs.{charges, Holds, ends, lacks-step, lacks-work, holds}
+use Rattle.laws.proofs.Runs.{bind-same, bind-assoc, charges, Holds, ends, lacks-step, lacks-work, holds}
 use Rattle.laws.proofs.Singles.{eval-place}
 
 -- and-hold
@@ -32,12 +32,6 @@ module _ {A B : Type 0} where
   and-hold-twice (kept a s w) f g = refl
   and-hold-twice (ceased v r) f g = refl
 
-  -- what follows, in two parts
-  and-hold-then : {C : Type 0} (x : Held A) {f : A → ℕ → ℕ → Held C} (g : A → ℕ → ℕ → Held B) (k : B → ℕ → ℕ → Held C)
-      → ((a : A) (s w : ℕ) → x ≡ kept a s w → f a s w ≡ and-hold (g a s w) k) → and-hold x f ≡ and-hold (and-hold x g) k
-  and-hold-then (kept a s w) g k h = h a s w refl
-  and-hold-then (ceased v r) g k h = refl
-
   and-hold-if : (b : Bool) (v r : ℕ) (x : Held A) {y : Held B} (f : A → ℕ → ℕ → Held B) → y ≡ and-hold x f
       → (if b then ceased v r else y) ≡ and-hold (if b then ceased v r else x) f
   and-hold-if true v r x f h = refl
@@ -50,24 +44,13 @@ module _ {A B : Type 0} where
   unfolding hold-events
   hold-follow [] (done a) f s w = refl
   hold-follow [] (stopped v r) f s w = refl
-  hold-follow (step r ∷ es) (done a) f s w =
-      and-hold-if (eqb s 0) 16 r (hold-events (s - 1) w es (done a)) _ (hold-follow es (done a) f (s - 1) w)
-  hold-follow (step r ∷ es) (stopped v q) f s w =
-      and-hold-if (eqb s 0) 16 r (hold-events (s - 1) w es (stopped v q)) _ (hold-follow es (stopped v q) f (s - 1) w)
-  hold-follow (charge r n ∷ es) (done a) f s w =
-      and-hold-if (ltb w n) 17 r (hold-events s (w - n) es (done a)) _ (hold-follow es (done a) f s (w - n))
-  hold-follow (charge r n ∷ es) (stopped v q) f s w =
-      and-hold-if (ltb w n) 17 r (hold-events s (w - n) es (stopped v q)) _ (hold-follow es (stopped v q) f s (w - n))
+  hold-follow (step r ∷ es) (done a) f s w = and-hold-if (eqb s 0) 16 r _ _ (hold-follow es (done a) f (s - 1) w)
+  hold-follow (step r ∷ es) (stopped v q) f s w = and-hold-if (eqb s 0) 16 r _ _ (hold-follow es (stopped v q) f (s - 1) w)
+  hold-follow (charge r n ∷ es) (done a) f s w = and-hold-if (ltb w n) 17 r _ _ (hold-follow es (done a) f s (w - n))
+  hold-follow (charge r n ∷ es) (stopped v q) f s w = and-hold-if (ltb w n) 17 r _ _ (hold-follow es (stopped v q) f s (w - n))
 
   pub hold-bind : (s w : ℕ) (run : Run A) (f : A → Run B) → hold s w (bind run f) ≡ and-hold (hold s w run) (λ a s′ w′. hold s′ w′ (f a))
   hold-bind s w run f = hold-follow (run .events) (run .end) f s w
-
--- the result turned into another
-abbrev held-map : {A B : Type 0} → Held A → (A → B) → Held B
-held-map x f = and-hold x (λ a s w. kept (f a) s w)
-
-held-map-twice : {A B C : Type 0} (x : Held A) (f : A → B) (g : B → C) → held-map (held-map x f) g ≡ held-map x (λ a. g (f a))
-held-map-twice x f g = and-hold-twice x (λ a s w. kept (f a) s w) (λ b s w. kept (g b) s w)
 
 -- hold, by a run's beginning
 
@@ -90,27 +73,20 @@ module _ {A : Type 0} (s w : ℕ) where
     unfolding hold-events
     hold-step h = rw (ne-eqb s 0 (λ e. omega arith))
 
-    -- 17: "workspace charge doesn't fit"
-    hold-charge-none : (n : ℕ) → w < n → hold s w (before (charge r n) run) ≡ ceased 17 r
-    unfolding hold-events
-    hold-charge-none n h = rw (lt-ltb w n h)
-
-    hold-charge : (n : ℕ) → n ≤ w → hold s w (before (charge r n) run) ≡ hold s (w - n) run
-    unfolding hold-events
-    hold-charge n h = rw (le-ltb w n h)
-
 module _ (s w r : ℕ) (vs : Exprs) (h : Here) where
   pub hold-complete-deep : 64 < deepest vs → hold s w (complete r vs h) ≡ ceased 6 r
-  hold-complete-deep d = rw (lt-ltb 64 (deepest vs) d) (hold-stop s w 6 r)
+  unfolding hold-events
+  hold-complete-deep d = rw (lt-ltb 64 (deepest vs) d)
 
+  -- 17: "workspace charge doesn't fit"
   pub hold-complete-none : deepest vs ≤ 64 → w < length (canonical vs) → hold s w (complete r vs h) ≡ ceased 17 r
-  hold-complete-none d l = rw (le-ltb 64 (deepest vs) d) (hold-charge-none s w r _ (length (canonical vs)) l)
+  unfolding hold-events
+  hold-complete-none d l = rw (le-ltb 64 (deepest vs) d, lt-ltb w (length (canonical vs)) l)
 
   pub hold-complete : deepest vs ≤ 64 → length (canonical vs) ≤ w
       → hold s w (complete r vs h) ≡ kept (record { values = vs; here = h }) s (w - length (canonical vs))
-  hold-complete d l =
-      let left : Left = record { values = vs; here = h } in
-      rw (le-ltb 64 (deepest vs) d) (hold-charge s w r (give left) (length (canonical vs)) l ∙ hold-give s (w - length (canonical vs)) left)
+  unfolding hold-events
+  hold-complete d l = rw (le-ltb 64 (deepest vs) d, le-ltb w (length (canonical vs)) l)
 
 -- hold, by its answer
 
@@ -180,45 +156,28 @@ module _ (call : Call) where
   drop-skip (suc k) empty = refl
   drop-skip (suc k) (cons e es) = drop-skip k es
 
-  module _ (p : Place) (inside : NotTop p) where
-    -- `in-order` is held as `in-list` is, but for the place that what follows would stand in
-    abbrev Ordered : Nodes → Type 0
-    Ordered es = (h : Here) (s w : ℕ) → hold s w (in-order (eval-all call es) (standing p h))
-        ≡ held-map (hold s w (in-list call es p h)) (settled p)
-
-    others-ordered : (es : Nodes) → Ordered es → (one : Left) → one .here .place ≡ p → (s w : ℕ)
-        → hold s w (bind (in-order (eval-all call es) (one .here)) (λ later. give (together one later)))
-        ≡ held-map (hold s w (bind (in-list call es p (one .here)) (λ later. give (together one later)))) (settled p)
-    unfolding hold-events
-    others-ordered es on one q s w =
-        let ms : Run Left = in-order (eval-all call es) (one .here) in
-        let ls : Run Left = in-list call es p (one .here) in
-        let a : hold s w ms ≡ held-map (hold s w ls) (settled p) = rw (standing-same p (one .here) q) at (on (one .here) s w) in
-        rw (hold-bind s w ms (λ later. give (together one later)), hold-bind s w ls (λ later. give (together one later)), a)
-        (held-map-twice (hold s w ls) (settled p) (together one) ∙ sym (held-map-twice (hold s w ls) (together one) (settled p)))
-
-    in-order-list : (es : Nodes) → Ordered es
-    unfolding in-order in-list eval hold-events
-    in-order-list empty h s w = refl
-    in-order-list (cons e es) h s w =
-        let ev : Run Left = eval call e (standing p h) in
-        rw (
-          beyond-same e p inside,
-          hold-bind s w ev (λ one. bind (in-order (eval-all call es) (one .here)) λ later. give (together one later)),
-          hold-bind s w ev (λ one. bind (in-list call es p (one .here)) λ later. give (together one later)),
-        )
-        (and-hold-then (hold s w ev) _ _ λ one s′ w′ q.
-        others-ordered es (in-order-list es) one (eval-place call e (standing p h) one (hold-kept s w ev one s′ w′ q .0)) s′ w′)
+  -- `in-order` is `in-list`, but for the place that what follows would stand in
+  in-order-list : (p : Place) → NotTop p → (es : Nodes) (h : Here)
+      → in-order (eval-all call es) (standing p h) ≡ bind (in-list call es p h) (λ left. give (settled p left))
+  unfolding in-order in-list eval
+  in-order-list p inside empty h = refl
+  in-order-list p inside (cons e es) h =
+      let ev : Run Left = eval call e (standing p h) in
+      rw (beyond-same e p inside, bind-assoc ev (λ one. bind (in-list call es p (one .here)) λ others. give (together one others)) (λ left. give (settled p left)))
+      (bind-same ev λ one q.
+      let list = in-list call es p (one .here) in
+      let others : in-order (eval-all call es) (one .here) ≡ bind list (λ left. give (settled p left)) =
+      rw (standing-same p (one .here) (eval-place call e (standing p h) one q)) at (in-order-list p inside es (one .here)) in
+      rw others (bind-assoc list _ _ ∙ sym (bind-assoc list _ _)))
 
   -- the elements of a form, without the first so many, then what follows from their values
   pub hold-inside : {B : Type 0} (p : Place) → NotTop p → (k : ℕ) (es : Nodes) (h : Here) (f : Exprs → Run B) (s w : ℕ)
       → hold s w (bind (in-order (drop k (eval-all call es)) (standing p h)) (λ left. f (left .values)))
       ≡ and-hold (hold s w (in-list call (skip k es) p h)) (λ left s′ w′. hold s′ w′ (f (left .values)))
   hold-inside p t k es h f s w =
-      let ms : Run Left = in-order (eval-all call (skip k es)) (standing p h) in
-      let ls : Run Left = in-list call (skip k es) p h in
-      rw (drop-skip k es, hold-bind s w ms (λ left. f (left .values)), in-order-list p t (skip k es) h s w)
-      (and-hold-twice (hold s w ls) (λ left s′ w′. kept (settled p left) s′ w′) (λ left s′ w′. hold s′ w′ (f (left .values))))
+      let list = in-list call (skip k es) p h in
+      rw (drop-skip k es, in-order-list p t (skip k es) h, bind-assoc list (λ left. give (settled p left)) (λ left. f (left .values)))
+      (hold-bind s w list (λ left. f (left .values)))
 
 -- 19: "more than [..] 32 codes in progress"
 pub hold-code-none : {B : Type 0} (r : ℕ) (code : Nodes) (h : Here) (f : Left → Run B) (s w : ℕ)
@@ -234,39 +193,25 @@ unfolding run-code skip
 hold-code k r code h q f s w = rw (standing-same inner h q) at (hold-inside (run-code k) inner tt 0 code h f s w)
 
 -- the top level, and its values
-
-abbrev TopLevel : Nodes → Type 0
-TopLevel es = (earlier : List ℕ) (h : Here) (s w : ℕ) → held-map (hold s w (top-level earlier es h)) result
-    ≡ held-map (hold s w (in-list (run-code 32) es (top earlier) h)) (λ left. left .values)
-
-others-top-level : (es : Nodes) → TopLevel es → (earlier : List ℕ) (one : Left) (s w : ℕ)
-    → held-map (hold s w (bind (top-level earlier es (one .here)) (λ ls. give (one .values ∷ ls)))) result
-    ≡ held-map (hold s w (bind (in-list (run-code 32) es (top earlier) (one .here)) (λ later. give (together one later)))) (λ left. left .values)
-unfolding result hold-events
-others-top-level es on earlier one s w =
-    let ts : Run (List Exprs) = top-level earlier es (one .here) in
-    let ls : Run Left = in-list (run-code 32) es (top earlier) (one .here) in
-    let a : held-map (hold s w ts) (λ ls. append (one .values) (result ls))
-    ≡ held-map (hold s w ls) (λ left. append (one .values) (left .values))
-    = sym (held-map-twice (hold s w ts) result (append (one .values)))
-    ∙ (ap (λ (x : Held Exprs). held-map x (append (one .values))) (on earlier (one .here) s w)
-    ∙ held-map-twice (hold s w ls) (λ left. left .values) (append (one .values))) in
-    rw (hold-bind s w ts (λ ls. give (one .values ∷ ls)), hold-bind s w ls (λ later. give (together one later)))
-    (held-map-twice (hold s w ts) (λ ls. one .values ∷ ls) result
-    ∙ (a ∙ sym (held-map-twice (hold s w ls) (together one) (λ left. left .values))))
-
-top-level-list : (es : Nodes) → TopLevel es
-unfolding top-level result in-list hold-events
-top-level-list empty earlier h s w = refl
-top-level-list (cons e es) earlier h s w =
+top-level-list : (es : Nodes) (earlier : List ℕ) (h : Here)
+    → bind (top-level earlier es h) (λ ls. give (result ls)) ≡ bind (in-list (run-code 32) es (top earlier) h) (λ left. give (left .values))
+unfolding top-level result in-list
+top-level-list empty earlier h = refl
+top-level-list (cons e es) earlier h =
     let ev : Run Left = eval (run-code 32) e (standing (top earlier) h) in
-    let next : List ℕ = markers e ++ earlier in
-    let ts : Left → Run (List Exprs) = λ one. bind (top-level next es (one .here)) λ ls. give (one .values ∷ ls) in
-    let ls : Left → Run Left = λ one. bind (in-list (run-code 32) es (top next) (one .here)) λ later. give (together one later) in
-    rw (hold-bind s w ev ts, hold-bind s w ev ls)
-    (and-hold-twice (hold s w ev) _ _ ∙ and-hold-then (hold s w ev) _ _ λ one s′ w′ q. others-top-level es (top-level-list es) next one s′ w′)
+    bind-assoc ev _ _
+    ∙ bind-same ev (λ one q.
+    let level = top-level (markers e ++ earlier) es (one .here) in
+    let list = in-list (run-code 32) es (top (markers e ++ earlier)) (one .here) in
+    let next : Exprs → Run Exprs = λ vs. give (append (one .values) vs) in
+    bind-assoc level _ _
+    ∙ sym (bind-assoc level (λ ls. give (result ls)) next)
+    ∙ ap (λ (run : Run Exprs). bind run next) (top-level-list es (markers e ++ earlier) (one .here))
+    ∙ bind-assoc list _ _
+    ∙ sym (bind-assoc list _ _))
+    ∙ sym (bind-assoc ev _ _)
 
 pub hold-run : (es : Exprs) (s w : ℕ) → hold s w (bind (run es) (λ ls. give (result ls)))
     ≡ and-hold (hold s w (in-list (run-code 32) (number-all 0 es) (top []) start)) (λ left s′ w′. kept (left .values) s′ w′)
 unfolding run hold-events
-hold-run es s w = hold-bind s w (run es) (λ ls. give (result ls)) ∙ top-level-list (number-all 0 es) [] start s w
+hold-run es s w = rw (top-level-list (number-all 0 es) [] start) (hold-bind s w (in-list (run-code 32) (number-all 0 es) (top []) start) _)

@@ -12,15 +12,12 @@ pub mod Written
 pub mod Steps
 pub mod Items
 pub mod Runs
-pub mod Charges
 pub mod Walk
 pub mod Singles
 pub mod Holding
 pub mod Values
 pub mod Prefix
 pub mod Calls
-pub mod Results
-pub mod Places
 pub mod Retry
 pub mod Count
 pub mod Theorems

@@ -2,7 +2,6 @@
 -- Document 01: "Bytes to expressions", "Canonical". Assumes nothing.
 use Prim.Native.Nat.{ℕ, zero, suc, _+_, _-_, _≤_}
 use mathlib.Core.Path.{_≡_, refl, sym, ap, _∙_, subst}
-use mathlib.Core.Logic.{_⊎_, inl, inr}
 use mathlib.Core.List.{List, [], _∷_, _++_, append-assoc, append-nil}
 use mathlib.Core.Bool.{Bool, true, false}
 use lib.ListN.{length, getD, length-append}
@@ -17,7 +16,7 @@ use Rattle.laws.proofs.Basics.{impossible}
 use Rattle.laws.proofs.Fits.{FitsExpr, FitsAll}
 use Rattle.laws.specs.Grammar.{SpellsAtom, Spells, SpellsAll}
 use Rattle.laws.proofs.Spelling.{Front, front, canonical-atom}
-use Rattle.laws.proofs.Tokens.{Right, at-end, opens, closes, stands, right-tokens, Laid, tokens-laid, RefusalInside, check-refusal, tokens-few, check-room}
+use Rattle.laws.proofs.Tokens.{Right, at-end, opens, closes, stands, right-tokens, Laid, tokens-laid, RefusalInside, check-refusal, tokens-few}
 use Rattle.laws.proofs.Rows.{rows-in, rows-count, rows-room, right-room}
 
 -- What was read
@@ -92,31 +91,22 @@ readable-read : (s : List ℕ) (room : ℕ) → length s ≤ 65536 → check (le
 unfolding read
 readable-read s room h k = rw (le-ltb 65536 (length s) h, k)
 
--- a refusal has one of reading's numbers, and its place is in the stream
-module _ (most : ℕ) (s : List ℕ) (room : ℕ) (stream : Bytes s) (seven : 7 ≤ most) (rows : (8 ≤ most) ⊎ (length s ≤ room)) where
-  refusal-inside : RefusalInside most (length s) (check (length s) room (tokens 0 0 s) 0 0)
-  refusal-inside = check-refusal most (length s) room (tokens 0 0 s) 0 0 0 (stream-laid s stream) seven (go rows)
-    where
-      go : (8 ≤ most) ⊎ (length s ≤ room) → (8 ≤ most) ⊎ (0 + length (tokens 0 0 s) ≤ room)
-      go (inl h) = inl h
-      go (inr h) = inr (omega (arith, tokens-few s 0 0))
-
-  read-refusal : (w p : ℕ) → read s room ≡ refused w p → (1 ≤ w) × (w ≤ most) × (p ≤ length s)
-  unfolding read
-  read-refusal w p h = go (ltb 65536 (length s)) (check (length s) room (tokens 0 0 s) 0 0) refusal-inside h
-    where
-      go : (c : Bool) (v : Verdict) → RefusalInside most (length s) v → (if c then refused 1 0 else by-verdict v (tokens 0 0 s)) ≡ refused w p
-          → (1 ≤ w) × (w ≤ most) × (p ≤ length s)
-      go true v r h = let number : 1 ≡ w = cc in let place : 0 ≡ p = cc in omega arith
-      go false right r h = impossible (cc)
-      go false (wrong v q) r h = let number : v ≡ w = cc in let place : q ≡ p = cc in omega (arith, r .0, r .1, r .2)
+-- a refusal has one of reading's numbers, and its place is in the stream; with as many rows as bytes there is always a row left
+pub read-refusal : (s : List ℕ) (room w p : ℕ) → Bytes s → read s room ≡ refused w p
+    → (1 ≤ w) × (w ≤ 8) × (w ≤ 7 + (length s - room)) × (p ≤ length s)
+unfolding read
+read-refusal s room w p b h =
+    let inside = check-refusal (length s) room (length s) (tokens 0 0 s) 0 0 0 (stream-laid s b) (omega (arith, tokens-few s 0 0)) in
+    go (ltb 65536 (length s)) (check (length s) room (tokens 0 0 s) 0 0) inside h
+  where
+    go : (c : Bool) (v : Verdict) → RefusalInside (length s) room (length s) v
+        → (if c then refused 1 0 else by-verdict v (tokens 0 0 s)) ≡ refused w p → (1 ≤ w) × (w ≤ 8) × (w ≤ 7 + (length s - room)) × (p ≤ length s)
+    go true v r h = let number : 1 ≡ w = cc in let place : 0 ≡ p = cc in omega arith
+    go false right r h = impossible (cc)
+    go false (wrong v q) r h = let number : v ≡ w = cc in let place : q ≡ p = cc in omega arith
 
 pub read-refused : (s : List ℕ) (room w p : ℕ) → Bytes s → read s room ≡ refused w p → (1 ≤ w) × (w ≤ 8) × (p ≤ length s)
-read-refused s room w p b h = read-refusal 8 s room b (omega arith) (inl (omega arith)) w p h
-
--- with as many rows as bytes there is always a row left
-pub read-refused-roomy : (s : List ℕ) (w p : ℕ) → Bytes s → read s (length s) ≡ refused w p → w ≤ 7
-read-refused-roomy s w p b h = read-refusal 7 s (length s) b (omega arith) (inr (omega arith)) w p h .1
+read-refused s room w p b h = omega (arith, read-refusal s room w p b h)
 
 -- the rows that were counted are enough
 pub read-enough : (s : List ℕ) (room : ℕ) (rs : List Row) (es : Exprs) → read s room ≡ readable rs es → (room′ : ℕ) → length rs ≤ room′
@@ -131,6 +121,7 @@ pub record Meant (s : List ℕ) (room : ℕ) (rs : List Row) (es : Exprs) : Type
   pub fits : FitsAll es
   pub shallow : deepest es ≤ 64
   pub shorter : length (canonical es) ≤ length s
+  pub short : length (canonical es) ≤ 65536
   pub counted : length rs ≡ rows-all es
   pub roomy : rows-all es ≤ room
 
@@ -146,15 +137,18 @@ read-meant s room rs es b r =
     only-list : (ls : List Exprs) → ListsFit 0 ls → 0 + weight ls ≤ length s + 1 → length rs ≡ rows-in ls → length rs ≤ room
         → Meant s room rs (getD ls 0 none)
     only-list [] o w c k = absurd o
-    only-list (fs ∷ []) o w c k = record { fits = o .0; shallow = o .1; shorter = omega arith; counted = omega arith; roomy = omega arith }
+    only-list (fs ∷ []) o w c k = record {
+      fits = o .0;
+      shallow = o .1;
+      shorter = omega arith;
+      short = omega (arith, r .short);
+      counted = omega arith;
+      roomy = omega arith;
+    }
     only-list (fs ∷ gs ∷ ls) o w c k = absurd o
 
--- with as many rows as bytes, more rows make no difference
-pub read-room : (s : List ℕ) (room : ℕ) → length s ≤ room → read s room ≡ read s (length s)
-unfolding read
-read-room s room h =
-    let few = tokens-few s 0 0 in
-    rw (check-room (length s) room (length s) (tokens 0 0 s) 0 0 (omega arith) (omega arith))
+pub meant : (s : List ℕ) (room : ℕ) (rs : List Row) (es : Exprs) → Bytes s → read s room ≡ readable rs es → Meant s room rs es
+meant s room rs es b h = read-meant s room rs es b (read-readable s room rs es h)
 
 -- Bytes that spell expressions
 
@@ -177,7 +171,7 @@ token-atom : (a : Atom) (x : List ℕ) (f : Front a x) (p : ℕ) (s : List ℕ)
 unfolding token
 token-atom a x f p s =
     let end : p + 1 + length (f .others ++ s) - length s ≡ p + suc (length (f .others)) = simp length-append (omega arith) in
-    rw (ne-eqb (f .byte) 0x01 (f .no-opening), ne-eqb (f .byte) 0x02 (f .no-closing), f .reads s, end)
+    rw (ne-eqb (f .byte) 0x01 (f .no-form .0), ne-eqb (f .byte) 0x02 (f .no-form .1), f .reads s, end)
 
 pub tokens-atom : (a : Atom) (x : List ℕ) → SpellsAtom a x → (p : ℕ) (s : List ℕ)
     → tokens p 0 (x ++ s) ≡ whole a p (p + length x) ∷ tokens (p + length x) 0 s

@@ -1,22 +1,20 @@
 -- Two calls with one stream and with tables of equal length: with all else no smaller the second time, and with buffers that differ only in what
 -- they held before. Demand 3. Assumes nothing.
-use Prim.Native.Nat.{ℕ, _*_, _/_, _≤_, min}
+use Prim.Native.Nat.{ℕ, _/_, _≤_}
 use mathlib.Core.Path.{_≡_, refl, sym, ap, _∙_}
-use mathlib.Core.List.{List, []}
-use lib.ListN.{length, take, drop}
-use lib.Seq.{take-append-seam}
+use mathlib.Core.List.{List}
+use lib.ListN.{length}
 use native.Mathlib.Omega.{arith}
 use Rattle.spec.specs.Expr.{Exprs, canonical}
-use Rattle.spec.specs.Reading.{Row, row-width, numbers, Reading, refused, readable, read}
-use Rattle.spec.specs.Runs.{End, done, stopped, cut, steps-in}
+use Rattle.spec.specs.Reading.{Row, row-width, read}
+use Rattle.spec.specs.Runs.{End, done, stopped, steps-in}
 use Rattle.spec.specs.Evaluation.{run, result}
-use Rattle.spec.specs.Calls.{Answer, refusal, acceptance, filled, put-out, once-read, reading, row-at, end-answer, Read, Write}
-use Rattle.laws.specs.Demands.{Lent, evaluation, row-numbers, NoSmaller, SameSizes, Final, Alike}
-use Rattle.laws.proofs.Rows.{numbers-length}
-use Rattle.laws.proofs.Runs.{SameEnd, same-end, no-steps, no-work, cut-more}
-use Rattle.laws.proofs.Calls.{Put, too-short, fits, put-out-is, put-out-bytes, Way, unread, unversioned, wrong-version, runs, way, answered, evaluation-answered}
+use Rattle.spec.specs.Calls.{Answer, refusal, filled, put-out, reading, row-at, end-answer}
+use Rattle.laws.specs.Demands.{Lent, evaluation, Final, Alike}
+use Rattle.laws.proofs.Runs.{SameEnd, same-end, no-steps, no-work}
+use Rattle.laws.proofs.Calls.{Put, too-short, fits, put-out-is, put-out-bytes, bounded, Way, unread, unversioned, wrong-version, runs, way, answered, evaluation-answered}
 
-refusals-alike : (w p : ℕ) (t t′ o o′ : List ℕ) → Alike (refusal w p t o) (refusal w p t′ o′)
+pub refusals-alike : (w p : ℕ) (t t′ o o′ : List ℕ) → Alike (refusal w p t o) (refusal w p t′ o′)
 refusals-alike w p t t′ o o′ = record { number = refl; place = refl; given = refl; steps = refl; bytes = λ z. refl }
 
 -- ends that are alike, put out with an output no smaller; if there was no room, with one of the same length
@@ -28,54 +26,30 @@ module _ (t t′ o o′ : List ℕ) (room : length o ≤ length o′) where
   put-alike bs k (fits l) (fits l′) f =
       record { number = refl; place = refl; given = refl; steps = refl; bytes = λ z. put-out-bytes bs k t o ∙ sym (put-out-bytes bs k t′ o′) }
 
-  put-out-alike : (bs : List ℕ) (k : ℕ) → (put-out bs k t o .number ≡ 18 → length o ≡ length o′) → Alike (put-out bs k t o) (put-out bs k t′ o′)
+  pub put-out-alike : (bs : List ℕ) (k : ℕ) → (put-out bs k t o .number ≡ 18 → length o ≡ length o′) → Alike (put-out bs k t o) (put-out bs k t′ o′)
   put-out-alike bs k f = put-alike bs k (put-out-is bs k t o) (put-out-is bs k t′ o′) f
 
-  end-alike : (rs : List Row) (k : ℕ) (e : End (List Exprs)) → (end-answer rs k t o e .number ≡ 18 → length o ≡ length o′)
+  pub end-alike : (rs : List Row) (k : ℕ) (e : End (List Exprs)) → (end-answer rs k t o e .number ≡ 18 → length o ≡ length o′)
       → Alike (end-answer rs k t o e) (end-answer rs k t′ o′ e)
   end-alike rs k (done ls) f = put-out-alike (canonical (result ls)) k f
   end-alike rs k (stopped w r) f = refusals-alike w (row-at rs r .start) t t′ o o′
 
-  same-end-alike : (rs : List Row) (k : ℕ) (e e′ : End (List Exprs)) → SameEnd e e′ → Final (end-answer rs k t o e)
+  pub same-end-alike : (rs : List Row) (k : ℕ) (e e′ : End (List Exprs)) → SameEnd e e′ → Final (end-answer rs k t o e)
       → Alike (end-answer rs k t o e) (end-answer rs k t′ o′ e′)
   same-end-alike rs k e e′ (same-end h) f = rw (← h) (end-alike rs k e (λ z. absurd (f .output-fits z)))
   same-end-alike rs k e e′ (no-steps r h) f = absurd (f .steps-suffice (rw h))
   same-end-alike rs k e e′ (no-work r h) f = absurd (f .work-fits (rw h))
 
 -- with tables of equal length the same is read
-reads-same : (s t t′ : List ℕ) → length t ≡ length t′ → reading s t′ ≡ reading s t
+pub reads-same : (s t t′ : List ℕ) → length t ≡ length t′ → reading s t′ ≡ reading s t
 reads-same s t t′ h = ap (λ (k : ℕ). read s (k / row-width)) (sym h)
 
-pub read-alike : (s t t′ : List ℕ) → length t ≡ length t′ → Alike (Read s t) (Read s t′) × (row-numbers (Read s t) ≡ row-numbers (Read s t′))
-unfolding Read
-read-alike s t t′ h = rw (reads-same s t t′ h) (go (reading s t))
-  where
-    after : List ℕ → Reading → Answer
-    after t x = once-read t [] (λ rs es. acceptance (length rs) 0 (filled rs t) []) x
-
-    rows-first : (rs : List Row) (t : List ℕ) → take (row-width * length rs) (filled rs t) ≡ numbers rs rs
-    rows-first rs t = rw (← numbers-length rs rs) (take-append-seam (numbers rs rs) (drop (length (numbers rs rs)) t))
-
-    go : (x : Reading) → Alike (after t x) (after t′ x) × (row-numbers (after t x) ≡ row-numbers (after t′ x))
-    go (refused w p) = (refusals-alike w p t t′ [] [], refl)
-    go (readable rs es) = (record { number = refl; place = refl; given = refl; steps = refl; bytes = λ z. refl }, rows-first rs t ∙ sym (rows-first rs t′))
-
-pub write-alike : (s t t′ o o′ : List ℕ) → length t ≡ length t′ → length o ≡ length o′ → Alike (Write s t o) (Write s t′ o′)
-unfolding Write
-write-alike s t t′ o o′ h k = rw (reads-same s t t′ h) (go (reading s t))
-  where
-    go : (x : Reading)
-        → Alike (once-read t o (λ rs es. put-out (canonical es) 0 (filled rs t) o) x) (once-read t′ o′ (λ rs es. put-out (canonical es) 0 (filled rs t′) o′) x)
-    go (refused w p) = refusals-alike w p t t′ o o′
-    go (readable rs es) = put-out-alike (filled rs t) (filled rs t′) o o′ (omega arith) (canonical es) 0 (λ z. k)
-
 -- what is answered when the run of what was read has come to its end
-abbrev run-end : List Row → Exprs → Lent → Answer
-run-end rs es l =
-    end-answer rs (steps-in (run es .events)) (filled rs (l .table)) (l .output) (cut (l .steps) (min (l .work) 65536) (run es .events) (run es .end))
+abbrev pub run-end : List Row → Exprs → Lent → Answer
+run-end rs es l = end-answer rs (steps-in (run es .events)) (filled rs (l .table)) (l .output) (bounded l es)
 
 -- with tables of equal length, two evaluations are alike if their runs end alike
-evaluations-alike : (s : List ℕ) (l m : Lent) → length (l .table) ≡ length (m .table)
+pub evaluations-alike : (s : List ℕ) (l m : Lent) → length (l .table) ≡ length (m .table)
     → ((rs : List Row) (es : Exprs) → evaluation s l ≡ run-end rs es l → Alike (run-end rs es l) (run-end rs es m)) → Alike (evaluation s l) (evaluation s m)
 evaluations-alike s l m h f = rw (evaluation-answered s l (way s t)) (go (way s t))
   where
@@ -99,16 +73,3 @@ evaluations-alike s l m h f = rw (evaluation-answered s l (way s t)) (go (way s 
     go (unversioned rs es e x) = rw (evaluation-answered s m (unversioned rs es (as-before ∙ e) x)) (refusals-alike 9 0 (filled rs t) (filled rs t′) o o′)
     go (wrong-version rs es e x y) = rw (evaluation-answered s m (wrong-version rs es (as-before ∙ e) x y)) (refusals-alike 10 0 (filled rs t) (filled rs t′) o o′)
     go (runs rs es e x y) = rw (evaluation-answered s m (runs rs es (as-before ∙ e) x y)) (f rs es (evaluation-answered s l (runs rs es e x y)))
-
-pub evaluate-alike : (s : List ℕ) (l m : Lent) → NoSmaller l m → Final (evaluation s l) → Alike (evaluation s l) (evaluation s m)
-evaluate-alike s l m h f =
-    evaluations-alike s l m (h .tables)
-    (λ rs es q. same-end-alike (filled rs (l .table)) (filled rs (m .table)) (l .output) (m .output) (h .outputs) rs (steps-in (run es .events)) _ _
-    (cut-more (run es .events) (run es .end) (l .steps) (m .steps) (min (l .work) 65536) (min (m .work) 65536) (h .steps) (omega (arith, h .work))) (rw q at f))
-
-pub contents-alike : (s : List ℕ) (l m : Lent) → SameSizes l m → Alike (evaluation s l) (evaluation s m)
-contents-alike s l m h =
-    evaluations-alike s l m (h .tables)
-    (λ rs es q. rw (h .steps, h .work)
-    (end-alike (filled rs (l .table)) (filled rs (m .table)) (l .output) (m .output) (omega (arith, h .outputs)) rs (steps-in (run es .events))
-    (cut (m .steps) (min (m .work) 65536) (run es .events) (run es .end)) (λ z. h .outputs)))

@@ -3,14 +3,14 @@
 use Prim.Native.Nat.{ℕ, zero, suc, _+_, _-_, _*_, _≤_, _<_}
 use mathlib.Core.Path.{_≡_, refl}
 use mathlib.Core.List.{List, [], _∷_}
-use mathlib.Core.Bool.{Bool, true, false}
 use lib.ListN.{length, drop, getD, length-drop, List·getD-append}
 use lib.Dec.{leb}
 use borrow.Author.Tests.{leb-true, leb-false, lt-leb, ne-eqb}
 use native.Mathlib.Omega.{arith}
-use Rattle.spec.specs.Expr.{if_then_else_, Expr, atom, form, Exprs, rows, rows-all}
+use Rattle.spec.specs.Expr.{Expr, atom, form, Exprs, rows, rows-all}
 use Rattle.spec.specs.Reading.{Token, opening, closing, whole, bad, right, check, put, wrap, lists, Row, ends, rows-of, next-row, numbers}
 use Rattle.laws.specs.Sanity.{Inside, FirstFrom}
+use Rattle.laws.proofs.Basics.{by-test}
 use Rattle.laws.proofs.Tokens.{Right, at-end, opens, closes, stands, Laid}
 
 -- How many
@@ -162,12 +162,11 @@ module _ (other : Row) where
   pub next-row-first : (e : ℕ) (rs : List Row) → FirstFrom e rs other (next-row e rs)
   unfolding next-row
   next-row-first e [] = first-zero e [] (λ l. absurd (omega arith))
-  next-row-first e (r ∷ rs) = by-test (next-row e rs) (next-row-first e rs) (leb e (r .start)) refl
-    where
-      by-test : (k : ℕ) → FirstFrom e rs other k → (b : Bool) → leb e (r .start) ≡ b → FirstFrom e (r ∷ rs) other (if b then 0 else 1 + k)
-      by-test k f true t = first-zero e (r ∷ rs) (λ l. leb-true e (r .start) t)
-      by-test k f false t =
-          let one-more : 1 + k ≡ suc k = omega arith in rw one-more (first-behind e r rs k (leb-false e (r .start) t) f)
+  next-row-first e (r ∷ rs) =
+      let k : ℕ = next-row e rs in
+      let one-more : 1 + k ≡ suc k = omega arith in
+      by-test (FirstFrom e (r ∷ rs) other) (leb e (r .start)) (λ t. first-zero e (r ∷ rs) (λ l. leb-true e (r .start) t))
+      (λ t. rw one-more (first-behind e r rs k (leb-false e (r .start) t) (next-row-first e rs)))
 
   -- number j of row i
   pub numbers-at : (all rs : List Row) (i j : ℕ) → i < length rs → j < 4 → getD (numbers all rs) (4 * i + j) 0 ≡ getD (four all (getD rs i other)) j 0

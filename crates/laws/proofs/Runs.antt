@@ -2,7 +2,7 @@
 -- 17; what an accepted run took; when 16 is given. Document 01: "Step count". Assumes nothing.
 use Prim.Native.Nat.{ℕ, zero, suc, _+_, _-_, _≤_, _<_}
 use mathlib.Core.Path.{_≡_, refl, sym, _∙_}
-use mathlib.Core.List.{List, [], _∷_}
+use mathlib.Core.List.{List, [], _∷_, _++_, append-assoc}
 use mathlib.Core.Bool.{Bool, true, false}
 use lib.ListN.{length, getD}
 use lib.Dec.{ltb}
@@ -24,11 +24,36 @@ module _ {A B : Type 0} where
       go (done a) q h = (a, q, h)
       go (stopped w r) q h = impossible (cc)
 
+  -- the same, if what follows is the same
+  pub bind-same : (run : Run A) {f g : A → Run B} → ((a : A) → run .end ≡ done a → f a ≡ g a) → bind run f ≡ bind run g
+  bind-same run {f} {g} h = go (run .end) h
+    where
+      go : (e : End A) → ((a : A) → e ≡ done a → f a ≡ g a) → follow (run .events) e f ≡ follow (run .events) e g
+      go (done a) h = rw (h a refl)
+      go (stopped w r) h = refl
+
+  pub bind-assoc : {C : Type 0} (run : Run A) (f : A → Run B) (g : B → Run C) → bind (bind run f) g ≡ bind run (λ a. bind (f a) g)
+  bind-assoc {C} run f g = go (run .end)
+    where
+      next : (es fs : List Event) (e : End B) → follow (es ++ fs) e g ≡ record { events = es ++ follow fs e g .events; end = follow fs e g .end }
+      next es fs (done b) = rw (append-assoc es fs (g b .events))
+      next es fs (stopped w r) = refl
+
+      go : (e : End A) → bind (follow (run .events) e f) g ≡ follow (run .events) e (λ a. bind (f a) g)
+      go (done a) = next (run .events) (f a .events) (f a .end)
+      go (stopped w r) = refl
+
 -- all charges together
 unfoldable pub charges : List Event → ℕ
 charges [] = 0
 charges (step r ∷ es) = charges es
 charges (charge r n ∷ es) = n + charges es
+
+pub charges-append : (es fs : List Event) → charges (es ++ fs) ≡ charges es + charges fs
+unfolding charges
+charges-append [] fs = omega arith
+charges-append (step r ∷ es) fs = charges-append es fs
+charges-append (charge r n ∷ es) fs = omega (arith, charges-append es fs)
 
 -- the row of the first charge that does not fit a workspace
 unfoldable pub full-row : ℕ → List Event → ℕ

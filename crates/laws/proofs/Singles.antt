@@ -1,23 +1,22 @@
 -- What evaluation leaves of where it happens: in which places the namespaces and the definitions stay the same. And an invariant: a
 -- definition that is no function has one value.
 -- Document 01: "The definition is visible to what follows in the same list [..] and ends with that list." Assumes nothing.
-use Prim.Native.Nat.{ℕ, zero, suc, _<_}
+use Prim.Native.Nat.{ℕ, zero, suc, _≤_, _<_}
 use mathlib.Core.Path.{_≡_, refl, ap, _∙_}
 use mathlib.Core.List.{List, [], _∷_, _++_}
-use mathlib.Core.Bool.{Bool, true, false, _&&_}
+use mathlib.Core.Bool.{true, false, _&&_}
 use native.Mathlib.Omega.{arith}
 use lib.ListN.{length, drop}
-use lib.Dec.{eqb}
-use borrow.Author.Tests.{not-true}
-use Rattle.spec.specs.Expr.{if_then_else_, nil, array, int, ref, Expr, atom, form, Exprs, none, more, only, append, size, first, without}
+use lib.Dec.{ltb, eqb}
+use borrow.Author.Tests.{ltb-false, not-true}
+use Rattle.spec.specs.Expr.{if_then_else_, nil, array, int, ref, Expr, atom, form, Exprs, none, more, only, append, size, first, without, deepest, canonical}
 use Rattle.spec.specs.Nodes.{Word, rest, is, Node, leaf, branch, Nodes, empty, cons, elements, tail, headed-by}
-use Rattle.spec.specs.Runs.{done}
+use Rattle.spec.specs.Runs.{charge, done, Run, give, stop, before}
 use Rattle.spec.specs.Plan.{Defined, value, function, Definition, Scope, Found, latest, nothing, look-up, Namespace, Place, element, inner, given, Here, as-form, as-concat, as-call, Plan, associate, inside, plan}
 use Rattle.spec.specs.Evaluation.{Left, standing, add-namespace, add-definition, complete, join, one-value, Call, Meaning, in-order, perform, eval, eval-all, run-code}
 use Rattle.laws.specs.Holding.{NotTop, beyond, together, in-list}
-use Rattle.laws.proofs.Basics.{impossible}
+use Rattle.laws.proofs.Basics.{impossible, by-test}
 use Rattle.laws.proofs.Runs.{bind-done}
-use Rattle.laws.proofs.Charges.{complete-cases}
 use Rattle.laws.proofs.Walk.{Rule, refuses, own, defined, argument, others, associates, defines, names, joins, forms, calls, calls-subst, rule}
 
 -- What is so of each definition that is visible
@@ -33,11 +32,7 @@ EachFound P nothing = Unit {0}
 pub look-up-each : (P : Defined → Type 0) (m n : ℕ) (ds : Scope) → EachDefined P ds → EachFound P (look-up m n ds)
 unfolding look-up
 look-up-each P m n [] s = tt
-look-up-each P m n (d ∷ ds) s = go (eqb (d .marker) m && eqb (d .name) n) (look-up-each P m n ds (s .1))
-  where
-    go : (b : Bool) → EachFound P (look-up m n ds) → EachFound P (if b then latest (d .content) ds else look-up m n ds)
-    go true t = s
-    go false t = t
+look-up-each P m n (d ∷ ds) s = by-test (EachFound P) (eqb (d .marker) m && eqb (d .name) n) (λ t. s) (λ t. look-up-each P m n ds (s .1))
 
 -- one value, and no more
 pub record Single (vs : Exprs) : Type 0 where
@@ -83,6 +78,11 @@ pub append-none : (vs : Exprs) → append vs none ≡ vs
 unfolding append
 append-none none = refl
 append-none (more v vs) = ap (more v) (append-none vs)
+
+-- a value that is complete has at most 64 forms one inside another, and is charged
+pub complete-cases : (P : Run Left → Type 0) (r : ℕ) (vs : Exprs) (h : Here) → P (stop 6 r) →
+    (deepest vs ≤ 64 → P (before (charge r (length (canonical vs))) (give (record { values = vs; here = h })))) → P (complete r vs h)
+complete-cases P r vs h p q = by-test P (ltb 64 (deepest vs)) (λ e. p) (λ e. q (ltb-false 64 (deepest vs) e))
 
 complete-done : (r : ℕ) (vs : Exprs) (h : Here) (left : Left) → complete r vs h .end ≡ done left → left ≡ record { values = vs; here = h }
 complete-done r vs h left =
@@ -235,11 +235,8 @@ SingleCall call = (r : ℕ) (code : Nodes) (h : Here) (left : Left) → one-valu
 module _ (call : Call) (call-single : SingleCall call) where
   call-value : (r : ℕ) (code : Nodes) (h : Here) (left : Left) → h .place ≡ inner → SingleScope (h .scope) → call r code h .end ≡ done left
       → Single (if one-value code then left .values else only (form (left .values)))
-  call-value r code h left i s e = go (one-value code) refl
-    where
-      go : (b : Bool) → one-value code ≡ b → Single (if b then left .values else only (form (left .values)))
-      go true q = call-single r code h left q i s e
-      go false q = record { value = form (left .values); is = refl }
+  call-value r code h left i s e =
+      by-test Single (one-value code) (λ q. call-single r code h left q i s e) (λ q. record { value = form (left .values); is = refl })
 
   perform-single : (r : ℕ) (ms : List Meaning) (h : Here) {w : Word} {e : Node} {p : Plan} → Rule h w e p → is w rest ≡ false → (left : Left)
       → h .place ≡ inner → SingleScope (h .scope) → perform call r ms h p .end ≡ done left → Single (left .values)

@@ -55,41 +55,40 @@ length-spelled {k} (as-small ds h q e) s = rw (e, q) (length-plain k (0xC0 + len
 length-spelled (as-generic {k = j} ds x l q e) s =
     rw (e, q, append-assoc x ds s) (length-generic j (x ++ (ds ++ s)) ∙ rw (length-spelled l (ds ++ s), take-front (length ds) ds s refl))
 
--- the branches of `read-atom`
+-- each atom by its first byte
 
-module _ (b : ℕ) (s : List ℕ) where
-  read-reference : 16 ≤ b → b < 0x7F → read-atom b s ≡ name (b ∷ s) b s
-  unfolding read-atom
-  read-reference h k =
-      rw (ne-eqb b 0x00 (λ e. omega arith), ne-eqb b 0x03 (λ e. omega arith), le-ltb b 0x10 h, lt-ltb b 0x7F k)
-
-  read-int : 0x80 ≤ b → b < 0xC0 → read-atom b s ≡ taken (int (b - 0x80)) s
-  unfolding read-atom
-  read-int h k =
-      rw (
-        ne-eqb b 0x00 (λ e. omega arith),
-        ne-eqb b 0x03 (λ e. omega arith),
-        le-ltb b 0x10 (omega arith),
-        le-ltb b 0x7F (omega arith),
-        le-ltb b 0x80 h,
-        lt-ltb b 0xC0 k,
-      )
-
-  read-small-array : 0xC0 ≤ b → read-atom b s ≡ and-then (take-bytes (b - 0xC0) s) as-array
-  unfolding read-atom
-  read-small-array h =
-      rw (
-        ne-eqb b 0x00 (λ e. omega arith),
-        ne-eqb b 0x03 (λ e. omega arith),
-        le-ltb b 0x10 (omega arith),
-        le-ltb b 0x7F (omega arith),
-        le-ltb b 0x80 (omega arith),
-        le-ltb b 0xC0 h,
-      )
-
-read-generic : (x bs s : List ℕ) → SpellsLength 7 (length bs) x → read-atom 0x03 (x ++ (bs ++ s)) ≡ taken (array bs) s
+read-int : (v : ℕ) (s : List ℕ) → v < 64 → read-atom (0x80 + v) s ≡ taken (int v) s
 unfolding read-atom
-read-generic x bs s l = rw (length-spelled l (bs ++ s), take-front (length bs) bs s refl)
+read-int v s h =
+    let b : ℕ = 0x80 + v in
+    let value : b - 0x80 ≡ v = omega arith in
+    rw (
+      ne-eqb b 0x00 (λ e. omega arith),
+      ne-eqb b 0x03 (λ e. omega arith),
+      le-ltb b 0x10 (omega arith),
+      le-ltb b 0x7F (omega arith),
+      le-ltb b 0x80 (omega arith),
+      lt-ltb b 0xC0 (omega arith),
+      value,
+    )
+
+read-small : (bs s : List ℕ) → read-atom (0xC0 + length bs) (bs ++ s) ≡ taken (array bs) s
+unfolding read-atom
+read-small bs s =
+    let b : ℕ = 0xC0 + length bs in
+    rw (
+      ne-eqb b 0x00 (λ e. omega arith),
+      ne-eqb b 0x03 (λ e. omega arith),
+      le-ltb b 0x10 (omega arith),
+      le-ltb b 0x7F (omega arith),
+      le-ltb b 0x80 (omega arith),
+      le-ltb b 0xC0 (omega arith),
+      take-front (b - 0xC0) bs s (omega arith),
+    )
+
+read-generic : (x bs s : List ℕ) → SpellsLength 7 (length bs) x → read-atom 0x03 ((x ++ bs) ++ s) ≡ taken (array bs) s
+unfolding read-atom
+read-generic x bs s l = rw (append-assoc x bs s, length-spelled l (bs ++ s), take-front (length bs) bs s refl)
 
 -- bytes FF are added up
 marker-sum : (k m b : ℕ) (s : List ℕ) → b < 0xFF → marker m (replicate k 0xFF ++ (b ∷ s)) ≡ taken (m + k * 0xFF + b) s
@@ -97,83 +96,41 @@ unfolding marker
 marker-sum zero m b s h = rw (ne-eqb b 0xFF (λ e. omega arith)) (ap (λ (x : ℕ). taken x s) (omega arith))
 marker-sum (suc k) m b s h = marker-sum k (m + 0xFF) b s h ∙ ap (λ (x : ℕ). taken x s) (omega arith)
 
-read-short : (n m : ℕ) (s : List ℕ) → 16 ≤ m → m < 0x7F → m ≤ 65535 → read-atom m (n ∷ s) ≡ taken (ref m n) s
-unfolding name
-read-short n m s h l k = read-reference m (n ∷ s) h l ∙ rw (le-ltb 65535 m k)
-
-read-long : (n m : ℕ) (x s : List ℕ) → m ≤ 65535 → marker 0x7F x ≡ taken m (n ∷ s) → read-atom 0x7F x ≡ taken (ref m n) s
+read-short : (m n : ℕ) (s : List ℕ) → 16 ≤ m → m < 0x7F → read-atom m (n ∷ s) ≡ taken (ref m n) s
 unfolding read-atom name
-read-long n m x s k q = rw (q, le-ltb 65535 m k)
+read-short m n s h l =
+    rw (ne-eqb m 0x00 (λ e. omega arith), ne-eqb m 0x03 (λ e. omega arith), le-ltb m 0x10 h, lt-ltb m 0x7F l, le-ltb 65535 m (omega arith))
+
+read-long : (m n : ℕ) (s : List ℕ) → 0x7F ≤ m → m ≤ 65535
+    → read-atom 0x7F (((replicate ((m - 0x7F) / 0xFF) 0xFF ++ (((m - 0x7F) % 0xFF) ∷ [])) ++ (n ∷ [])) ++ s) ≡ taken (ref m n) s
+unfolding read-atom name
+read-long m n s h k =
+    let sum : 0x7F + (m - 0x7F) / 0xFF * 0xFF + (m - 0x7F) % 0xFF ≡ m = omega arith in
+    simp append-assoc (rw (marker-sum ((m - 0x7F) / 0xFF) 0x7F ((m - 0x7F) % 0xFF) (n ∷ s) (omega arith), sum, le-ltb 65535 m k))
 
 -- the first of the bytes that spell an atom, and that the atom is read from them
 pub record Front (a : Atom) (x : List ℕ) : Type 0 where
   pub byte : ℕ
   pub others : List ℕ
   pub is : x ≡ byte ∷ others
-  pub no-opening : byte ≡ 0x01 → ⊥
-  pub no-closing : byte ≡ 0x02 → ⊥
+  pub no-form : (byte ≡ 0x01 → ⊥) × (byte ≡ 0x02 → ⊥)
   pub reads : (s : List ℕ) → read-atom byte (others ++ s) ≡ taken a s
 
 front-array : (bs x : List ℕ) → SpellsArray bs x → Front (array bs) x
-front-array bs x (small h e) =
-    let n : ℕ = length bs in record {
-      byte = 0xC0 + n;
-      others = bs;
-      is = e;
-      no-opening = λ z. omega arith;
-      no-closing = λ z. omega arith;
-      reads = λ s. read-small-array (0xC0 + n) (bs ++ s) (omega arith) ∙ ap (λ y. and-then y as-array) (take-front (0xC0 + n - 0xC0) bs s (omega arith));
-    }
-front-array bs x (generic y l e) = record {
-  byte = 0x03;
-  others = y ++ bs;
-  is = e;
-  no-opening = λ z. omega arith;
-  no-closing = λ z. omega arith;
-  reads = λ s. rw (append-assoc y bs s) (read-generic y bs s l);
-}
+front-array bs x (small h e) = record { byte = 0xC0 + length bs; others = bs; is = e; no-form = omega arith; reads = read-small bs }
+front-array bs x (generic y l e) = record { byte = 0x03; others = y ++ bs; is = e; no-form = omega arith; reads = λ s. read-generic y bs s l }
 
 front-ref : (m n : ℕ) (x : List ℕ) → 16 ≤ m → m ≤ 65535 → x ≡ marker-bytes m ++ (n ∷ []) → Front (ref m n) x
 front-ref m n x h k e = go (marker-bytes-are m) e
   where
     go : {ms : List ℕ} → Mark m ms → x ≡ ms ++ (n ∷ []) → Front (ref m n) x
-    go (short l) e = record {
-      byte = m;
-      others = n ∷ [];
-      is = e;
-      no-opening = λ z. omega arith;
-      no-closing = λ z. omega arith;
-      reads = λ s. read-short n m s h l k;
-    }
-    go (long l) e = record {
-      byte = 0x7F;
-      others = (replicate ((m - 0x7F) / 0xFF) 0xFF ++ (((m - 0x7F) % 0xFF) ∷ [])) ++ (n ∷ []);
-      is = e;
-      no-opening = λ z. omega arith;
-      no-closing = λ z. omega arith;
-      reads = λ s.
-          read-long n m _ s k
-          (simp append-assoc (marker-sum ((m - 0x7F) / 0xFF) 0x7F ((m - 0x7F) % 0xFF) (n ∷ s) (omega arith) ∙ ap (λ (x : ℕ). taken x (n ∷ s)) (omega arith)));
-    }
+    go (short l) e = record { byte = m; others = n ∷ []; is = e; no-form = omega arith; reads = λ s. read-short m n s h l }
+    go (long l) e = record { byte = 0x7F; others = _; is = e; no-form = omega arith; reads = λ s. read-long m n s l k }
 
 pub front : (a : Atom) (x : List ℕ) → SpellsAtom a x → Front a x
-front nil x e = record {
-  byte = 0x00;
-  others = [];
-  is = e;
-  no-opening = λ h. omega arith;
-  no-closing = λ h. omega arith;
-  reads = λ s. unfold read-atom in refl;
-}
+front nil x e = record { byte = 0x00; others = []; is = e; no-form = omega arith; reads = λ s. unfold read-atom in refl }
 front (array bs) x p = front-array bs x p
-front (int v) x p = record {
-  byte = 0x80 + v;
-  others = [];
-  is = p .1;
-  no-opening = λ h. omega arith;
-  no-closing = λ h. omega arith;
-  reads = λ s. read-int (0x80 + v) s (omega arith) (omega (arith, p .0)) ∙ ap (λ (y : ℕ). taken (int y) s) (omega arith);
-}
+front (int v) x p = record { byte = 0x80 + v; others = []; is = p .1; no-form = omega arith; reads = λ s. read-int v s (p .0) }
 front (ref m n) x p = front-ref m n x (p .0) (p .1) (p .2)
 
 -- the canonical bytes of an atom that fits spell it
@@ -231,23 +188,37 @@ plain-taken k b s n t h e =
     int-taken : 0x80 ≤ b → b < 0xC0 → taken (b - 0x80) s ≡ taken n t → SplitOff (SpellsLength k n) (b ∷ s) t
     int-taken l u q =
         let number : b - 0x80 ≡ n = cc in
-        let rest : s ≡ t = cc in
         let byte : b ≡ 0x80 + n = omega arith in
-        record { front = b ∷ []; is = rw rest; holds = as-int {n = n} (omega arith) (ap (λ (x : ℕ). x ∷ []) byte) }
+        record { front = b ∷ []; is = cc; holds = as-int {n = n} (omega arith) (ap (λ (x : ℕ). x ∷ []) byte) }
 
     small-taken : 0xC0 ≤ b → and-then (take-bytes (b - 0xC0) s) as-length ≡ taken n t → SplitOff (SpellsLength k n) (b ∷ s) t
     small-taken l q =
         let p = then-taken (take-bytes (b - 0xC0) s) as-length n t q in
-        let ds = p .0 in
-        let number : natural 0 ds ≡ n = cc (p .3) in
-        let rest : p .1 ≡ t = cc (p .3) in
-        let u = take-taken (b - 0xC0) s ds (p .1) (p .2) in
-        let byte : b ≡ 0xC0 + length ds = omega (arith, u .1) in
+        let u = take-taken (b - 0xC0) s (p .0) (p .1) (p .2) in
+        let byte : b ≡ 0xC0 + length (p .0) = omega (arith, u .1) in
         record {
-          front = b ∷ ds;
-          is = ap (λ (x : List ℕ). b ∷ x) (u .0 ∙ rw rest);
-          holds = as-small {n = n} ds (omega (arith, u .1)) (sym number) (ap (λ (x : ℕ). x ∷ ds) byte);
+          front = b ∷ p .0;
+          is = cc (u .0, p .3);
+          holds = as-small {n = n} (p .0) (omega (arith, u .1)) (cc (p .3)) (ap (λ (x : ℕ). x ∷ p .0) byte);
         }
+
+-- a length expression with the bytes that it is the length of
+record Counted (k : ℕ) (s ds t : List ℕ) : Type 0 where
+  before : List ℕ
+  is : s ≡ (before ++ ds) ++ t
+  spells : SpellsLength k (length ds) before
+
+counted-taken : (k : ℕ) (s ds t : List ℕ) → ((n : ℕ) (u : List ℕ) → length-expr k s ≡ taken n u → SplitOff (SpellsLength k n) s u)
+    → and-then (length-expr k s) take-bytes ≡ taken ds t → Counted k s ds t
+counted-taken k s ds t inner q =
+    let r = then-taken (length-expr k s) take-bytes ds t q in
+    let own = take-taken (r .0) (r .1) ds t (r .3) in
+    let o = inner (r .0) (r .1) (r .2) in
+    record {
+      before = o .front;
+      is = o .is ∙ ap (λ (y : List ℕ). o .front ++ y) (own .0) ∙ sym (append-assoc (o .front) ds t);
+      spells = subst (λ (j : ℕ). SpellsLength k j (o .front)) (sym (own .1)) (o .holds);
+    }
 
 pub length-taken : (k : ℕ) (s : List ℕ) (n : ℕ) (t : List ℕ) → Bytes s → length-expr k s ≡ taken n t → SplitOff (SpellsLength k n) s t
 unfolding length-expr
@@ -256,22 +227,18 @@ length-taken (suc k) [] n t b e = absurd (never-taken 2 [] t n e)
 length-taken zero (x ∷ s) n t b e =
     by-choice (eqb x 0x03) _ _ (taken n t) (λ c q. absurd (never-taken 6 (x ∷ s) t n q)) (λ c q. plain-taken zero x s n t (b .0) q) e
 length-taken (suc k) (x ∷ s) n t b e =
-    by-choice (eqb x 0x03) _ _ (taken n t) (λ c q. generic-taken (eqb-true x 0x03 c) (λ j u h. length-taken k s j u (b .1) h) q) (λ c q. plain-taken (suc k) x s n t (b .0) q) e
+    by-choice (eqb x 0x03) _ _ (taken n t) (λ c q. generic-taken (eqb-true x 0x03 c) (λ j u h. length-taken k s j u (b .1) h) q)
+    (λ c q. plain-taken (suc k) x s n t (b .0) q) e
   where
     generic-taken : x ≡ 0x03 → ((j : ℕ) (u : List ℕ) → length-expr k s ≡ taken j u → SplitOff (SpellsLength k j) s u)
         → and-then (and-then (length-expr k s) take-bytes) as-length ≡ taken n t → SplitOff (SpellsLength (suc k) n) (x ∷ s) t
     generic-taken h inner q =
         let p = then-taken (and-then (length-expr k s) take-bytes) as-length n t q in
-        let r = then-taken (length-expr k s) take-bytes (p .0) (p .1) (p .2) in
-        let number : natural 0 (p .0) ≡ n = cc (p .3) in
-        let rest : p .1 ≡ t = cc (p .3) in
-        let own = take-taken (r .0) (r .1) (p .0) (p .1) (r .3) in
-        let o = inner (r .0) (r .1) (r .2) in
-        let spelled : SpellsLength k (length (p .0)) (o .front) = subst (λ (j : ℕ). SpellsLength k j (o .front)) (sym (own .1)) (o .holds) in
+        let c = counted-taken k s (p .0) (p .1) inner (p .2) in
         record {
-          front = 0x03 ∷ (o .front ++ p .0);
-          is = ap (λ (y : ℕ). y ∷ s) h ∙ ap (λ (y : List ℕ). 0x03 ∷ y) (o .is ∙ ap (λ (y : List ℕ). o .front ++ y) (own .0 ∙ rw rest) ∙ sym (append-assoc (o .front) (p .0) t));
-          holds = as-generic {n = n} (p .0) (o .front) spelled (sym number) refl;
+          front = x ∷ (c .before ++ p .0);
+          is = cc (c .is, p .3);
+          holds = as-generic {n = n} (p .0) (c .before) (c .spells) (cc (p .3)) (ap (λ (y : ℕ). y ∷ (c .before ++ p .0)) h);
         }
 
 marker-taken : (m : ℕ) (s : List ℕ) (k : ℕ) (t : List ℕ) → Bytes s → marker m s ≡ taken k t
@@ -280,15 +247,9 @@ unfolding marker
 marker-taken m [] k t b e = absurd (never-taken 2 [] t k e)
 marker-taken m (x ∷ s) k t b e =
     by-choice (eqb x 0xFF) _ _ (taken k t)
-    (λ c q. let p = marker-taken (m + x) s k t (b .1) q in let full = eqb-true x 0xFF c in (
-      suc (p .0),
-      p .1,
-      ap (λ (y : List ℕ). x ∷ y) (p .2) ∙ ap (λ (y : ℕ). y ∷ (replicate (p .0) 0xFF ++ (p .1 ∷ t))) full,
-      p .3,
-      omega (arith, p .4),
-    ))
-    (λ c q. let number : m + x ≡ k = cc in let rest : s ≡ t = cc in
-    (0, x, ap (λ (y : List ℕ). x ∷ y) rest, omega (arith, b .0, eqb-false x 0xFF c), omega arith)) e
+    (λ c q. let p = marker-taken (m + x) s k t (b .1) q in let full = eqb-true x 0xFF c in
+    (suc (p .0), p .1, cc (p .2, full), p .3, omega (arith, p .4)))
+    (λ c q. let number : m + x ≡ k = cc in (0, x, cc, omega (arith, b .0, eqb-false x 0xFF c), omega arith)) e
 
 -- the marker's sum is its canonical bytes
 mark-is : (j c : ℕ) → c < 0xFF → marker-bytes (0x7F + j * 0xFF + c) ≡ 0x7F ∷ (replicate j 0xFF ++ (c ∷ []))
@@ -302,74 +263,53 @@ mark-is j c h = go (marker-bytes-are (0x7F + j * 0xFF + c))
         rw (full, last)
 
 mark-short : (m : ℕ) → m < 0x7F → marker-bytes m ≡ m ∷ []
-mark-short m h = go (marker-bytes-are m)
-  where
-    go : {ms : List ℕ} → Mark m ms → ms ≡ m ∷ []
-    go (short l) = refl
-    go (long l) = absurd (omega arith)
+unfolding marker-bytes
+mark-short m h = rw (lt-ltb m 0x7F h)
 
 name-taken : (from : List ℕ) (m : ℕ) (s : List ℕ) (a : Atom) (t : List ℕ) → name from m s ≡ taken a t
     → (n : ℕ) × (s ≡ n ∷ t) × (a ≡ ref m n) × (m ≤ 65535)
 unfolding name
 name-taken from m [] a t e = absurd (never-taken 2 [] t a e)
 name-taken from m (n ∷ s) a t e =
-    by-choice (ltb 65535 m) _ _ (taken a t) (λ c q. absurd (never-taken 7 from t a q))
-    (λ c q. let rest : s ≡ t = cc in let it : a ≡ ref m n = cc in (n, ap (λ (y : List ℕ). n ∷ y) rest, it, ltb-false 65535 m c)) e
+    by-choice (ltb 65535 m) _ _ (taken a t) (λ c q. absurd (never-taken 7 from t a q)) (λ c q. (n, cc, cc, ltb-false 65535 m c)) e
 
 -- an atom that is read is spelled by the bytes in front of those that are left
 module _ (b : ℕ) (s : List ℕ) (a : Atom) (t : List ℕ) where
-  Split : Type 0
+  abbrev Split : Type 0
   Split = SplitOff (SpellsAtom a) (b ∷ s) t
 
-  split-as : (c : Atom) → a ≡ c → SplitOff (SpellsAtom c) (b ∷ s) t → Split
-  unfolding Split
-  split-as c e o = rw e o
-
   nil-taken : b ≡ 0x00 → taken nil s ≡ taken a t → Split
-  nil-taken h e =
-      let it : a ≡ nil = cc in
-      let rest : s ≡ t = cc in
-      split-as nil it (record { front = b ∷ []; is = ap (λ (y : List ℕ). b ∷ y) rest; holds = ap (λ (x : ℕ). x ∷ []) h })
+  nil-taken h e = let it : a ≡ nil = cc in rw it (record { front = b ∷ []; is = cc; holds = rw h })
 
   int-atom-taken : 0x80 ≤ b → b < 0xC0 → taken (int (b - 0x80)) s ≡ taken a t → Split
   int-atom-taken l u e =
       let it : a ≡ int (b - 0x80) = cc in
-      let rest : s ≡ t = cc in
-      let byte : b ≡ 0x80 + (b - 0x80) = omega arith in
-      split-as (int (b - 0x80)) it (record { front = b ∷ []; is = ap (λ (y : List ℕ). b ∷ y) rest; holds = (omega arith, ap (λ (x : ℕ). x ∷ []) byte) })
+      let byte : 0x80 + (b - 0x80) ≡ b = omega arith in
+      rw it (record { front = b ∷ []; is = cc; holds = (omega arith, rw byte) })
 
   small-array-taken : 0xC0 ≤ b → b < 256 → and-then (take-bytes (b - 0xC0) s) as-array ≡ taken a t → Split
   small-array-taken l u e =
       let p = then-taken (take-bytes (b - 0xC0) s) as-array a t e in
       let it : a ≡ array (p .0) = cc (p .3) in
-      let rest : p .1 ≡ t = cc (p .3) in
       let own = take-taken (b - 0xC0) s (p .0) (p .1) (p .2) in
       let byte : b ≡ 0xC0 + length (p .0) = omega (arith, own .1) in
-      split-as (array (p .0)) it (record {
-        front = b ∷ p .0;
-        is = ap (λ (y : List ℕ). b ∷ y) (own .0 ∙ rw rest);
-        holds = small (omega (arith, own .1)) (ap (λ (x : ℕ). x ∷ p .0) byte);
-      })
+      rw it (record { front = b ∷ p .0; is = cc (own .0, p .3); holds = small (omega (arith, own .1)) (ap (λ (x : ℕ). x ∷ p .0) byte) })
 
   generic-array-taken : b ≡ 0x03 → Bytes s → and-then (and-then (length-expr 7 s) take-bytes) as-array ≡ taken a t → Split
   generic-array-taken h bs e =
       let p = then-taken (and-then (length-expr 7 s) take-bytes) as-array a t e in
-      let r = then-taken (length-expr 7 s) take-bytes (p .0) (p .1) (p .2) in
       let it : a ≡ array (p .0) = cc (p .3) in
-      let rest : p .1 ≡ t = cc (p .3) in
-      let own = take-taken (r .0) (r .1) (p .0) (p .1) (r .3) in
-      let o = length-taken 7 s (r .0) (r .1) bs (r .2) in
-      let spelled : SpellsLength 7 (length (p .0)) (o .front) = subst (λ (j : ℕ). SpellsLength 7 j (o .front)) (sym (own .1)) (o .holds) in
-      split-as (array (p .0)) it (record {
-        front = b ∷ (o .front ++ p .0);
-        is = ap (λ (y : List ℕ). b ∷ y) (o .is ∙ ap (λ (y : List ℕ). o .front ++ y) (own .0 ∙ rw rest) ∙ sym (append-assoc (o .front) (p .0) t));
-        holds = generic (o .front) spelled (ap (λ (x : ℕ). x ∷ (o .front ++ p .0)) h);
+      let c = counted-taken 7 s (p .0) (p .1) (λ n u q. length-taken 7 s n u bs q) (p .2) in
+      rw it (record {
+        front = b ∷ (c .before ++ p .0);
+        is = cc (c .is, p .3);
+        holds = generic (c .before) (c .spells) (ap (λ (x : ℕ). x ∷ (c .before ++ p .0)) h);
       })
 
   short-taken : 16 ≤ b → b < 0x7F → name (b ∷ s) b s ≡ taken a t → Split
   short-taken l u e =
       let p = name-taken (b ∷ s) b s a t e in
-      split-as (ref b (p .0)) (p .2) (record { front = b ∷ p .0 ∷ []; is = ap (λ (y : List ℕ). b ∷ y) (p .1); holds = (l, p .3, rw (mark-short b u)) })
+      rw (p .2) (record { front = b ∷ p .0 ∷ []; is = cc (p .1); holds = (l, p .3, rw (mark-short b u)) })
 
   long-taken : b ≡ 0x7F → Bytes s → and-then (marker 0x7F s) (name (b ∷ s)) ≡ taken a t → Split
   long-taken h bs e =
@@ -378,18 +318,14 @@ module _ (b : ℕ) (s : List ℕ) (a : Atom) (t : List ℕ) where
       let r = name-taken (b ∷ s) (p .0) (p .1) a t (p .3) in
       let full : List ℕ = replicate (q .0) 0xFF in
       let mark : marker-bytes (p .0) ≡ 0x7F ∷ (full ++ (q .1 ∷ [])) = ap marker-bytes (q .4) ∙ mark-is (q .0) (q .1) (q .3) in
-      split-as (ref (p .0) (r .0)) (r .2) (record {
+      rw (r .2) (record {
         front = b ∷ ((full ++ (q .1 ∷ [])) ++ (r .0 ∷ []));
         is = ap (λ (y : List ℕ). b ∷ y) (q .2 ∙ ap (λ (y : List ℕ). full ++ (q .1 ∷ y)) (r .1) ∙ simp append-assoc);
-        holds = (
-          omega (arith, q .4),
-          r .3,
-          ap (λ (x : ℕ). x ∷ ((full ++ (q .1 ∷ [])) ++ (r .0 ∷ []))) h ∙ ap (λ (y : List ℕ). y ++ (r .0 ∷ [])) (sym mark),
-        );
+        holds = (omega (arith, q .4), r .3, rw mark (ap (λ (x : ℕ). x ∷ ((full ++ (q .1 ∷ [])) ++ (r .0 ∷ []))) h));
       })
 
 pub atom-taken : (b : ℕ) (s : List ℕ) (a : Atom) (t : List ℕ) → b < 256 → Bytes s → read-atom b s ≡ taken a t → SplitOff (SpellsAtom a) (b ∷ s) t
-unfolding read-atom Split
+unfolding read-atom
 atom-taken b s a t h bs e =
     by-choice (eqb b 0x00) _ _ (taken a t) (λ c q. nil-taken b s a t (eqb-true b 0x00 c) q) (λ c0 q.
     by-choice (eqb b 0x03) _ _ (taken a t) (λ c q. generic-array-taken b s a t (eqb-true b 0x03 c) bs q) (λ c3 q.

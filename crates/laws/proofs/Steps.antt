@@ -4,7 +4,7 @@ use Prim.Native.Nat.{ℕ, suc, _+_, _-_, _≤_, _<_}
 use mathlib.Core.Path.{_≡_, refl, sym, ap, _∙_, subst}
 use mathlib.Core.List.{List, [], _∷_, _++_}
 use mathlib.Core.Bool.{Bool, true, false}
-use lib.ListN.{length, take, drop, getD, length-append, length-drop}
+use lib.ListN.{length, take, drop, getD, length-append, length-drop, drop-of-length-le}
 use lib.Seq.{drop-cons, drop-drop, take-at, drop-at}
 use lib.Dec.{eqb}
 use native.Mathlib.Omega.{arith}
@@ -26,11 +26,7 @@ tokens-from s p = tokens p 0 (drop p s)
 
 -- nothing is left at the end
 pub none-left : (s : List ℕ) (p : ℕ) → length s ≤ p → drop p s ≡ []
-none-left s p h = go (drop p s) (length-drop p s ∙ omega arith)
-  where
-    go : (l : List ℕ) → length l ≡ 0 → l ≡ []
-    go [] e = refl
-    go (b ∷ l) e = absurd (omega arith)
+none-left s p h = drop-of-length-le s h
 
 -- what is left at p begins with x: how long both are, and where u begins
 module _ (s : List ℕ) (p : ℕ) (x u : List ℕ) (here : drop p s ≡ x ++ u) where

@@ -2,7 +2,6 @@
 -- Document 01: "Bytes to expressions", refusals 2 to 7. Assumes nothing.
 use Prim.Native.Nat.{ℕ, zero, suc, _+_, _-_, _≤_, _<_}
 use mathlib.Core.Path.{_≡_, refl, sym, ap, _∙_, subst}
-use mathlib.Core.Logic.{_⊎_, inl, inr}
 use mathlib.Core.List.{List, [], _∷_}
 use mathlib.Core.Bool.{Bool, true, false}
 use lib.ListN.{length, length-append}
@@ -12,7 +11,7 @@ use native.Mathlib.Omega.{arith}
 use Rattle.spec.specs.Expr.{if_then_else_, Atom, atom-bytes}
 use Rattle.spec.specs.Reading.{Taken, taken, failed, read-atom, Token, opening, closing, whole, bad, atom-token, token, further, tokens, Verdict, right, wrong, check}
 use Rattle.laws.specs.Demands.{Bytes}
-use Rattle.laws.proofs.Basics.{impossible}
+use Rattle.laws.proofs.Basics.{impossible, by-test}
 use Rattle.laws.proofs.Fits.{bytes-front, Fits}
 use Rattle.laws.proofs.Spelling.{front, atom-taken}
 use Rattle.laws.proofs.Shortest.{spelled-fits}
@@ -26,11 +25,7 @@ not-refused false w p v h = (refl, h)
 module _ (end room : ℕ) where
   pub right-end : (d n : ℕ) → check end room [] d n ≡ right → d ≡ 0
   unfolding check
-  right-end d n h = go (eqb d 0) refl h
-    where
-      go : (b : Bool) → eqb d 0 ≡ b → (if b then right else wrong 2 end) ≡ right → d ≡ 0
-      go true e h = eqb-true d 0 e
-      go false e h = impossible (cc)
+  right-end d n h = by-test (λ (v : Verdict). v ≡ right → d ≡ 0) (eqb d 0) (λ e k. eqb-true d 0 e) (λ e k. impossible (cc)) h
 
   pub right-opening : (ts : List Token) (p d n : ℕ) → check end room (opening p ∷ ts) d n ≡ right
       → (d < 64) × (n < room) × (check end room ts (d + 1) (n + 1) ≡ right)
@@ -148,48 +143,27 @@ laid-inside p (closing q ∷ ts) end l = omega (arith, l .0, laid-inside (q + 1)
 laid-inside p (whole a q e ∷ ts) end l = omega (arith, l .0, l .1, laid-inside e ts end (l .4))
 laid-inside p (bad w q ∷ ts) end l = l .0
 
--- a refusal has one of reading's numbers up to `most`, and a place in the stream
-abbrev pub RefusalInside : ℕ → ℕ → Verdict → Type 0
-RefusalInside most end right = Unit {0}
-RefusalInside most end (wrong w p) = (1 ≤ w) × (w ≤ most) × (p ≤ end)
+-- A refusal has one of reading's numbers and a place in the stream. With k rows there is a row for each token: then it is not 8.
+abbrev pub RefusalInside : ℕ → ℕ → ℕ → Verdict → Type 0
+RefusalInside end room k right = Unit {0}
+RefusalInside end room k (wrong w p) = (1 ≤ w) × (w ≤ 8) × (w ≤ 7 + (k - room)) × (p ≤ end)
 
-refusal-choice : (most end : ℕ) (b : Bool) (v v′ : Verdict) → (b ≡ true → RefusalInside most end v) → RefusalInside most end v′
-    → RefusalInside most end (if b then v else v′)
-refusal-choice most end true v v′ h k = h refl
-refusal-choice most end false v v′ h k = k
-
--- 8 is allowed, or there are k rows at least
-abbrev Enough : ℕ → ℕ → ℕ → Type 0
-Enough most room k = (8 ≤ most) ⊎ (k ≤ room)
-
-enough-less : (most room k j : ℕ) → j ≤ k → Enough most room k → Enough most room j
-enough-less most room k j h (inl m) = inl m
-enough-less most room k j h (inr r) = inr (omega arith)
-
-no-row : (most room n k : ℕ) → n < k → Enough most room k → leb room n ≡ true → 8 ≤ most
-no-row most room n k h (inl m) e = m
-no-row most room n k h (inr r) e = absurd (omega (arith, leb-true room n e))
-
-pub check-refusal : (most end room : ℕ) (ts : List Token) (p d n : ℕ) → Laid p ts end → 7 ≤ most → Enough most room (n + length ts)
-    → RefusalInside most end (check end room ts d n)
+pub check-refusal : (end room k : ℕ) (ts : List Token) (p d n : ℕ) → Laid p ts end → n + length ts ≤ k → RefusalInside end room k (check end room ts d n)
 unfolding check
-check-refusal most end room [] p d n l m r = refusal-choice most end (eqb d 0) right (wrong 2 end) (λ e. tt) (omega arith)
-check-refusal most end room (opening q ∷ ts) p d n l m r =
+check-refusal end room k [] p d n l h = by-test (RefusalInside end room k) (eqb d 0) (λ e. tt) (λ e. omega arith)
+check-refusal end room k (opening q ∷ ts) p d n l h =
     let here = laid-inside (q + 1) ts end (l .1) in
-    let k : ℕ = n + suc (length ts) in
-    refusal-choice most end (leb 64 d) (wrong 6 q) _ (λ e. omega arith)
-    (refusal-choice most end (leb room n) (wrong 8 q) _ (λ e. (omega arith, no-row most room n k (omega arith) r e, omega arith))
-    (check-refusal most end room ts (q + 1) (d + 1) (n + 1) (l .1) m (enough-less most room k (n + 1 + length ts) (omega arith) r)))
-check-refusal most end room (closing q ∷ ts) p d n l m r =
+    by-test (RefusalInside end room k) (leb 64 d) (λ e. omega arith) λ e.
+    by-test (RefusalInside end room k) (leb room n) (λ e. omega (arith, leb-true room n e)) λ e.
+    check-refusal end room k ts (q + 1) (d + 1) (n + 1) (l .1) (omega arith)
+check-refusal end room k (closing q ∷ ts) p d n l h =
     let here = laid-inside (q + 1) ts end (l .1) in
-    refusal-choice most end (eqb d 0) (wrong 3 q) _ (λ e. omega arith)
-    (check-refusal most end room ts (q + 1) (d - 1) n (l .1) m (enough-less most room (n + suc (length ts)) (n + length ts) (omega arith) r))
-check-refusal most end room (whole a q e ∷ ts) p d n l m r =
+    by-test (RefusalInside end room k) (eqb d 0) (λ e. omega arith) λ e. check-refusal end room k ts (q + 1) (d - 1) n (l .1) (omega arith)
+check-refusal end room k (whole a q e ∷ ts) p d n l h =
     let here = laid-inside e ts end (l .4) in
-    let k : ℕ = n + suc (length ts) in
-    refusal-choice most end (leb room n) (wrong 8 q) _ (λ b. (omega arith, no-row most room n k (omega arith) r b, omega (arith, l .1)))
-    (check-refusal most end room ts e d (n + 1) (l .4) m (enough-less most room k (n + 1 + length ts) (omega arith) r))
-check-refusal most end room (bad w q ∷ ts) p d n l m r = (l .2, omega (arith, l .3), l .1)
+    by-test (RefusalInside end room k) (leb room n) (λ b. omega (arith, leb-true room n b, l .1)) λ b.
+    check-refusal end room k ts e d (n + 1) (l .4) (omega arith)
+check-refusal end room k (bad w q ∷ ts) p d n l h = omega (arith, l .1, l .2, l .3)
 
 -- Rows enough
 

@@ -1,13 +1,13 @@
--- An invariant of evaluation. If the stream's expressions fit, so do those of the result, and none has over 64 forms one inside another;
--- every row that the run names is a row of the stream, and it stops only with the numbers of the rules.
--- Document 01: "a value with over 64 forms one inside another". Assumes nothing.
+-- An invariant of evaluation. If the stream's expressions fit, so do those of the result, none has over 64 forms one inside another, and their
+-- canonical bytes have been charged; every row that the run names is a row of the stream, and it stops only with the numbers of the rules.
+-- Document 01: "a value with over 64 forms one inside another", "Workspace". Assumes nothing.
 use Prim.Native.Nat.{ℕ, zero, suc, _+_, _≤_, _<_}
 use mathlib.Core.Path.{_≡_, refl}
 use mathlib.Core.List.{List, [], _∷_, _++_}
-use mathlib.Core.Bool.{Bool, true, false}
+use mathlib.Core.Bool.{false}
 use native.Mathlib.Omega.{arith}
-use lib.ListN.{drop}
-use Rattle.spec.specs.Expr.{if_then_else_, Atom, nil, array, int, ref, Expr, atom, form, Exprs, none, more, only, append, first, without, rows, rows-all, depth, deepest}
+use lib.ListN.{length, drop, length-append}
+use Rattle.spec.specs.Expr.{if_then_else_, Atom, nil, array, int, ref, Expr, atom, form, Exprs, none, more, only, append, first, without, rows, rows-all, depth, deepest, canonical}
 use Rattle.spec.specs.Nodes.{Word, Node, leaf, branch, Nodes, empty, cons, number, number-all, elements, tail, markers}
 use Rattle.spec.specs.Runs.{Event, step, charge, End, done, stopped, Run, stop, give, before, follow, bind}
 use Rattle.spec.specs.Plan.{Defined, value, function, Scope, Place, top, Arguments, outside, given, Here, Finish, as-form, as-definition, as-concat, as-call, Plan, refuse, leave, associate, define-function, inside, plan}
@@ -15,11 +15,12 @@ use Rattle.spec.specs.Evaluation.{Left, complete, join, Call, one-value, finish
 use Rattle.laws.specs.Demands.{Bytes}
 use Rattle.laws.specs.Holding.{beyond, in-list}
 use Rattle.laws.specs.Sanity.{RowsBelow, rule-number, RuleNumber, Proper}
-use Rattle.laws.proofs.Basics.{impossible}
+use Rattle.laws.proofs.Basics.{impossible, by-test}
 use Rattle.laws.proofs.Fits.{bytes-append, Fits, FitsExpr, FitsAll}
-use Rattle.laws.proofs.Charges.{Ends, complete-cases}
+use Rattle.laws.proofs.Canonical.{canonical-append}
+use Rattle.laws.proofs.Runs.{charges, charges-append}
 use Rattle.laws.proofs.Walk.{Rule, refuses, own, defined, argument, others, associates, defines, names, joins, forms, calls, calls-subst, rule}
-use Rattle.laws.proofs.Singles.{EachDefined, look-up-each}
+use Rattle.laws.proofs.Singles.{EachDefined, look-up-each, complete-cases}
 
 -- values that fit and have at most 64 forms one inside another
 abbrev pub Sound : Exprs → Type 0
@@ -54,16 +55,16 @@ first-sound (suc n) (more v vs) s =
     let others : Sound (first n vs) = first-sound n vs (s .0 .1, omega arith) in
     ((s .0 .0, others .0), omega arith)
 
--- a call's value
-call-fits : (b : Bool) (vs : Exprs) → FitsAll vs → FitsAll (if b then vs else only (form vs))
-call-fits true vs f = f
-call-fits false vs f = (f, tt)
-
 -- Rows and refusals
 
 -- 16, 17 and 18 are no rule's numbers: `not-rule refl`
 pub not-rule : {v w : ℕ} → rule-number v ≡ false → RuleNumber w → w ≡ v → ⊥
 not-rule n p q = impossible (cc)
+
+-- what holds of a result, or of a refusal
+abbrev Ends : {A : Type 0} → (ℕ → ℕ → Type 0) → (A → Type 0) → End A → Type 0
+Ends S P (done a) = P a
+Ends S P (stopped w r) = S w r
 
 -- What is so in a stream of so many rows
 module _ (bound : ℕ) where
@@ -71,38 +72,35 @@ module _ (bound : ℕ) where
   abbrev Stops : ℕ → ℕ → Type 0
   Stops w r = RuleNumber w × (r < bound)
 
-  -- a run that names rows of the stream and stops only as a rule says; P holds of its result
-  pub record Goes {A : Type 0} (P : A → Type 0) (run : Run A) : Type 0 where
+  -- a run that names rows of the stream and stops only as a rule says; P holds of its events and its result
+  pub record Goes {A : Type 0} (P : List Event → A → Type 0) (run : Run A) : Type 0 where
     pub rows-below : RowsBelow bound (run .events)
-    pub holds : Ends Stops P (run .end)
+    pub holds : Ends Stops (P (run .events)) (run .end)
 
   rows-append : (es fs : List Event) → RowsBelow bound es → RowsBelow bound fs → RowsBelow bound (es ++ fs)
   rows-append [] fs p q = q
   rows-append (step r ∷ es) fs p q = (p .0, rows-append es fs (p .1) q)
   rows-append (charge r m ∷ es) fs p q = (p .0, rows-append es fs (p .1) q)
 
-  bind-goes : {A B : Type 0} {P : A → Type 0} {Q : B → Type 0} {run : Run A} {f : A → Run B} → Goes P run →
-      ((a : A) → P a → Goes Q (f a)) → Goes Q (bind run f)
+  bind-goes : {A B : Type 0} {P : List Event → A → Type 0} {Q : List Event → B → Type 0} {run : Run A} {f : A → Run B} → Goes P run →
+      ((a : A) → P (run .events) a → Goes (λ es. Q (run .events ++ es)) (f a)) → Goes Q (bind run f)
   bind-goes {A} {P = P} {Q = Q} {run = run} {f = f} p q = go (run .end) (p .holds)
     where
-      go : (e : End A) → Ends Stops P e → Goes Q (follow (run .events) e f)
+      go : (e : End A) → Ends Stops (P (run .events)) e → Goes Q (follow (run .events) e f)
       go (done a) h = record {
         rows-below = rows-append (run .events) (f a .events) (p .rows-below) (q a h .rows-below);
         holds = q a h .holds;
       }
       go (stopped w r) h = record { rows-below = p .rows-below; holds = h }
 
-  module _ {A : Type 0} {P : A → Type 0} where
+  module _ {A : Type 0} {P : List Event → A → Type 0} where
     stop-goes : {w r : ℕ} → RuleNumber w → r < bound → Goes P (stop w r)
     stop-goes p q = record { rows-below = tt; holds = (p, q) }
 
-    give-goes : {a : A} → P a → Goes P (give a)
+    give-goes : {a : A} → P [] a → Goes P (give a)
     give-goes p = record { rows-below = tt; holds = p }
 
-    step-goes : {r : ℕ} {run : Run A} → r < bound → Goes P run → Goes P (before (step r) run)
-    step-goes p g = record { rows-below = (p, g .rows-below); holds = g .holds }
-
-  goes-proper : {A : Type 0} {P : A → Type 0} {run : Run A} → Goes P run → Proper bound run
+  goes-proper : {A : Type 0} {P : List Event → A → Type 0} {run : Run A} → Goes P run → Proper bound run
   goes-proper g = record { rows-below = g .rows-below; stops = λ w r p. rw p at (g .holds) }
 
   -- nodes that fit, at rows of the stream
@@ -189,8 +187,27 @@ module _ (bound : ℕ) where
 
   -- Evaluation: an expression that fits leaves sound values, and what follows is evaluated where all is sound too
 
-  abbrev SoundLeft : Left → Type 0
-  SoundLeft left = Sound (left .values) × SoundHere (left .here)
+  abbrev SoundLeft : List Event → Left → Type 0
+  SoundLeft es left = Sound (left .values) × SoundHere (left .here) × (length (canonical (left .values)) ≤ charges es)
+
+  -- what comes before doesn't matter
+  after-goes : {A : Type 0} {P : List Event → A → Type 0} {run : Run A} {f : A → Run Left} → Goes P run →
+      ((a : A) → P (run .events) a → Goes SoundLeft (f a)) → Goes SoundLeft (bind run f)
+  after-goes {run = run} {f} p q = bind-goes p λ a h. let g = q a h in record { rows-below = g .rows-below; holds = go (f a .end) (f a .events) (g .holds) }
+    where
+      go : (e : End Left) (es : List Event) → Ends Stops (SoundLeft es) e → Ends Stops (SoundLeft (run .events ++ es)) e
+      go (done left) es h = (h .0, h .1, omega (arith, h .2, charges-append (run .events) es))
+      go (stopped w r) es h = h
+
+  step-goes : {r : ℕ} {run : Run Left} → r < bound → Goes SoundLeft run → Goes SoundLeft (before (step r) run)
+  unfolding charges
+  step-goes p g = record { rows-below = (p, g .rows-below); holds = g .holds }
+
+  -- the first of a list, then the others: their charges add up
+  both-paid : (es fs : List Event) (vs ws : Exprs) → length (canonical vs) ≤ charges es → length (canonical ws) ≤ charges fs
+      → length (canonical (append vs ws)) ≤ charges (es ++ (fs ++ []))
+  unfolding charges
+  both-paid es fs vs ws p q = simp (canonical-append, length-append, charges-append) (omega arith)
 
   abbrev SoundMeaning : Meaning → Type 0
   SoundMeaning m = (h : Here) → SoundHere h → Goes SoundLeft (m h)
@@ -205,8 +222,9 @@ module _ (bound : ℕ) where
   drop-sound (suc k) (m ∷ ms) s = drop-sound k ms (s .1)
 
   complete-sound : (r : ℕ) (vs : Exprs) (h : Here) → r < bound → FitsAll vs → SoundHere h → Goes SoundLeft (complete r vs h)
+  unfolding charges
   complete-sound r vs h q f s =
-      complete-cases (Goes SoundLeft) r vs h (stop-goes refl q) λ d. record { rows-below = (q, tt); holds = ((f, d), s) }
+      complete-cases (Goes SoundLeft) r vs h (stop-goes refl q) λ d. record { rows-below = (q, tt); holds = ((f, d), s, omega arith) }
 
   join-sound : (r : ℕ) (bs : List ℕ) (vs : Exprs) (h : Here) → r < bound → Bytes bs → FitsAll vs → SoundHere h →
       Goes SoundLeft (join r bs vs h)
@@ -219,11 +237,11 @@ module _ (bound : ℕ) where
   join-sound r bs (more (form es) vs) h q g f s = stop-goes refl q
 
   in-order-sound : (ms : List Meaning) (h : Here) → SoundMeanings ms → SoundHere h → Goes SoundLeft (in-order ms h)
-  unfolding in-order
-  in-order-sound [] h m s = give-goes (none-sound, s)
+  unfolding in-order canonical
+  in-order-sound [] h m s = give-goes (none-sound, s, omega arith)
   in-order-sound (e ∷ es) h m s =
       bind-goes (m .0 h s) λ left l. bind-goes (in-order-sound es (left .here) (m .1) (l .1))
-      λ later k. give-goes (append-sound (left .values) (later .values) (l .0) (k .0), k .1)
+      λ later k. give-goes (append-sound (left .values) (later .values) (l .0) (k .0), k .1, both-paid _ _ (left .values) (later .values) (l .2) (k .2))
 
   abbrev SoundCall : Call → Type 0
   SoundCall call = (r : ℕ) (code : Nodes) (h : Here) → r < bound → FitsNodes code → SoundHere h → Goes SoundLeft (call r code h)
@@ -231,22 +249,24 @@ module _ (bound : ℕ) where
   module _ (call : Call) (calls : SoundCall call) where
     finish-sound : (r : ℕ) (h : Here) (f : Finish) (vs : Exprs) → r < bound → SoundFinish f → Sound vs → SoundHere h →
         Goes SoundLeft (finish call r h f vs)
+    unfolding canonical
     finish-sound r h as-form vs q f v s = complete-sound r (only (form vs)) h q (v .0, tt) s
-    finish-sound r h (as-definition m n) vs q f v s = give-goes (none-sound, ((v, s .0), s .1))
+    finish-sound r h (as-definition m n) vs q f v s = give-goes (none-sound, ((v, s .0), s .1), omega arith)
     finish-sound r h as-concat vs q f v s = join-sound r [] vs h q tt (v .0) s
     finish-sound r h (as-call code scope) vs q f v s =
-        bind-goes (calls r code _ q (f .0) (f .1, v))
+        after-goes (calls r code _ q (f .0) (f .1, v))
         λ left l. complete-sound r (if one-value code then left .values else only (form (left .values))) h q
-        (call-fits (one-value code) (left .values) (l .0 .0)) s
+        (by-test FitsAll (one-value code) (λ e. l .0 .0) (λ e. (l .0 .0, tt))) s
 
     perform-sound : (r : ℕ) (ms : List Meaning) (h : Here) (p : Plan) → r < bound → SoundPlan p → SoundMeanings ms → SoundHere h →
         Goes SoundLeft (perform call r ms h p)
+    unfolding canonical
     perform-sound r ms h (refuse w) q v m s = stop-goes v q
     perform-sound r ms h (leave vs) q v m s = complete-sound r vs h q (v .0) s
     perform-sound r ms h (associate k n id) q v m s = complete-sound r (ns-form k n id) _ q v s
-    perform-sound r ms h (define-function d) q v m s = give-goes (none-sound, ((v, s .0), s .1))
+    perform-sound r ms h (define-function d) q v m s = give-goes (none-sound, ((v, s .0), s .1), omega arith)
     perform-sound r ms h (inside k p f) q v m s =
-        bind-goes (in-order-sound (drop k ms) (standing p h) (drop-sound k ms m) s) λ left l. finish-sound r h f (left .values) q v (l .0) s
+        after-goes (in-order-sound (drop k ms) (standing p h) (drop-sound k ms m) s) λ left l. finish-sound r h f (left .values) q v (l .0) s
 
     mutual
       unfolding eval
@@ -269,33 +289,38 @@ module _ (bound : ℕ) where
 
   module _ (k : ℕ) where
     in-list-sound : (es : Nodes) (p : Place) (h : Here) → FitsNodes es → SoundHere h → Goes SoundLeft (in-list (run-code k) es p h)
-    unfolding in-list
-    in-list-sound empty p h f s = give-goes (none-sound, s)
+    unfolding in-list canonical
+    in-list-sound empty p h f s = give-goes (none-sound, s, omega arith)
     in-list-sound (cons e es) p h f s =
         bind-goes (eval-sound (run-code k) (run-code-sound k) e (f .0) (standing p h) s)
         λ left l. bind-goes (in-list-sound es (beyond e p) (left .here) (f .1) (l .1))
-        λ later m. give-goes (append-sound (left .values) (later .values) (l .0) (m .0), m .1)
+        λ later m. give-goes (append-sound (left .values) (later .values) (l .0) (m .0), m .1, both-paid _ _ (left .values) (later .values) (l .2) (m .2))
 
     pub in-list-left : (es : Nodes) (p : Place) (h : Here) (left : Left) → FitsNodes es → SoundHere h → in-list (run-code k) es p h .end ≡ done left
         → Sound (left .values) × SoundHere (left .here)
-    in-list-left es p h left f s q = rw q at (in-list-sound es p h f s .holds)
+    in-list-left es p h left f s q = let l = rw q at (in-list-sound es p h f s .holds) in (l .0, l .1)
 
-  top-level-sound : (earlier : List ℕ) (es : Nodes) (h : Here) → FitsNodes es → SoundHere h →
-      Goes (λ ls. Sound (result ls)) (top-level earlier es h)
-  unfolding top-level result
-  top-level-sound earlier empty h f s = give-goes none-sound
+  -- the result of the top level, too
+  abbrev SoundResult : List Event → List Exprs → Type 0
+  SoundResult es ls = Sound (result ls) × (length (canonical (result ls)) ≤ charges es)
+
+  top-level-sound : (earlier : List ℕ) (es : Nodes) (h : Here) → FitsNodes es → SoundHere h → Goes SoundResult (top-level earlier es h)
+  unfolding top-level result canonical
+  top-level-sound earlier empty h f s = give-goes (none-sound, omega arith)
   top-level-sound earlier (cons e es) h f s =
       bind-goes (eval-sound (run-code 32) (run-code-sound 32) e (f .0) (standing (top earlier) h) s)
       λ left l. bind-goes (top-level-sound (markers e ++ earlier) es (left .here) (f .1) (l .1))
-      λ ls k. give-goes (append-sound (left .values) (result ls) (l .0) k)
+      λ ls k. give-goes (append-sound (left .values) (result ls) (l .0) (k .0), both-paid _ _ (left .values) (result ls) (l .2) (k .1))
 
-run-goes : (es : Exprs) → FitsAll es → Goes (rows-all es) (λ ls. Sound (result ls)) (run es)
+run-goes : (es : Exprs) → FitsAll es → Goes (rows-all es) (SoundResult (rows-all es)) (run es)
 unfolding run
 run-goes es f =
     let all : ℕ = rows-all es in
     top-level-sound all [] (number-all 0 es) start (number-all-fits all 0 es (omega arith) f) (tt, tt)
 
-pub run-fits : (es : Exprs) (ls : List Exprs) → FitsAll es → run es .end ≡ done ls → FitsAll (result ls) × (deepest (result ls) ≤ 64)
+-- what a run that ends leaves
+pub run-fits : (es : Exprs) (ls : List Exprs) → FitsAll es → run es .end ≡ done ls
+    → Sound (result ls) × (length (canonical (result ls)) ≤ charges (run es .events))
 run-fits es ls f p = rw p at (run-goes es f .holds)
 
 pub run-proper : (es : Exprs) → FitsAll es → Proper (rows-all es) (run es)
