@@ -3,7 +3,6 @@
 use Prim.Native.Nat.{ℕ, _+_, _-_, _≤_, _<_}
 use mathlib.Core.Path.{_≡_, refl, _∙_}
 use mathlib.Core.List.{List, [], _∷_}
-use mathlib.Core.Bool.{Bool, true, false}
 use native.Mathlib.Omega.{arith}
 use lib.ListN.{length, length-append}
 use lib.Dec.{eqb}
@@ -158,17 +157,16 @@ module _ (s : List ℕ) (room p d n saved : ℕ) (f : Checking s room p d n save
       go (Bad w q) x = answer-wrong s room (f .short) w q (f .verdict ∙ rw (x .1))
 
   -- at the stream's end
-  pub check-end : length s ≤ p → Answers s room (if eqb d 0 then Right n (p - saved) else Wrong 2 p)
-  unfolding check rows-of token-bytes
-  check-end end = go (eqb d 0) refl
-    where
-      none : tokens-from s p ≡ []
-      none = tokens-end s p end
+  module _ (end : length s ≤ p) where
+    check-end : check (length s) room (tokens 0 0 s) 0 0 ≡ (if eqb d 0 then right else wrong 2 p)
+    unfolding check
+    check-end = let at-end : length s ≡ p = omega arith in f .verdict ∙ rw (tokens-end s p end, at-end)
 
-      at-end : length s ≡ p
-      at-end = omega arith
+    pub end-right : d ≡ 0 → Answers s room (Right n (p - saved))
+    unfolding rows-of token-bytes
+    end-right h =
+        let none = tokens-end s p end in
+        answer-right s room (f .short) n (p - saved) (check-end ∙ rw h) (f .counted ∙ rw none (omega arith)) (f .sized ∙ rw none (omega arith))
 
-      go : (b : Bool) → eqb d 0 ≡ b → Answers s room (if b then Right n (p - saved) else Wrong 2 p)
-      go true e =
-          answer-right s room (f .short) n (p - saved) (f .verdict ∙ rw (none, e)) (f .counted ∙ rw none (omega arith)) (f .sized ∙ rw none (omega arith))
-      go false e = rw (← at-end) (answer-wrong s room (f .short) 2 (length s) (f .verdict ∙ rw (none, e)))
+    pub end-wrong : (d ≡ 0 → ⊥) → Answers s room (Wrong 2 p)
+    end-wrong h = answer-wrong s room (f .short) 2 p (check-end ∙ rw (ne-eqb d 0 h))
