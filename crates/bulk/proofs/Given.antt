@@ -9,14 +9,13 @@ use Rattle.spec.specs.Reading.{row-width}
 use Rattle.spec.specs.Calls.{Answer, Read, Write, Evaluate, Buffer, of-stream, of-result, part, chosen, Item}
 use Rattle.laws.specs.Demands.{Bytes, Lent, evaluation}
 use Rattle.laws.proofs.Theorems.{read-keeps, write-keeps, read-fits, write-fits, evaluation-keeps, evaluation-fits}
-use Rattle.reader.specs.Passes.{of-buffer}
-use Rattle.reader.specs.declared.Part.{Part as Place}
-use Rattle.reader.specs.declared.Part.the-variants.{Of}
-use Rattle.bulk.specs.Answers.{Answered, AnsweredEvaluation, PartItself}
+use Rattle.bulk.specs.Answers.{Answered, AnsweredEvaluation, of-buffer, PartItself}
 use Rattle.bulk.specs.declared.Answer.{Answer as Told}
 use Rattle.bulk.specs.declared.Answer.the-variants.{Accepted}
 use Rattle.bulk.specs.declared.Evaluation.{Evaluation}
 use Rattle.bulk.specs.declared.Evaluation.the-variants.{Accepted as Result}
+use Rattle.bulk.specs.declared.Part.{Part as Place}
+use Rattle.bulk.specs.declared.Part.the-variants.{Of}
 use Rattle.bulk.proofs.Items.{item-inside}
 
 module _ (r : Told) (n : ℕ) (s t t′ : List ℕ) (accepted : r ≡ Accepted n) where

@@ -12,6 +12,8 @@ use Rattle.bulk.specs.declared.Evaluation.{Evaluation}
 use Rattle.bulk.specs.declared.Evaluation.the-variants.{Accepted as Result, Refused as Refusal}
 use Rattle.bulk.specs.declared.Buffer.{Buffer as Which}
 use Rattle.bulk.specs.declared.Buffer.the-variants.{Stream, Result as OfResult}
+use Rattle.bulk.specs.declared.Part.{Part as Place}
+use Rattle.bulk.specs.declared.Part.the-variants.{Of, Empty}
 
 -- What Read and Write answer, with the table and the output afterwards. "Acceptance gives number 0 and place 0"; "A refusal gives number and
 -- place, counts zero." Neither takes a step.
@@ -47,6 +49,11 @@ pub record AnsweredEvaluation (a : Answer) (r : Evaluation) (table output : List
 abbrev pub asked : Which → Buffer
 asked Stream = of-stream
 asked OfResult = of-result
+
+-- a place in the buffer that was asked for
+abbrev pub of-buffer : Buffer → Place → Part
+of-buffer b (Of start end) = part b start end
+of-buffer b Empty = no-part
 
 -- the bytes of "the part itself, of one lent buffer or the other"
 abbrev pub part-bytes : Part → List ℕ → List ℕ → List ℕ

@@ -2,17 +2,27 @@
 // assumes nothing.
 use evaluator::Result;
 use reader::Checked;
+use reader::Found;
 ghost use mathlib.Core.Path.{_≡_};
 ghost use mathlib.Core.List.{List, []};
 ghost use Prim.Native.Nat.{ℕ};
 ghost use lib.ListN.{length};
 ghost use denote.Ref.{RefT};
-ghost use Rattle.spec.specs.Calls.{Read, Write, Evaluate, Item, Buffer as Chosen};
-ghost use Rattle.bulk.specs.Answers.{Answered, AnsweredEvaluation, asked, lent, PartItself};
-ghost use Rattle.reader.specs.Passes.{of-buffer};
+ghost use Rattle.spec.specs.Reading.{read as reading};
+ghost use Rattle.spec.specs.Calls.{Read, Write, Evaluate, Item, Buffer as Chosen, item-read};
+ghost use Rattle.bulk.specs.Answers.{Answered, AnsweredEvaluation, asked, of-buffer, lent, PartItself};
+
+// The bytes of the longest stream.
+pub const STREAM_LIMIT: usize = reader::STREAM_LIMIT;
 
 // The numbers of a row.
 pub const ROW_WIDTH: usize = reader::ROW_WIDTH;
+
+// A table with a row for every byte of the longest stream: no stream has more rows.
+pub const TABLE_LIMIT: usize = ROW_WIDTH * STREAM_LIMIT;
+
+// The bytes that count of a workspace: no result is longer.
+pub const WORKSPACE_LIMIT: usize = 65536;
 
 // What Read and Write answer: the number of rows or the length, or a refusal's number and place.
 pub enum Answer {
@@ -32,8 +42,11 @@ pub enum Buffer {
     Result,
 }
 
-// Where an item is in its buffer: `Of { start, end }` or `Empty`.
-pub use reader::Part;
+// Where an item is in its buffer.
+pub enum Part {
+    Of { start: usize, end: usize },
+    Empty,
+}
 
 // Reads a stream into a table of four numbers a row: kind, start, end, next row. Gives the number of rows. A refusal leaves the table as it was.
 pub fn read(stream: &[u8], table: &mut [u32]) -> Answer
@@ -112,8 +125,8 @@ fn item_of<'a>(buffer: &'a [u8], k: usize) -> &'a [u8]
     ensures { λ x. ⌜ ((b : Chosen) (stream result : RefT (List ℕ)) → lent b stream result ≡ buffer .entry → PartItself (Item (now stream) (now result) b k) stream result x) ⌝ }
 {
     match reader::locate(buffer, k) {
-        Part::Of { start, end } => &buffer[start..end],
-        Part::Empty => &buffer[..0],
+        Found::At(start, end) => &buffer[start..end],
+        Found::Nothing => &buffer[..0],
     }
 }
 
@@ -127,12 +140,22 @@ pub fn item<'a>(stream: &'a [u8], result: &'a [u8], which: Buffer, k: usize) -> 
     }
 }
 
+// Where item k of a buffer is.
+fn place_of(buffer: &[u8], k: usize) -> Part
+    ensures { λ r. ⌜ ((b : Chosen) → of-buffer b r ≡ item-read b k (reading (now (buffer .entry)) (length (now (buffer .entry))))) ⌝ }
+{
+    match reader::locate(buffer, k) {
+        Found::At(start, end) => Part::Of { start, end },
+        Found::Nothing => Part::Empty,
+    }
+}
+
 // Where in its buffer the part is that `item` gives.
 pub fn item_part(stream: &[u8], result: &[u8], which: Buffer, k: usize) -> Part
     ensures { λ r. ⌜ of-buffer (asked which) r ≡ Item (now (stream .entry)) (now (result .entry)) (asked which) k ⌝ }
 {
     match which {
-        Buffer::Stream => reader::locate(stream, k),
-        Buffer::Result => reader::locate(result, k),
+        Buffer::Stream => place_of(stream, k),
+        Buffer::Result => place_of(result, k),
     }
 }

@@ -10,8 +10,8 @@ use Rattle.spec.specs.Calls.{filled, reading, Buffer, Part, part, no-part}
 use Rattle.laws.specs.Demands.{meaning-of, CanRead}
 use Rattle.reader.specs.declared.Checked.{Checked}
 use Rattle.reader.specs.declared.Checked.the-variants.{Right, Wrong}
-use Rattle.reader.specs.declared.Part.{Part as Place}
-use Rattle.reader.specs.declared.Part.the-variants.{Of, Empty}
+use Rattle.reader.specs.declared.Found.{Found}
+use Rattle.reader.specs.declared.Found.the-variants.{At, Nothing}
 
 -- what is counted of a stream that can be read, or its refusal
 abbrev pub checked : Reading → Checked
@@ -47,7 +47,7 @@ ReadInto s table table′ (Wrong number place) = NotRead s table table′ number
 abbrev pub RightFrom : List ℕ → ℕ → ℕ → Type 0
 RightFrom s p d = (n : ℕ) × (check (length s) (length s) (tokens p 0 (drop p s)) d n ≡ right)
 
--- a place in the buffer that was asked for
-abbrev pub of-buffer : Buffer → Place → Part
-of-buffer b (Of start end) = part b start end
-of-buffer b Empty = no-part
+-- what was found, as a part of the buffer that was asked for
+abbrev pub found-part : Buffer → Found → Part
+found-part b (At start end) = part b start end
+found-part b Nothing = no-part

@@ -9,7 +9,10 @@ ghost use Rattle.spec.specs.Reading.{tokens, ends, rows-of, row-width, read};
 ghost use Rattle.spec.specs.Calls.{filled, row-at, Buffer, item, item-read};
 ghost use Rattle.laws.specs.Demands.{meaning-of, CanRead};
 ghost use Rattle.atoms.specs.Tokens.{atom-head};
-ghost use Rattle.reader.specs.Passes.{checked, row-started, row-ended, ReadInto, RightFrom, of-buffer};
+ghost use Rattle.reader.specs.Passes.{checked, row-started, row-ended, ReadInto, RightFrom, found-part};
+
+// The bytes of the longest stream.
+pub const STREAM_LIMIT: usize = 65536;
 
 // The numbers of a row.
 pub const ROW_WIDTH: usize = 4;
@@ -83,9 +86,7 @@ fn check_tokens(s: &[u8], room: usize) -> Checked
                 saved += spared(kind, at, body, end);
                 at = end;
             }
-            Token::Bad { number, place } => {
-                return Checked::Wrong(number, place);
-            }
+            Token::Bad { number, place } => return Checked::Wrong(number, place),
         }
     }
     if depth == 0 {
@@ -98,7 +99,7 @@ fn check_tokens(s: &[u8], room: usize) -> Checked
 pub fn check(s: &[u8], room: usize) -> Checked
     ensures { λ r. ⌜ r ≡ checked (read (now (s .entry)) room) ⌝ }
 {
-    if 65536 < s.len() {
+    if STREAM_LIMIT < s.len() {
         return Checked::Wrong(1, 0);
     }
     check_tokens(s, room)
@@ -232,36 +233,36 @@ pub fn expression_end(s: &[u8], at: usize) -> usize
     }
 }
 
-// Where an item is in its buffer.
-pub enum Part {
-    Of { start: usize, end: usize },
-    Empty,
+pub enum Found {
+    // Where the expression starts and ends.
+    At(usize, usize),
+    Nothing,
 }
 
 // Top-level expression k of a stream that can be read.
-fn find(s: &[u8], k: usize) -> Part
+fn find(s: &[u8], k: usize) -> Found
     requires { ⌜ CanRead (now s) ⌝ }
-    ensures { λ r. ⌜ ((b : Buffer) → of-buffer b r ≡ item b (rows-of (tokens 0 0 (now (s .entry)))) k (meaning-of (now (s .entry)))) ⌝ }
+    ensures { λ r. ⌜ ((b : Buffer) → found-part b r ≡ item b (rows-of (tokens 0 0 (now (s .entry)))) k (meaning-of (now (s .entry)))) ⌝ }
 {
     let mut at: usize = 0;
     let mut n = k;
     while at < s.len() {
         let end = expression_end(s, at);
         if n == 0 {
-            return Part::Of { start: at, end };
+            return Found::At(at, end);
         }
         n -= 1;
         at = end;
     }
-    Part::Empty
+    Found::Nothing
 }
 
 // Top-level expression k of a stream; none if it can't be read.
-pub fn locate(s: &[u8], k: usize) -> Part
-    ensures { λ r. ⌜ ((b : Buffer) → of-buffer b r ≡ item-read b k (read (now (s .entry)) (length (now (s .entry))))) ⌝ }
+pub fn locate(s: &[u8], k: usize) -> Found
+    ensures { λ r. ⌜ ((b : Buffer) → found-part b r ≡ item-read b k (read (now (s .entry)) (length (now (s .entry))))) ⌝ }
 {
     match check(s, s.len()) {
-        Checked::Wrong(_, _) => Part::Empty,
+        Checked::Wrong(_, _) => Found::Nothing,
         Checked::Right(_, _) => find(s, k),
     }
 }

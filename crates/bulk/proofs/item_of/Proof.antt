@@ -9,9 +9,9 @@ use lib.ListN.{length, length-take, length-drop}
 use denote.Ref.{RefT}
 use Rattle.spec.specs.Calls.{Buffer, of-stream, of-result, chosen, Item}
 use Rattle.laws.proofs.Steps.{all-bytes}
-use Rattle.reader.specs.Passes.{of-buffer}
-use Rattle.reader.specs.declared.Part.{Part as Place}
-use Rattle.reader.specs.declared.Part.the-variants.{Empty}
+use Rattle.reader.specs.Passes.{found-part}
+use Rattle.reader.specs.declared.Found.{Found}
+use Rattle.reader.specs.declared.Found.the-variants.{Nothing}
 use Rattle.bulk.specs.Answers.{lent}
 use Rattle.bulk.proofs.Items.{item-inside}
 use Rattle.bulk.proofs.item_of.Statement.{statement}
@@ -22,8 +22,8 @@ chosen-lent of-stream stream result = refl
 chosen-lent of-result stream result = refl
 
 -- the part that was told, where it is this
-at-locate : (c : tie.After-locate) (r : Place) → c .locate .result ≡ r → (b : Buffer) (stream result : RefT (List ℕ))
-    → lent b stream result ≡ c .before .before .args .buffer → of-buffer b r ≡ Item (stream .now) (result .now) b (c .before .before .args .k)
+at-locate : (c : tie.After-locate) (r : Found) → c .locate .result ≡ r → (b : Buffer) (stream result : RefT (List ℕ))
+    → lent b stream result ≡ c .before .before .args .buffer → found-part b r ≡ Item (stream .now) (result .now) b (c .before .before .args .k)
 unfolding Item
 at-locate c r e b stream result same = rw (← chosen-lent b stream result, same) (rw e at (c .locate .ensures b))
 
@@ -54,7 +54,7 @@ returns c =
 
 returns-2 : tie.Need-returns-2
 returns-2 c =
-    λ b stream result same. rw (← at-locate (c .before .before .before) Empty (c .before .enum-told .given .1) b stream result same)
+    λ b stream result same. rw (← at-locate (c .before .before .before) Nothing (c .before .enum-told .given .1) b stream result same)
     (record { bytes = refl; place = tt })
 
 pub item-of-spec : {M : Type 1} → statement M

@@ -7,11 +7,11 @@ use Rattle.bulk.proofs.item_part.Tie as tie
 
 returns : tie.Need-returns
 unfolding Item
-returns c = rw (c .before .enum-told .given .1) (c .locate .ensures of-stream)
+returns c = rw (c .before .enum-told .given .1) (c .place-of .ensures of-stream)
 
 returns-2 : tie.Need-returns-2
 unfolding Item
-returns-2 c = rw (c .before .enum-told2 .given .1) (c .locate2 .ensures of-result)
+returns-2 c = rw (c .before .enum-told2 .given .1) (c .place-of2 .ensures of-result)
 
 pub item-part-spec : {M : Type 1} → statement M
 item-part-spec =

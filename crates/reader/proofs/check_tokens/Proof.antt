@@ -5,7 +5,6 @@ use Prim.Native.Nat.{_-_}
 use mathlib.Core.Path.{_≡_, sym, _∙_}
 use native.Mathlib.Omega.{arith}
 use lib.ListN.{length}
-use Rattle.laws.proofs.Steps.{all-bytes}
 use Rattle.atoms.specs.declared.Token.{Token as Answer}
 use Rattle.atoms.specs.declared.Token.the-variants.{Opening, Closing, Whole}
 use Rattle.reader.proofs.Checking.{Checking, checking-start, CheckTurn, check-turn, end-right, end-wrong}
@@ -19,7 +18,7 @@ abbrev μ-loop : tie.MeasureT-loop
 μ-loop s room at₀ depth₀ rows₀ saved₀ at depth rows saved = length s - at
 
 loop-holds : tie.Need-loop-holds Inv-loop μ-loop
-loop-holds c = checking-start _ _ (all-bytes (c .before .args .s .now) (λ i. c .shared-slice-known .given i .fits)) (c .before .pre)
+loop-holds c = checking-start _ _
 
 -- what is known of the turn where the token is this one
 abbrev TurnAt : tie.At-loop Inv-loop μ-loop → Answer → Type 0
@@ -29,7 +28,9 @@ TurnAt c r =
     CheckTurn (a .s .now) (a .room) (l .at) (l .depth) (l .rows) (l .saved) r
 
 at-token : (c : tie.After-token-at Inv-loop μ-loop) (r : Answer) → c .token-at .result ≡ r → TurnAt (c .before .before) r
-at-token c r e = check-turn _ _ _ _ _ _ (c .before .before .loop .inv) (c .before .loop-test .taken) r (sym e ∙ c .token-at .ensures)
+at-token c r e =
+    let l = c .before .before in
+    check-turn _ _ _ _ _ _ (l .before .before .pre) (l .loop .inv) (c .before .loop-test .taken) (λ i. l .before .shared-slice-known .given i .fits) r (sym e ∙ c .token-at .ensures)
 
 at-opening : (c : tie.After-enum-told Inv-loop μ-loop) → TurnAt (c .before .before .before .before) Opening
 at-opening c = at-token (c .before .before) Opening (c .enum-told .given .1)
@@ -75,10 +76,10 @@ returns-5 : tie.Need-returns-5 Inv-loop μ-loop
 returns-5 c = at-token (c .before .before .before) _ (c .before .number .given .1)
 
 returns-6 : tie.Need-returns-6 Inv-loop μ-loop
-returns-6 c = end-right _ _ _ _ _ _ (c .before .before .loop .inv) (c .before .loop-test .left) (c .if5 .taken)
+returns-6 c = let l = c .before .before in end-right _ _ _ _ _ _ (l .before .before .pre) (l .loop .inv) (c .before .loop-test .left) (c .if5 .taken)
 
 returns-7 : tie.Need-returns-7 Inv-loop μ-loop
-returns-7 c = end-wrong _ _ _ _ _ _ (c .before .before .loop .inv) (c .before .loop-test .left) (c .if5 .left)
+returns-7 c = let l = c .before .before in end-wrong _ _ _ _ _ _ (l .before .before .pre) (l .loop .inv) (c .before .loop-test .left) (c .if5 .left)
 
 pub check-tokens-spec : {M : Type 1} → statement M
 check-tokens-spec =
