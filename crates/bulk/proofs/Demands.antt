@@ -27,7 +27,7 @@ use Rattle.bulk.specs.declared.Answer.the-variants.{Accepted, Refused}
 use Rattle.bulk.specs.declared.Buffer.{Buffer as Which}
 use Rattle.bulk.specs.declared.Evaluation.{Evaluation}
 use Rattle.bulk.specs.declared.Evaluation.the-variants.{Accepted as Result, Refused as Refusal}
-use Rattle.bulk.proofs.Told.{ItemIs, nothing, something, item-is}
+use Rattle.bulk.proofs.Items.{ItemIs, nothing, something, item-is}
 
 -- A call of `evaluate`, from what its contract says; w is what the workspace held. (Of `read` and `write` the contract is the record's last field.)
 pub evaluate-call : (s t w o : List ℕ) (steps : ℕ) (r : Evaluation) (t′ o′ : List ℕ) → AnsweredEvaluation (Evaluate s t (length w) o steps) r t′ o′

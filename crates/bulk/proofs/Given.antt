@@ -16,7 +16,7 @@ use Rattle.bulk.specs.declared.Evaluation.{Evaluation}
 use Rattle.bulk.specs.declared.Evaluation.the-variants.{Accepted as Result}
 use Rattle.bulk.specs.declared.Part.{Part as Place}
 use Rattle.bulk.specs.declared.Part.the-variants.{Of}
-use Rattle.bulk.proofs.Told.{item-inside}
+use Rattle.bulk.proofs.Items.{item-inside}
 
 module _ (r : Told) (n : ℕ) (s t t′ : List ℕ) (accepted : r ≡ Accepted n) where
   told-given : (o : List ℕ) (a : Answer) → Answered a r t′ o → n ≡ a .given

@@ -1,4 +1,4 @@
-pub mod Told
+pub mod Answering
+pub mod Items
 pub mod Given
-pub mod Evaluating
 pub mod Demands

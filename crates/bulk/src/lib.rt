@@ -5,15 +5,24 @@ use reader::Checked;
 use reader::Found;
 ghost use mathlib.Core.Path.{_≡_};
 ghost use mathlib.Core.List.{List, []};
-ghost use Prim.Native.Nat.{ℕ, _/_};
+ghost use Prim.Native.Nat.{ℕ};
 ghost use lib.ListN.{length};
 ghost use denote.Ref.{RefT};
-ghost use Rattle.spec.specs.Reading.{row-width};
-ghost use Rattle.spec.specs.Calls.{Read, Write, Evaluate, Item, Buffer as Chosen, chosen};
+ghost use Rattle.spec.specs.Reading.{read as reading};
+ghost use Rattle.spec.specs.Calls.{Read, Write, Evaluate, Item, Buffer as Chosen, item-read};
 ghost use Rattle.bulk.specs.Answers.{Answered, AnsweredEvaluation, asked, of-buffer, lent, PartItself};
+
+// The bytes of the longest stream.
+pub const STREAM_LIMIT: usize = reader::STREAM_LIMIT;
 
 // The numbers of a row.
 pub const ROW_WIDTH: usize = reader::ROW_WIDTH;
+
+// A table with a row for every byte of the longest stream: no stream has more rows.
+pub const TABLE_LIMIT: usize = ROW_WIDTH * STREAM_LIMIT;
+
+// The bytes that count of a workspace: no result is longer.
+pub const WORKSPACE_LIMIT: usize = 65536;
 
 // What Read and Write answer: the number of rows or the length, or a refusal's number and place.
 pub enum Answer {
@@ -39,23 +48,13 @@ pub enum Part {
     Empty,
 }
 
-// How many rows a table has room for.
-fn rows_available(table: &[u32]) -> usize
-    ensures { λ r. ⌜ r ≡ length (now (table .entry)) / row-width ⌝ }
-{
-    table.len() / ROW_WIDTH
-}
-
 // Reads a stream into a table of four numbers a row: kind, start, end, next row. Gives the number of rows. A refusal leaves the table as it was.
 pub fn read(stream: &[u8], table: &mut [u32]) -> Answer
     ensures { λ r. ⌜ Answered (Read (now (stream .entry)) (now (table .entry))) r (now (table .exit)) [] ⌝ }
 {
-    match reader::check(stream, rows_available(table)) {
-        Checked::Wrong { number, place } => Answer::Refused { number, place },
-        Checked::Right { rows, length: _ } => {
-            reader::fill(stream, table);
-            Answer::Accepted { given: rows }
-        }
+    match reader::read_rows(stream, table) {
+        Checked::Wrong(number, place) => Answer::Refused { number, place },
+        Checked::Right(rows, _) => Answer::Accepted { given: rows },
     }
 }
 
@@ -64,10 +63,9 @@ pub fn write(stream: &[u8], table: &mut [u32], output: &mut [u8]) -> Answer
     ensures { λ r.
         ⌜ Answered (Write (now (stream .entry)) (now (table .entry)) (now (output .entry))) r (now (table .exit)) (now (output .exit)) ⌝ }
 {
-    match reader::check(stream, rows_available(table)) {
-        Checked::Wrong { number, place } => Answer::Refused { number, place },
-        Checked::Right { rows: _, length } => {
-            reader::fill(stream, table);
+    match reader::read_rows(stream, table) {
+        Checked::Wrong(number, place) => Answer::Refused { number, place },
+        Checked::Right(_, length) => {
             if output.len() < length {
                 return Answer::Refused {
                     number: 18,
@@ -96,10 +94,9 @@ pub fn evaluate(
     ensures { λ r.
         ⌜ AnsweredEvaluation (Evaluate (now (stream .entry)) (now (table .entry)) (length (now (workspace .entry))) (now (output .entry)) steps) r (now (table .exit)) (now (output .exit)) ⌝ }
 {
-    match reader::check(stream, rows_available(table)) {
-        Checked::Wrong { number, place } => Evaluation::Refused { number, place },
-        Checked::Right { rows, length: _ } => {
-            reader::fill(stream, table);
+    match reader::read_rows(stream, table) {
+        Checked::Wrong(number, place) => Evaluation::Refused { number, place },
+        Checked::Right(rows, _) => {
             match evaluator::evaluate(stream, table, rows, workspace, steps) {
                 Result::Refused(number, place) => Evaluation::Refused { number, place },
                 Result::Is {
@@ -123,29 +120,13 @@ pub fn evaluate(
     }
 }
 
-// Where item k of a buffer is.
-fn locate(buffer: &[u8], k: usize) -> Part
-    ensures { λ r. ⌜ ((b : Chosen) (stream result : List ℕ) → chosen b stream result ≡ now (buffer .entry) → of-buffer b r ≡ Item stream result b k) ⌝ }
-{
-    match reader::check(buffer, buffer.len()) {
-        Checked::Wrong {
-            number: _,
-            place: _,
-        } => Part::Empty,
-        Checked::Right { rows: _, length: _ } => match reader::find(buffer, k) {
-            Found::At { start, end } => Part::Of { start, end },
-            Found::Nothing => Part::Empty,
-        },
-    }
-}
-
-// The bytes of item k of a buffer.
+// Item k of a buffer.
 fn item_of<'a>(buffer: &'a [u8], k: usize) -> &'a [u8]
     ensures { λ x. ⌜ ((b : Chosen) (stream result : RefT (List ℕ)) → lent b stream result ≡ buffer .entry → PartItself (Item (now stream) (now result) b k) stream result x) ⌝ }
 {
-    match locate(buffer, k) {
-        Part::Of { start, end } => &buffer[start..end],
-        Part::Empty => &buffer[..0],
+    match reader::locate(buffer, k) {
+        Found::At(start, end) => &buffer[start..end],
+        Found::Nothing => &buffer[..0],
     }
 }
 
@@ -159,12 +140,22 @@ pub fn item<'a>(stream: &'a [u8], result: &'a [u8], which: Buffer, k: usize) -> 
     }
 }
 
+// Where item k of a buffer is.
+fn place_of(buffer: &[u8], k: usize) -> Part
+    ensures { λ r. ⌜ ((b : Chosen) → of-buffer b r ≡ item-read b k (reading (now (buffer .entry)) (length (now (buffer .entry))))) ⌝ }
+{
+    match reader::locate(buffer, k) {
+        Found::At(start, end) => Part::Of { start, end },
+        Found::Nothing => Part::Empty,
+    }
+}
+
 // Where in its buffer the part is that `item` gives.
 pub fn item_part(stream: &[u8], result: &[u8], which: Buffer, k: usize) -> Part
     ensures { λ r. ⌜ of-buffer (asked which) r ≡ Item (now (stream .entry)) (now (result .entry)) (asked which) k ⌝ }
 {
     match which {
-        Buffer::Stream => locate(stream, k),
-        Buffer::Result => locate(result, k),
+        Buffer::Stream => place_of(stream, k),
+        Buffer::Result => place_of(result, k),
     }
 }

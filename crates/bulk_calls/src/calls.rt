@@ -14,20 +14,15 @@ use bulk::Evaluation;
 use bulk::Part;
 use text::Buffer;
 
-// Four numbers for every byte that a stream may have: no stream has more rows.
-pub const TABLE_SIZE: usize = 262144;
-
-pub type Table = [u32; TABLE_SIZE];
+pub type Table = [u32; bulk::TABLE_LIMIT];
 
 // Twice what counts of a workspace, so that one in which not all counts can be asked for.
-pub const WORKSPACE_SIZE: usize = 131072;
+pub const WORKSPACE_SIZE: usize = 2 * bulk::WORKSPACE_LIMIT;
 
 pub type Workspace = [u8; WORKSPACE_SIZE];
 
-// As many bytes as a stream may have: no canonical stream is longer than its stream. And as many as count of a workspace: no result is longer.
-pub const OUTPUT_SIZE: usize = 65536;
-
-pub type Output = [u8; OUTPUT_SIZE];
+// As many bytes as a stream may have, and as count of a workspace: no canonical stream is longer than its stream, and no result than these.
+pub type Output = [u8; bulk::STREAM_LIMIT];
 
 fn read(
     buffer: &mut Buffer,

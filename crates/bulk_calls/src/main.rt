@@ -25,9 +25,9 @@ fn main() {
     let mut source = [0u8; input::SOURCE_SIZE];
     let mut stream = [0u8; words::KEPT_SIZE];
     let mut result = [0u8; words::KEPT_SIZE];
-    let mut table = [0u32; calls::TABLE_SIZE];
+    let mut table = [0u32; bulk::TABLE_LIMIT];
     let mut workspace = [0u8; calls::WORKSPACE_SIZE];
-    let mut output = [0u8; calls::OUTPUT_SIZE];
+    let mut output = [0u8; bulk::STREAM_LIMIT];
     let mut buffer = [0u8; text::BUFFER_SIZE];
     let mut used: usize = 0;
     let mut at = input::advance(&mut source, input::start());

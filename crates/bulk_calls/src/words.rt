@@ -7,7 +7,7 @@ use crate::input::advance;
 use crate::input::judged;
 
 // How many bytes of a word are kept: one more than a stream may have, so that to drop the others changes no answer.
-pub const KEPT_SIZE: usize = 65537;
+pub const KEPT_SIZE: usize = bulk::STREAM_LIMIT + 1;
 
 pub type Kept = [u8; KEPT_SIZE];
 

@@ -1,7 +1,5 @@
 // The program's arguments: how many steps may be taken, and how many bytes of workspace there are. Assumes the contracts that the kit states of
 // its calls in C for arguments.
-pub const WORKSPACE_SIZE: usize = 65536;
-
 // Over in a second.
 const STEPS: u64 = 1_000_000;
 
@@ -55,7 +53,7 @@ pub fn read() -> Bounds {
     }
     match argument(1, STEPS) {
         Word::Other => Bounds::Malformed,
-        Word::Number(steps) => match argument(2, WORKSPACE_SIZE as u64) {
+        Word::Number(steps) => match argument(2, bulk::WORKSPACE_LIMIT as u64) {
             Word::Other => Bounds::Malformed,
             Word::Number(workspace) => Bounds::Are { steps, workspace },
         },

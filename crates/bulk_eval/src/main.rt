@@ -27,12 +27,10 @@ fn evaluate(
 
 fn run(steps: u64, size: u64) {
     // A byte more than a stream may have, so that one that is too long is seen to be.
-    let mut stream = [0u8; 65537];
-    // A row for every byte: no stream has more rows.
-    let mut table = [0u32; 262144];
-    // As much as counts of a workspace; no result is longer.
-    let mut workspace = [0u8; arguments::WORKSPACE_SIZE];
-    let mut output = [0u8; arguments::WORKSPACE_SIZE];
+    let mut stream = [0u8; bulk::STREAM_LIMIT + 1];
+    let mut table = [0u32; bulk::TABLE_LIMIT];
+    let mut workspace = [0u8; bulk::WORKSPACE_LIMIT];
+    let mut output = [0u8; bulk::WORKSPACE_LIMIT];
     let length = io::read_full(STDIN_FILENO, &mut stream);
     evaluate(
         &stream[..length],

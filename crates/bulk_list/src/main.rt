@@ -8,6 +8,9 @@ use bulk::Answer;
 use libc::STDIN_FILENO;
 use text::Buffer;
 
+// How many rows the table has.
+const ROWS: usize = 4096;
+
 // Prints the numbers of rows, a line for each row.
 fn print_rows(buffer: &mut Buffer, used: usize, numbers: &[u32]) -> usize
     requires { ⌜ used ≤ buffer-size ⌝ }
@@ -53,8 +56,8 @@ fn list(buffer: &mut Buffer, stream: &[u8], table: &mut [u32]) -> usize
 
 fn main() {
     // A byte more than a stream may have, so that one that is too long is seen to be.
-    let mut stream = [0u8; 65537];
-    let mut table = [0u32; 16384];
+    let mut stream = [0u8; bulk::STREAM_LIMIT + 1];
+    let mut table = [0u32; bulk::ROW_WIDTH * ROWS];
     let mut buffer = [0u8; text::BUFFER_SIZE];
     let length = io::read_full(STDIN_FILENO, &mut stream);
     let used = list(&mut buffer, &stream[..length], &mut table);

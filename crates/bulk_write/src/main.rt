@@ -15,10 +15,10 @@ fn rewrite(stream: &[u8], table: &mut [u32], output: &mut [u8]) {
 
 fn main() {
     // A byte more than a stream may have, so that one that is too long is seen to be.
-    let mut stream = [0u8; 65537];
-    // A row for every byte: no stream has more rows, and no canonical stream is longer than the stream.
-    let mut table = [0u32; 262144];
-    let mut output = [0u8; 65536];
+    let mut stream = [0u8; bulk::STREAM_LIMIT + 1];
+    let mut table = [0u32; bulk::TABLE_LIMIT];
+    // No canonical stream is longer than its stream.
+    let mut output = [0u8; bulk::STREAM_LIMIT];
     let length = io::read_full(STDIN_FILENO, &mut stream);
     rewrite(&stream[..length], &mut table, &mut output);
 }

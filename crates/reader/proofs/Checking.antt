@@ -3,20 +3,19 @@
 use Prim.Native.Nat.{ℕ, _+_, _-_, _≤_, _<_}
 use mathlib.Core.Path.{_≡_, refl, _∙_}
 use mathlib.Core.List.{List, [], _∷_}
-use mathlib.Core.Bool.{Bool, true, false}
 use native.Mathlib.Omega.{arith}
-use lib.ListN.{length, length-append}
+use borrow.Author.Needs.{needs}
+use lib.ListN.{length, getD, length-append}
 use lib.Dec.{eqb}
 use borrow.Author.Tests.{lt-ltb, le-ltb, le-leb, lt-leb, ne-eqb}
 use Rattle.spec.specs.Expr.{if_then_else_}
 use Rattle.spec.specs.Reading.{Token, opening, closing, whole, tokens, right, wrong, check, rows-of, read}
-use Rattle.laws.specs.Demands.{Bytes}
 use Rattle.laws.proofs.Written.{bytes-of, token-bytes, canonical-tokens}
-use Rattle.laws.proofs.Steps.{tokens-from, tokens-end}
+use Rattle.laws.proofs.Steps.{tokens-from, tokens-end, all-bytes}
 use Rattle.atoms.specs.Tokens.{token-at, shown, atom-head}
 use Rattle.atoms.specs.declared.Token.{Token as Answer}
 use Rattle.atoms.specs.declared.Token.the-variants.{Opening, Closing, Whole, Bad}
-use Rattle.atoms.proofs.Next.{AtomAt, Next, next, written-size}
+use Rattle.atoms.proofs.Next.{Next, next, written-size}
 use Rattle.reader.specs.Passes.{checked}
 use Rattle.reader.specs.declared.Checked.{Checked}
 use Rattle.reader.specs.declared.Checked.the-variants.{Right, Wrong}
@@ -43,30 +42,22 @@ module _ (s : List ℕ) (room : ℕ) (short : length s ≤ 65536) where
 
 -- Before a turn
 
--- At place p, d forms are open, n rows are taken, and the canonical bytes of the tokens so far are `saved` fewer than p.
-pub record Checking (s : List ℕ) (room p d n saved : ℕ) : Type 0 where
-  pub stream : Bytes s
-  pub short : length s ≤ 65536
+-- nothing that is counted up to place p is above it
+pub record Counted (s : List ℕ) (p d n saved : ℕ) : Type 0 where
   pub inside : p ≤ length s
   pub shallow : d ≤ p
   pub early : n ≤ p
   pub shorter : saved ≤ p
+
+-- At place p, d forms are open, n rows are taken, and the canonical bytes of the tokens so far are `saved` fewer than p.
+pub record Checking (s : List ℕ) (room p d n saved : ℕ) : Type 0 where
+  pub counts : Counted s p d n saved
   pub verdict : check (length s) room (tokens 0 0 s) 0 0 ≡ check (length s) room (tokens-from s p) d n
-  pub counted : length (rows-of (tokens 0 0 s)) ≡ n + length (rows-of (tokens-from s p))
+  pub rows : length (rows-of (tokens 0 0 s)) ≡ n + length (rows-of (tokens-from s p))
   pub sized : length (token-bytes (tokens 0 0 s)) ≡ p - saved + length (token-bytes (tokens-from s p))
 
-pub checking-start : (s : List ℕ) (room : ℕ) → Bytes s → length s ≤ 65536 → Checking s room 0 0 0 0
-checking-start s room stream short = record {
-  stream = stream;
-  short = short;
-  inside = omega arith;
-  shallow = omega arith;
-  early = omega arith;
-  shorter = omega arith;
-  verdict = refl;
-  counted = omega arith;
-  sized = omega arith;
-}
+pub checking-start : (s : List ℕ) (room : ℕ) → Checking s room 0 0 0 0
+checking-start s room = record { counts = search needs; verdict = refl; rows = omega arith; sized = omega arith }
 
 -- A turn
 
@@ -86,89 +77,63 @@ bytes-more : (t : Token) (ts : List Token) → length (token-bytes (t ∷ ts)) �
 unfolding token-bytes
 bytes-more t ts = length-append (bytes-of t) (token-bytes ts)
 
-module _ (s : List ℕ) (room p d n saved : ℕ) (f : Checking s room p d n saved) where
-  turn-opening : p < length s → Next s p Opening → CheckTurn s room p d n saved Opening
-  unfolding check rows-of
-  turn-opening inside is = (
-    λ h. answer-wrong s room (f .short) 6 p (f .verdict ∙ rw (is, le-leb 64 d h)),
-    λ h l. answer-wrong s room (f .short) 8 p (f .verdict ∙ rw (is, lt-leb 64 d h, le-leb room n l)),
-    λ h l. record {
-      stream = f .stream;
-      short = f .short;
-      inside = omega arith;
-      shallow = omega arith;
-      early = omega arith;
-      shorter = omega arith;
-      verdict = f .verdict ∙ rw (is, lt-leb 64 d h, lt-leb room n l);
-      counted = f .counted ∙ rw is (omega arith);
-      sized = f .sized ∙ rw is (omega (arith, bytes-more (opening p) (tokens-from s (p + 1))));
-    },
-  )
+module _ (s : List ℕ) (room p d n saved : ℕ) (short : length s ≤ 65536) (f : Checking s room p d n saved) where
+  refuse : (w q : ℕ) → check (length s) room (tokens-from s p) d n ≡ wrong w q → Answers s room (Wrong w q)
+  refuse w q h = answer-wrong s room short w q (f .verdict ∙ h)
 
-  turn-closing : p < length s → Next s p Closing → CheckTurn s room p d n saved Closing
-  unfolding check rows-of
-  turn-closing inside is = (
-    λ h. answer-wrong s room (f .short) 3 p (f .verdict ∙ rw (is, h)),
-    λ h. record {
-      stream = f .stream;
-      short = f .short;
-      inside = omega arith;
-      shallow = omega arith;
-      early = omega arith;
-      shorter = omega arith;
-      verdict = f .verdict ∙ rw (is, ne-eqb d 0 h);
-      counted = f .counted ∙ rw is;
-      sized = f .sized ∙ rw is (omega (arith, bytes-more (closing p) (tokens-from s (p + 1))));
-    },
-  )
+  module _ (inside : p < length s) where
+    turn : (r : Answer) → Next s p r → CheckTurn s room p d n saved r
+    unfolding check rows-of
+    turn Opening is = (
+      λ h. refuse 6 p (rw (is, le-leb 64 d h)),
+      λ h l. refuse 8 p (rw (is, lt-leb 64 d h, le-leb room n l)),
+      λ h l. record {
+        counts = search needs;
+        verdict = f .verdict ∙ rw (is, lt-leb 64 d h, lt-leb room n l);
+        rows = f .rows ∙ rw is (omega arith);
+        sized = f .sized ∙ rw is (omega (arith, bytes-more (opening p) (tokens-from s (p + 1))));
+      },
+    )
+    turn Closing is = (
+      λ h. refuse 3 p (rw (is, h)),
+      λ h. record {
+        counts = search needs;
+        verdict = f .verdict ∙ rw (is, ne-eqb d 0 h);
+        rows = f .rows ∙ rw is;
+        sized = f .sized ∙ rw is (omega (arith, bytes-more (closing p) (tokens-from s (p + 1))));
+      },
+    )
+    turn (Whole k b e) w =
+        let bytes = written-size s p k b e w in
+        let shorter = w .shorter in (
+          w .ends,
+          omega arith,
+          w .forward,
+          w .inside,
+          λ l. refuse 8 p (rw (w .is, le-leb room n l)),
+          λ m h l. record {
+            counts = search needs;
+            verdict = f .verdict ∙ rw (w .is, lt-leb room n l);
+            rows = f .rows ∙ rw (w .is) (omega arith);
+            sized = f .sized ∙ rw (w .is) (omega (arith, bytes-more (whole (w .atom) p e) (tokens-from s e)));
+          },
+        )
+    turn (Bad w q) x = refuse w q (rw (x .1))
 
-  turn-whole : (k b e : ℕ) → AtomAt s p k b e → CheckTurn s room p d n saved (Whole k b e)
-  unfolding check rows-of
-  turn-whole k b e w =
-      let bytes = written-size s p k b e w in
-      let ends = w .ends in
-      let forward = w .forward in
-      let shorter = w .shorter in (
-        ends,
-        omega arith,
-        forward,
-        w .inside,
-        λ l. answer-wrong s room (f .short) 8 p (f .verdict ∙ rw (w .is, le-leb room n l)),
-        λ m h l. record {
-          stream = f .stream;
-          short = f .short;
-          inside = w .inside;
-          shallow = omega arith;
-          early = omega arith;
-          shorter = omega arith;
-          verdict = f .verdict ∙ rw (w .is, lt-leb room n l);
-          counted = f .counted ∙ rw (w .is) (omega arith);
-          sized = f .sized ∙ rw (w .is) (omega (arith, bytes-more (whole (w .atom) p e) (tokens-from s e)));
-        },
-      )
-
-  pub check-turn : p < length s → (r : Answer) → r ≡ shown (token-at s p) → CheckTurn s room p d n saved r
-  unfolding check
-  check-turn inside r told = go r (next s p r (f .stream) inside told)
-    where
-      go : (r : Answer) → Next s p r → CheckTurn s room p d n saved r
-      go Opening is = turn-opening inside is
-      go Closing is = turn-closing inside is
-      go (Whole k b e) w = turn-whole k b e w
-      go (Bad w q) x = answer-wrong s room (f .short) w q (f .verdict ∙ rw (x .1))
+    pub check-turn : ((i : ℕ) → getD s i 0 < 256) → (r : Answer) → r ≡ shown (token-at s p) → CheckTurn s room p d n saved r
+    check-turn bytes r told = turn r (next s p r (all-bytes s bytes) inside told)
 
   -- at the stream's end
-  pub check-end : length s ≤ p → Answers s room (if eqb d 0 then Right n (p - saved) else Wrong 2 p)
-  unfolding check rows-of token-bytes
-  check-end end = go (eqb d 0) refl
-    where
-      none : tokens-from s p ≡ []
-      none = tokens-end s p end
+  module _ (end : length s ≤ p) where
+    verdict-end : check (length s) room (tokens-from s p) d n ≡ (if eqb d 0 then right else wrong 2 p)
+    unfolding check
+    verdict-end = let at-end : length s ≡ p = omega arith in rw (tokens-end s p end, at-end)
 
-      at-end : length s ≡ p
-      at-end = omega arith
+    pub end-right : d ≡ 0 → Answers s room (Right n (p - saved))
+    unfolding rows-of token-bytes
+    end-right h =
+        let none = tokens-end s p end in
+        answer-right s room short n (p - saved) (f .verdict ∙ verdict-end ∙ rw h) (f .rows ∙ rw none (omega arith)) (f .sized ∙ rw none (omega arith))
 
-      go : (b : Bool) → eqb d 0 ≡ b → Answers s room (if b then Right n (p - saved) else Wrong 2 p)
-      go true e =
-          answer-right s room (f .short) n (p - saved) (f .verdict ∙ rw (none, e)) (f .counted ∙ rw none (omega arith)) (f .sized ∙ rw none (omega arith))
-      go false e = rw (← at-end) (answer-wrong s room (f .short) 2 (length s) (f .verdict ∙ rw (none, e)))
+    pub end-wrong : (d ≡ 0 → ⊥) → Answers s room (Wrong 2 p)
+    end-wrong h = refuse 2 p (verdict-end ∙ rw (ne-eqb d 0 h))

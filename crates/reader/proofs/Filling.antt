@@ -6,17 +6,18 @@ use mathlib.Core.List.{List, [], _∷_}
 use lib.ListN.{length, getD, set, length-set}
 use lib.Seq.{getD-set-same, getD-set-other}
 use native.Mathlib.Omega.{arith}
+use borrow.Author.Needs.{needs}
 use native.Mathlib.Numerals.{add-one}
 use Rattle.spec.specs.Reading.{tokens, right, check, rows-of, row-width}
 use Rattle.spec.specs.Calls.{filled}
-use Rattle.laws.specs.Demands.{Bytes, CanRead}
+use Rattle.laws.specs.Demands.{CanRead}
 use Rattle.laws.proofs.Tokens.{right-opening, right-closing, right-whole, right-bad}
 use Rattle.laws.proofs.Reading.{read-readable}
-use Rattle.laws.proofs.Steps.{tokens-from, tokens-end}
+use Rattle.laws.proofs.Steps.{tokens-from, tokens-end, all-bytes}
 use Rattle.atoms.specs.Tokens.{token-at, shown}
 use Rattle.atoms.specs.declared.Token.{Token as Answer}
 use Rattle.atoms.specs.declared.Token.the-variants.{Opening, Closing, Whole, Bad}
-use Rattle.atoms.proofs.Next.{AtomAt, Next, next}
+use Rattle.atoms.proofs.Next.{Next, next}
 use Rattle.reader.specs.Passes.{row-started, row-ended}
 use Rattle.reader.proofs.Table.{written, Below, below-more, written-filled}
 
@@ -40,39 +41,29 @@ innermost forms (suc d) h = let back : suc d - 1 ≡ d = omega arith in rw back
 
 -- Before a turn
 
--- At place p of the stream s, n rows are taken and d forms are open. The table was t₀ at first and is t; the tokens from p on make it
--- what it is to be.
-pub record Filling (s t₀ t forms : List ℕ) (p d n : ℕ) : Type 0 where
-  pub stream : Bytes s
+-- the places and counts at p are in bounds: each row has a byte of its own
+pub record Bounded (s t₀ t forms : List ℕ) (p d n : ℕ) : Type 0 where
   pub short : length s ≤ 65536
   pub inside : p ≤ length s
-  -- each row has a byte of its own
   pub early : n ≤ p
   pub deep : d ≤ 64
   pub stack : length forms ≡ 64
   pub same : length t ≡ length t₀
   pub fits : row-width * (n + length (rows-of (tokens-from s p))) ≤ length t₀
+
+-- At place p of the stream s, n rows are taken and d forms are open. The table was t₀ at first and is t; the tokens from p on make it
+-- what it is to be.
+pub record Filling (s t₀ t forms : List ℕ) (p d n : ℕ) : Type 0 where
+  pub bounds : Bounded s t₀ t forms p d n
   pub passes : check (length s) (length s) (tokens-from s p) d n ≡ right
   pub below : Below n (open-forms forms d)
   pub leaves : written (tokens-from s p) (open-forms forms d) n t ≡ filled (rows-of (tokens 0 0 s)) t₀
 
-pub filling-start : (s t forms : List ℕ) → Bytes s → CanRead s → length forms ≡ 64 → row-width * length (rows-of (tokens 0 0 s)) ≤ length t
-    → Filling s t t forms 0 0 0
-filling-start s t forms b can stack fits =
+pub filling-start : (s t forms : List ℕ) → ((i : ℕ) → getD s i 0 < 256) → CanRead s → length forms ≡ 64
+    → row-width * length (rows-of (tokens 0 0 s)) ≤ length t → Filling s t t forms 0 0 0
+filling-start s t forms bytes can stack fits =
     let r = read-readable s (length s) _ _ can in
-    record {
-      stream = b;
-      short = r .short;
-      inside = omega arith;
-      early = omega arith;
-      deep = omega arith;
-      stack = stack;
-      same = refl;
-      fits = omega arith;
-      passes = r .passes;
-      below = tt;
-      leaves = written-filled s t (length s) b (r .passes) fits;
-    }
+    record { bounds = search needs; passes = r .passes; below = tt; leaves = written-filled s t (length s) (all-bytes s bytes) (r .passes) fits }
 
 pub filling-end : (s t₀ t forms : List ℕ) (p d n : ℕ) → Filling s t₀ t forms p d n → length s ≤ p → t ≡ filled (rows-of (tokens 0 0 s)) t₀
 unfolding written
@@ -93,79 +84,43 @@ module _ (s t₀ t forms : List ℕ) (p d n : ℕ) where
   Turn (Bad w q) = ⊥
 
   module _ (f : Filling s t₀ t forms p d n) (inside : p < length s) where
-    turn-opening : Next s p Opening → Turn Opening
+    turns : (r : Answer) → Next s p r → Turn r
     unfolding rows-of written
-    turn-opening is =
+    turns Opening is =
         let k = right-opening (length s) (length s) (tokens-from s (p + 1)) p d n (rw is at (f .passes)) in
-        let fits = rw is at (f .fits) in
+        let fits = rw is at (f .bounds .fits) in
         let opened : open-forms (set forms d n) (d + 1) ≡ n ∷ open-forms forms d = form-opened forms d n (omega (arith, k .0)) in (
           k .0,
           omega arith,
           record {
-            stream = f .stream;
-            short = f .short;
-            inside = omega arith;
-            early = omega arith;
-            deep = omega (arith, k .0);
-            stack = length-set forms d n ∙ f .stack;
-            same = simp length-set (f .same);
-            fits = omega arith;
+            bounds = search needs;
             passes = k .2;
             below = rw opened (omega arith, below-more n (open-forms forms d) (f .below));
             leaves = rw opened (rw is at (f .leaves));
           },
         )
-
-    turn-closing : Next s p Closing → Turn Closing
-    unfolding rows-of written
-    turn-closing is =
+    turns Closing is =
         let k = right-closing (length s) (length s) (tokens-from s (p + 1)) p d n (rw is at (f .passes)) in
         let inner = innermost forms d (k .0) in
-        let below = rw inner at (f .below) in (
+        let below = rw inner at (f .below) in
+        let fits = rw is at (f .bounds .fits) in (
           k .0,
           omega (arith, below .0),
-          record {
-            stream = f .stream;
-            short = f .short;
-            inside = omega arith;
-            early = omega arith;
-            deep = omega arith;
-            stack = f .stack;
-            same = simp length-set (f .same);
-            fits = rw is at (f .fits);
-            passes = k .1;
-            below = below .1;
-            leaves = rw (is, inner) at (f .leaves);
-          },
+          record { bounds = search needs; passes = k .1; below = below .1; leaves = rw (is, inner) at (f .leaves) },
         )
-
-    turn-whole : (k b e : ℕ) → AtomAt s p k b e → Turn (Whole k b e)
-    unfolding rows-of written
-    turn-whole k b e w =
-        let fits = rw (w .is) at (f .fits) in (
+    turns (Whole k b e) w =
+        let fits = rw (w .is) at (f .bounds .fits) in (
           w .forward,
           w .inside,
           omega arith,
           record {
-            stream = f .stream;
-            short = f .short;
-            inside = w .inside;
-            early = omega arith;
-            deep = f .deep;
-            stack = f .stack;
-            same = simp length-set (f .same);
-            fits = omega arith;
+            bounds = search needs;
             passes = right-whole (length s) (length s) (tokens-from s e) (w .atom) p e d n (rw (w .is) at (f .passes)) .1;
             below = below-more n (open-forms forms d) (f .below);
             leaves = rw (w .kind-is) (rw (w .is) at (f .leaves));
           },
         )
+    turns (Bad w q) x = right-bad (length s) (length s) (x .0) w q d n (rw (x .1) at (f .passes))
 
-    pub turn : (r : Answer) → r ≡ shown (token-at s p) → Turn r
-    turn r told = go r (next s p r (f .stream) inside told)
-      where
-        go : (r : Answer) → Next s p r → Turn r
-        go Opening x = turn-opening x
-        go Closing x = turn-closing x
-        go (Whole k b e) x = turn-whole k b e x
-        go (Bad w q) x = right-bad (length s) (length s) (x .0) w q d n (rw (x .1) at (f .passes))
+    pub turn : ((i : ℕ) → getD s i 0 < 256) → (r : Answer) → r ≡ shown (token-at s p) → Turn r
+    turn bytes r told = turns r (next s p r (all-bytes s bytes) inside told)

@@ -10,13 +10,13 @@ use lib.Seq.{drop-at, getD-drop}
 use Rattle.spec.specs.Expr.{Expr, atom, form, Exprs, none, more, size, rows, rows-all, deepest}
 use Rattle.spec.specs.Reading.{tokens, check, ends, rows-of}
 use Rattle.spec.specs.Calls.{Buffer, part, no-part, row-at, item}
-use Rattle.laws.specs.Demands.{Bytes, meaning-of, CanRead}
+use Rattle.laws.specs.Demands.{meaning-of, CanRead}
 use Rattle.laws.specs.Grammar.{Spells, SpellsAll, expr-rows}
 use Rattle.laws.proofs.Spelling.{front}
 use Rattle.laws.proofs.Tokens.{right-end, right-opening, right-closing, right-whole, right-bad}
 use Rattle.laws.proofs.Reading.{read-readable, read-meant, check-all}
 use Rattle.laws.proofs.Parsing.{read-spells}
-use Rattle.laws.proofs.Steps.{split-size, split-rest, tokens-from, tokens-end}
+use Rattle.laws.proofs.Steps.{split-size, split-rest, tokens-from, tokens-end, all-bytes}
 use Rattle.laws.proofs.Items.{rows-expr, expr-rows-count, expr-first, item-past}
 use Rattle.atoms.specs.Tokens.{token-at, shown}
 use Rattle.atoms.specs.declared.Token.{Token as Answer}
@@ -28,8 +28,6 @@ use Rattle.reader.specs.Passes.{RightFrom}
 
 -- At place p, d forms are open in the one whose end is sought.
 pub record Ending (s : List ℕ) (start p d : ℕ) : Type 0 where
-  pub stream : Bytes s
-  pub short : length s ≤ 65536
   pub inside : p ≤ length s
   pub shallow : d ≤ p
   pub passes : RightFrom s p (d + 1)
@@ -51,17 +49,15 @@ module _ (s : List ℕ) (start p d : ℕ) (f : Ending s start p d) where
       go (yes h) = absurd (omega (arith, right-end (length s) (length s) (d + 1) (f .passes .0) (rw (tokens-end s p h) at (f .passes .1))))
       go (no h) = omega (arith, h)
 
-  pub ending-turn : (r : Answer) → r ≡ shown (token-at s p) → EndingTurn s start p d r
+  pub ending-turn : ((i : ℕ) → getD s i 0 < 256) → (r : Answer) → r ≡ shown (token-at s p) → EndingTurn s start p d r
   unfolding ends
-  ending-turn r told = go r (next s p r (f .stream) ending-inside told)
+  ending-turn bytes r told = go r (next s p r (all-bytes s bytes) ending-inside told)
     where
       n : ℕ
       n = f .passes .0
 
       go : (r : Answer) → Next s p r → EndingTurn s start p d r
       go Opening is = record {
-        stream = f .stream;
-        short = f .short;
         inside = omega (arith, ending-inside);
         shallow = omega (arith, f .shallow);
         passes = (n + 1, right-opening (length s) (length s) (tokens-from s (p + 1)) p (d + 1) n (rw is at (f .passes .1)) .2);
@@ -71,8 +67,6 @@ module _ (s : List ℕ) (start p d : ℕ) (f : Ending s start p d) where
       go Closing is = (
         λ z. f .same ∙ rw (is, z),
         λ z. record {
-          stream = f .stream;
-          short = f .short;
           inside = omega (arith, ending-inside);
           shallow = omega (arith, f .shallow);
           passes =
@@ -86,8 +80,6 @@ module _ (s : List ℕ) (start p d : ℕ) (f : Ending s start p d) where
       go (Whole k b e) w = (
         w .forward,
         record {
-          stream = f .stream;
-          short = f .short;
           inside = w .inside;
           shallow = omega (arith, f .shallow, w .forward);
           passes = (n + 1, right-whole (length s) (length s) (tokens-from s e) (w .atom) p e (d + 1) n (rw (w .is) at (f .passes .1)) .1);
@@ -105,9 +97,9 @@ TopTurn s p Closing = ⊥
 TopTurn s p (Whole k b e) = row-at (rows-of (tokens-from s p)) 0 .end ≡ e
 TopTurn s p (Bad w q) = ⊥
 
-pub top-turn : (s : List ℕ) (p : ℕ) → Bytes s → p < length s → RightFrom s p 0 → (r : Answer) → r ≡ shown (token-at s p) → TopTurn s p r
+pub top-turn : (s : List ℕ) (p : ℕ) → ((i : ℕ) → getD s i 0 < 256) → p < length s → RightFrom s p 0 → (r : Answer) → r ≡ shown (token-at s p) → TopTurn s p r
 unfolding rows-of
-top-turn s p stream inside passes r told = go r (next s p r stream inside told)
+top-turn s p bytes inside passes r told = go r (next s p r (all-bytes s bytes) inside told)
   where
     n : ℕ
     n = passes .0
@@ -126,7 +118,6 @@ spelled-some (form es) x sp = omega (arith, ap length (sp .1))
 
 -- At place p the expressions `left` are left, of which number n is the one asked for.
 pub record Finding (s : List ℕ) (k p n : ℕ) : Type 0 where
-  pub stream : Bytes s
   pub short : length s ≤ 65536
   pub inside : p ≤ length s
   pub left : Exprs
@@ -135,16 +126,15 @@ pub record Finding (s : List ℕ) (k p n : ℕ) : Type 0 where
   pub few : rows-all left ≤ length s
   pub same : (b : Buffer) → item b (rows-of (tokens 0 0 s)) k (meaning-of s) ≡ item b (rows-of (tokens-from s p)) n left
 
-pub finding-start : (s : List ℕ) (k : ℕ) → Bytes s → CanRead s → Finding s k 0 k
-finding-start s k bs can =
+pub finding-start : (s : List ℕ) (k : ℕ) → ((i : ℕ) → getD s i 0 < 256) → CanRead s → Finding s k 0 k
+finding-start s k bytes can =
     let r = read-readable s (length s) _ _ can in
-    let m = read-meant s (length s) _ _ bs r in
+    let m = read-meant s (length s) _ _ (all-bytes s bytes) r in
     record {
-      stream = bs;
       short = r .short;
       inside = omega arith;
       left = meaning-of s;
-      spells = read-spells s (length s) _ _ bs can;
+      spells = read-spells s (length s) _ _ (all-bytes s bytes) can;
       shallow = m .shallow;
       few = m .roomy;
       same = λ b. refl;
@@ -204,7 +194,6 @@ module _ (s : List ℕ) (k p n : ℕ) (f : Finding s k p n) where
             inside = omega arith;
             this = λ z b. sym (same b ∙ rw (z, start, ← at-end));
             later = λ z. rw end (record {
-              stream = f .stream;
               short = f .short;
               inside = omega arith;
               left = es;

@@ -2,3 +2,4 @@ pub mod Checking
 pub mod Table
 pub mod Filling
 pub mod Finding
+pub mod Told

@@ -5,22 +5,23 @@ use atoms::Token;
 ghost use mathlib.Core.Path.{_≡_};
 ghost use Prim.Native.Nat.{_+_, _-_, _*_, _≤_, _<_};
 ghost use lib.ListN.{length, drop, getD};
-ghost use lib.Dec.{eqb};
-ghost use Rattle.spec.specs.Expr.{if_then_else_};
 ghost use Rattle.spec.specs.Reading.{tokens, ends, rows-of, row-width, read};
-ghost use Rattle.spec.specs.Calls.{filled, row-at, Buffer, item};
+ghost use Rattle.spec.specs.Calls.{filled, row-at, Buffer, item, item-read};
 ghost use Rattle.laws.specs.Demands.{meaning-of, CanRead};
 ghost use Rattle.atoms.specs.Tokens.{atom-head};
-ghost use Rattle.reader.specs.declared.Checked.the-variants.{Right, Wrong};
-ghost use Rattle.reader.specs.Passes.{checked, row-started, row-ended, RightFrom, found-part};
+ghost use Rattle.reader.specs.Passes.{checked, row-started, row-ended, ReadInto, RightFrom, found-part};
+
+// The bytes of the longest stream.
+pub const STREAM_LIMIT: usize = atoms::STREAM_LIMIT;
 
 // The numbers of a row.
 pub const ROW_WIDTH: usize = 4;
 
 pub enum Checked {
     // How many rows the stream has, and the length of its canonical bytes.
-    Right { rows: usize, length: usize },
-    Wrong { number: u32, place: usize },
+    Right(usize, usize),
+    // A refusal's number and place.
+    Wrong(u32, usize),
 }
 
 // How many bytes fewer an atom has as it is written canonically.
@@ -33,22 +34,6 @@ fn spared(kind: u32, at: usize, body: usize, end: usize) -> usize
         return before - writer::head_size(end - body);
     }
     before
-}
-
-fn wrong(number: u32, place: usize) -> Checked
-    ensures { λ r. ⌜ r ≡ Wrong number place ⌝ }
-{
-    Checked::Wrong { number, place }
-}
-
-// The answer at a stream's end, where `depth` forms are open.
-fn ended(at: usize, depth: usize, rows: usize, length: usize) -> Checked
-    ensures { λ r. ⌜ r ≡ (if eqb depth 0 then Right rows length else Wrong 2 at) ⌝ }
-{
-    if depth == 0 {
-        return Checked::Right { rows, length };
-    }
-    wrong(2, at)
 }
 
 // The first pass over a stream that is not too long. `saved` is how many bytes fewer its tokens so far have as they are written canonically.
@@ -64,10 +49,10 @@ fn check_tokens(s: &[u8], room: usize) -> Checked
         match atoms::token_at(s, at) {
             Token::Opening => {
                 if 64 <= depth {
-                    return wrong(6, at);
+                    return Checked::Wrong(6, at);
                 }
                 if room <= rows {
-                    return wrong(8, at);
+                    return Checked::Wrong(8, at);
                 }
                 depth += 1;
                 rows += 1;
@@ -75,33 +60,34 @@ fn check_tokens(s: &[u8], room: usize) -> Checked
             }
             Token::Closing => {
                 if depth == 0 {
-                    return wrong(3, at);
+                    return Checked::Wrong(3, at);
                 }
                 depth -= 1;
                 at += 1;
             }
             Token::Whole { kind, body, end } => {
                 if room <= rows {
-                    return wrong(8, at);
+                    return Checked::Wrong(8, at);
                 }
                 rows += 1;
                 saved += spared(kind, at, body, end);
                 at = end;
             }
-            Token::Bad(number, place) => {
-                return wrong(number, place);
-            }
+            Token::Bad(number, place) => return Checked::Wrong(number, place),
         }
     }
-    ended(at, depth, rows, at - saved)
+    if depth == 0 {
+        return Checked::Right(rows, at - saved);
+    }
+    Checked::Wrong(2, at)
 }
 
 // The first pass, with room for so many rows.
 pub fn check(s: &[u8], room: usize) -> Checked
     ensures { λ r. ⌜ r ≡ checked (read (now (s .entry)) room) ⌝ }
 {
-    if atoms::STREAM_LIMIT < s.len() {
-        return wrong(1, 0);
+    if STREAM_LIMIT < s.len() {
+        return Checked::Wrong(1, 0);
     }
     check_tokens(s, room)
 }
@@ -160,6 +146,19 @@ pub fn fill(s: &[u8], table: &mut [u32])
     }
 }
 
+// Reads a stream into a table: its rows, if it can be read. A refusal leaves the table as it was.
+pub fn read_rows(s: &[u8], table: &mut [u32]) -> Checked
+    ensures { λ r. ⌜ ReadInto (now (s .entry)) (now (table .entry)) (now (table .exit)) r ⌝ }
+{
+    match check(s, table.len() / ROW_WIDTH) {
+        Checked::Wrong(number, place) => Checked::Wrong(number, place),
+        Checked::Right(rows, length) => {
+            fill(s, table);
+            Checked::Right(rows, length)
+        }
+    }
+}
+
 // Where the form ends whose 01 is before a place.
 fn form_end(s: &[u8], start: usize) -> usize
     requires { ⌜ (length (now s) ≤ 65536) × (start ≤ length (now s)) × RightFrom (now s) start 1 ⌝ }
@@ -213,12 +212,13 @@ pub fn expression_end(s: &[u8], at: usize) -> usize
 }
 
 pub enum Found {
-    At { start: usize, end: usize },
+    // Where the expression starts and ends.
+    At(usize, usize),
     Nothing,
 }
 
 // Top-level expression k of a stream that can be read.
-pub fn find(s: &[u8], k: usize) -> Found
+fn find(s: &[u8], k: usize) -> Found
     requires { ⌜ CanRead (now s) ⌝ }
     ensures { λ r. ⌜ ((b : Buffer) → found-part b r ≡ item b (rows-of (tokens 0 0 (now (s .entry)))) k (meaning-of (now (s .entry)))) ⌝ }
 {
@@ -227,10 +227,20 @@ pub fn find(s: &[u8], k: usize) -> Found
     while at < s.len() {
         let end = expression_end(s, at);
         if n == 0 {
-            return Found::At { start: at, end };
+            return Found::At(at, end);
         }
         n -= 1;
         at = end;
     }
     Found::Nothing
+}
+
+// Top-level expression k of a stream; none if it can't be read.
+pub fn locate(s: &[u8], k: usize) -> Found
+    ensures { λ r. ⌜ ((b : Buffer) → found-part b r ≡ item-read b k (read (now (s .entry)) (length (now (s .entry))))) ⌝ }
+{
+    match check(s, s.len()) {
+        Checked::Wrong(_, _) => Found::Nothing,
+        Checked::Right(_, _) => find(s, k),
+    }
 }

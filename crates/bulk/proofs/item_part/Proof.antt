@@ -1,20 +1,17 @@
 -- `bulk::item_part` meets its contract: the place of the item, in the buffer that was asked for.
 -- Assumes nothing.
 use borrow.Author.Needs.{needs}
-use mathlib.Core.Path.{refl}
-use Rattle.spec.specs.Calls.{of-stream, of-result}
+use Rattle.spec.specs.Calls.{of-stream, of-result, Item}
 use Rattle.bulk.proofs.item_part.Statement.{statement}
 use Rattle.bulk.proofs.item_part.Tie as tie
 
 returns : tie.Need-returns
-returns c =
-    let a = c .before .before .before .before .before .args in
-    rw (c .before .enum-told .given .1) (c .locate .ensures of-stream (a .stream .now) (a .result .now) refl)
+unfolding Item
+returns c = rw (c .before .enum-told .given .1) (c .place-of .ensures of-stream)
 
 returns-2 : tie.Need-returns-2
-returns-2 c =
-    let a = c .before .before .before .before .before .args in
-    rw (c .before .enum-told2 .given .1) (c .locate2 .ensures of-result (a .stream .now) (a .result .now) refl)
+unfolding Item
+returns-2 c = rw (c .before .enum-told2 .given .1) (c .place-of2 .ensures of-result)
 
 pub item-part-spec : {M : Type 1} → statement M
 item-part-spec =

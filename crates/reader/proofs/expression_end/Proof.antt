@@ -3,7 +3,6 @@
 use borrow.Author.Needs.{needs}
 use mathlib.Core.Path.{_≡_, sym, _∙_}
 use native.Mathlib.Omega.{arith}
-use Rattle.laws.proofs.Steps.{all-bytes}
 use Rattle.atoms.specs.declared.Token.{Token as Answer}
 use Rattle.atoms.specs.declared.Token.the-variants.{Opening, Closing}
 use Rattle.reader.proofs.Finding.{TopTurn, top-turn}
@@ -14,8 +13,7 @@ use Rattle.reader.proofs.expression_end.Tie as tie
 at-token : (c : tie.After-token-at) (r : Answer) → c .token-at .result ≡ r → TopTurn (c .before .before .args .s .now) (c .before .before .args .at) r
 at-token c r e =
     let start = c .before .before in
-    let stream = all-bytes (start .args .s .now) (λ i. c .before .shared-slice-known .given i .fits) in
-    top-turn _ _ stream (start .pre .1) (start .pre .2) r (sym e ∙ c .token-at .ensures)
+    top-turn _ _ (λ i. c .before .shared-slice-known .given i .fits) (start .pre .1) (start .pre .2) r (sym e ∙ c .token-at .ensures)
 
 form-end-requires : tie.Need-form-end-requires
 form-end-requires c κs = (omega arith, omega arith, at-token (c .before .before) Opening (c .enum-told .given .1) .0)

@@ -5,7 +5,6 @@ use Prim.Native.Nat.{_-_}
 use mathlib.Core.Path.{_≡_, refl, sym, _∙_}
 use native.Mathlib.Omega.{arith}
 use lib.ListN.{length, length-set}
-use Rattle.laws.proofs.Steps.{all-bytes}
 use Rattle.atoms.specs.declared.Token.{Token as Answer}
 use Rattle.atoms.specs.declared.Token.the-variants.{Opening, Closing, Whole}
 use Rattle.reader.proofs.Filling.{Filling, filling-start, filling-end, Turn, turn}
@@ -21,7 +20,7 @@ abbrev μ-loop : tie.MeasureT-loop
 loop-holds : tie.Need-loop-holds Inv-loop μ-loop
 loop-holds c =
     let start = c .before .before in
-    filling-start _ _ _ (all-bytes (start .args .s .now) (λ i. c .before .shared-slice-known .given i .fits)) (start .pre .0) refl (start .pre .1)
+    filling-start _ _ _ (λ i. c .before .shared-slice-known .given i .fits) (start .pre .0) refl (start .pre .1)
 
 -- what is known of the turn where the token is this one
 abbrev TurnAt : tie.At-loop Inv-loop μ-loop → Answer → Type 0
@@ -31,7 +30,9 @@ TurnAt c r =
     Turn (a .s .now) (a .table .now) (l .table) (l .forms) (l .at) (l .depth) (l .rows) r
 
 at-token : (c : tie.After-token-at Inv-loop μ-loop) (r : Answer) → c .token-at .result ≡ r → TurnAt (c .before .before) r
-at-token c r e = turn _ _ _ _ _ _ _ (c .before .before .loop .inv) (c .before .loop-test .taken) r (sym e ∙ c .token-at .ensures)
+at-token c r e =
+    let l = c .before .before in
+    turn _ _ _ _ _ _ _ (l .loop .inv) (c .before .loop-test .taken) (λ i. l .before .before .shared-slice-known .given i .fits) r (sym e ∙ c .token-at .ensures)
 
 at-opening : (c : tie.After-enum-told Inv-loop μ-loop) → TurnAt (c .before .before .before .before) Opening
 at-opening c = at-token (c .before .before) Opening (c .enum-told .given .1)

@@ -3,7 +3,6 @@
 use Prim.Native.Nat.{_-_}
 use native.Mathlib.Omega.{arith}
 use lib.ListN.{length}
-use Rattle.laws.proofs.Steps.{all-bytes}
 use Rattle.reader.proofs.Finding.{Finding, finding-start, finding-right, finding-end, Passed, finding-turn}
 use Rattle.reader.proofs.find.Statement.{statement}
 use Rattle.reader.proofs.find.Tie as tie
@@ -15,9 +14,7 @@ abbrev μ-loop : tie.MeasureT-loop
 μ-loop s k at₀ n₀ at n = length s - at
 
 loop-holds : tie.Need-loop-holds Inv-loop μ-loop
-loop-holds c =
-    let a = c .before .args in
-    finding-start (a .s .now) (a .k) (all-bytes (a .s .now) (λ i. c .shared-slice-known .given i .fits)) (c .before .pre)
+loop-holds c = finding-start _ _ (λ i. c .shared-slice-known .given i .fits) (c .before .pre)
 
 expression-end-requires : tie.Need-expression-end-requires Inv-loop μ-loop
 expression-end-requires c κs = (omega arith, omega arith, finding-right _ _ _ _ (c .before .loop .inv))

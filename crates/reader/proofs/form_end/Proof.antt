@@ -5,7 +5,6 @@ use Prim.Native.Nat.{_-_}
 use mathlib.Core.Path.{_≡_, refl, sym, _∙_}
 use native.Mathlib.Omega.{arith}
 use lib.ListN.{length}
-use Rattle.laws.proofs.Steps.{all-bytes}
 use Rattle.atoms.specs.declared.Token.{Token as Answer}
 use Rattle.atoms.specs.declared.Token.the-variants.{Opening, Closing}
 use Rattle.reader.proofs.Finding.{Ending, ending-inside, EndingTurn, ending-turn}
@@ -19,21 +18,14 @@ abbrev μ-loop : tie.MeasureT-loop
 μ-loop s start at₀ depth₀ at depth = length s - at
 
 loop-holds : tie.Need-loop-holds Inv-loop μ-loop
-loop-holds c =
-    let a = c .before .args in
-    record {
-      stream = all-bytes (a .s .now) (λ i. c .shared-slice-known .given i .fits);
-      short = omega arith;
-      inside = omega arith;
-      shallow = omega arith;
-      passes = c .before .pre .2;
-      same = refl;
-    }
+loop-holds c = record { inside = omega arith; shallow = omega arith; passes = c .before .pre .2; same = refl }
 
 -- what is known of the turn where the token is this one
 at-token : (c : tie.After-token-at Inv-loop μ-loop) (r : Answer) → c .token-at .result ≡ r
     → EndingTurn (c .before .before .before .before .args .s .now) (c .before .before .before .before .args .start) (c .before .before .loop .at) (c .before .before .loop .depth) r
-at-token c r e = ending-turn _ _ _ _ (c .before .before .loop .inv) r (sym e ∙ c .token-at .ensures)
+at-token c r e =
+    let l = c .before .before in
+    ending-turn _ _ _ _ (l .loop .inv) (λ i. l .before .shared-slice-known .given i .fits) r (sym e ∙ c .token-at .ensures)
 
 loop-again : tie.Need-loop-again Inv-loop μ-loop
 loop-again c = at-token (c .before .before) Opening (c .enum-told .given .1)
