@@ -11,9 +11,6 @@ use Rattle.evaluator.proofs.Finishes.{code-none, code-first, code-many,
 use Rattle.evaluator.proofs.element.is_single.Statement.{statement}
 use Rattle.evaluator.proofs.element.is_single.Tie as tie
 
-next-requires : tie.Need-next-requires
-next-requires c κs = c .before .before .pre .1 .form .inside
-
 returns : tie.Need-returns
 returns c = λ body at.
     let a = c .before .before .before .before .args in
@@ -54,7 +51,7 @@ pub is-single-spec : {M : Type 1} → statement M
 is-single-spec =
     tie.close
     (tie.spec
-    next-requires
+    (λ c κs. c .before .before .pre .1 .form .inside)
     (λ c. search needs)
     returns
     (λ c. search needs)
