@@ -16,7 +16,7 @@ use Rattle.laws.proofs.Values.{plan-sound}
 use Rattle.evaluator.specs.Stands.{LeafAt, NodeAt}
 use Rattle.evaluator.specs.Entries.{function-bit, Entry}
 use Rattle.evaluator.specs.Named.{named, Named}
-use Rattle.evaluator.specs.Completed.{Fitting, Stand, with-top, Incomplete, too-deep, too-long, Completed, stepped}
+use Rattle.evaluator.specs.Completed.{Fitting, Stand, Incomplete, too-deep, too-long, Completed, stepped}
 use Rattle.evaluator.specs.Planned.{function-at, Planned, refuses, owns, repeats, associates, defines, goes-inside}
 use Rattle.evaluator.specs.Listed.{LeftDefinition, LeftBy, GoesInside, Begun, Beginning, as-left}
 use Rattle.evaluator.specs.Performed.{one-named, Performing, going}

@@ -219,7 +219,7 @@ innermost s at depth end whole h e ends = record {
 -- Arrays
 
 -- an array, by its row: one byte before its own, or 03 and a length
-module _ (s t : List ℕ) (row at : ℕ) (bs : List ℕ) (start : at ≡ cell t row 1) (leaf : LeafAt s t row (array bs)) where
+module _ {s t : List ℕ} {row at : ℕ} {bs : List ℕ} (start : at ≡ cell t row 1) (leaf : LeafAt s t row (array bs)) where
   abbrev end : ℕ
   end = cell t row 2
 

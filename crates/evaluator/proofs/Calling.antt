@@ -9,7 +9,7 @@ use lib.Seq.{slice}
 use Rattle.spec.specs.Expr.{if_then_else_, form, Exprs, only, size, deepest, canonical}
 use Rattle.spec.specs.Nodes.{Nodes}
 use Rattle.spec.specs.Runs.{done, Held, ceased, hold}
-use Rattle.spec.specs.Plan.{Scope as Definitions, Place, inner, given, Here, as-call}
+use Rattle.spec.specs.Plan.{Scope as Definitions, inner, given, Here, as-call}
 use Rattle.spec.specs.Evaluation.{Left, complete, one-value, finish, run-code}
 use Rattle.laws.specs.Holding.{and-hold, in-list}
 use Rattle.laws.proofs.Fits.{FitsAll}

@@ -147,7 +147,7 @@ module _ (w w′ : List ℕ) (st : State) (start row : ℕ) where
 
 -- A code
 
-module _ (s t : List ℕ) (code : ℕ) (body : Nodes) (at : CodeAt s t code body) where
+module _ {s t : List ℕ} {code : ℕ} {body : Nodes} (at : CodeAt s t code body) where
   pub code-none : next t code ≤ code + 2 → one-value body ≡ false
   code-none h = rw (nodes-done s t (code + 2) (next t code) body (at .code) h)
 

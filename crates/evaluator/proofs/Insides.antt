@@ -6,7 +6,7 @@ use mathlib.Core.List.{List}
 use native.Mathlib.Omega.{arith}
 use lib.ListN.{length, drop}
 use Rattle.spec.specs.Nodes.{Node, leaf, branch, Nodes, empty, cons, elements}
-use Rattle.spec.specs.Runs.{done, Run, Held, ceased, hold}
+use Rattle.spec.specs.Runs.{done, Held, hold}
 use Rattle.spec.specs.Plan.{Scope as Definitions, Place, Here, Finish, as-call, inside, plan}
 use Rattle.spec.specs.Evaluation.{Left, finish, run-code}
 use Rattle.laws.specs.Holding.{and-hold, NotTop, in-list, skip}
@@ -23,7 +23,6 @@ use Rattle.evaluator.specs.declared.values.State.{State}
 use Rattle.evaluator.specs.declared.values.Out.{Out}
 use Rattle.evaluator.specs.declared.values.Out.the-variants.{Done, Refused}
 use Rattle.evaluator.specs.declared.plan.Stands.{Stands}
-use Rattle.evaluator.specs.declared.plan.Stands.the-variants.{Inner}
 use Rattle.evaluator.specs.declared.plan.Code.{Code}
 use Rattle.evaluator.specs.declared.plan.After.{After}
 use Rattle.evaluator.specs.declared.plan.After.the-variants.{Call as Enters}

@@ -69,16 +69,6 @@ module _ {w : List ℕ} {from to : ℕ} {vs : Exprs} (there : Stand w from to vs
 
 -- The join of two arrays
 
-kept-since : {w w₁ w′ : List ℕ} {st : State} {start : ℕ} {vs : Exprs} {st′ : State} → Untouched w w₁ start (st .floor) → Complete w₁ w′ st start vs st′
-    → Complete w w′ st start vs st′
-kept-since u k = record {
-  shallow = k .shallow;
-  charged = k .charged;
-  state = k .state;
-  stand = k .stand;
-  others = untouched-then u (k .others);
-}
-
 -- a part below the top, written behind bytes that stand from the top on
 put-behind : (w new : List ℕ) (top p q at : ℕ) (xs : List ℕ) → Put w top xs new at → q ≤ top → top + length xs ≤ length w
     → Put w top (xs ++ slice p q w) (moved new p q at) (at + (q - p))
@@ -132,7 +122,8 @@ module _ (w : List ℕ) (st : State) (a b c d : ℕ) (fits : Fitting w st) (insi
       let back : slice top (top + n) w₃ ≡ all = rw (put, ← size) (slice-put w top all room) in
       let others : Untouched w w₃ start (st .floor) = rw put (put-untouched w top all room start (st .floor) h (omega (arith, fits .paid))) in
       let fits₃ : Fitting w₃ st = record { paid = fits .paid; below = omega (arith, others .size, fits .below); short = omega (arith, others .size, fits .short) } in
-      kept-since others (written join-sized fits₃ h paid (down ∙ ap (put-at w₃ start) back))
+      let k = written join-sized fits₃ h paid (down ∙ ap (put-at w₃ start) back) in
+      record { shallow = k .shallow; charged = k .charged; state = k .state; stand = k .stand; others = untouched-then others (k .others) }
 
 -- Whether a value is an array
 
@@ -141,10 +132,18 @@ abbrev front-token : Expr → ℕ → Token
 front-token (atom a) p = whole a p (p + length (atom-bytes a))
 front-token (form es) p = opening p
 
+-- a value that is an array whose bytes are between two places
+pub record IsArray (w : List ℕ) (to : ℕ) (e : Expr) (p q : ℕ) : Type 0 where
+  pub own : List ℕ
+  pub is : e ≡ atom (array own)
+  pub order : p ≤ q
+  pub end : q ≡ to
+  pub part : slice p q w ≡ own
+
 -- what the code is told of a value that ends at a place
-data Operand (w : List ℕ) (to : ℕ) : Expr → Bytes → Type 0 where
-  an-array : {from : ℕ} (bs : List ℕ) → from ≤ to → slice from to w ≡ bs → Operand w to (atom (array bs)) (Array from to)
-  no-array : {e : Expr} → ((bs : List ℕ) → e ≡ atom (array bs) → ⊥) → Operand w to e Other
+abbrev Operand : List ℕ → ℕ → Expr → Bytes → Type 0
+Operand w to e (Array p q) = IsArray w to e p q
+Operand w to e Other = (bs : List ℕ) → e ≡ atom (array bs) → ⊥
 
 -- a value at a place, whatever is behind it
 module _ (w : List ℕ) (p : ℕ) (e : Expr) (u : List ℕ) (fits : FitsExpr e) (here : drop p w ≡ bytes e ++ u) where
@@ -184,30 +183,11 @@ module _ (w : List ℕ) (p : ℕ) (e : Expr) (u : List ℕ) (fits : FitsExpr e) 
   operand = rw (lt-ltb p (length w) stands-inside, token-front) (go e refl)
     where
       go : (x : Expr) → e ≡ x → Operand w (p + length (bytes x)) x (array-of (shown (front-token x p)))
-      go (atom nil) is = no-array (λ (bs : List ℕ) (q : atom nil ≡ atom (array bs)). impossible (cc))
-      go (atom (array bs)) is = let part = array-part bs is in an-array bs (part .0) (part .1)
-      go (atom (int v)) is = no-array (λ (bs : List ℕ) (q : atom (int v) ≡ atom (array bs)). impossible (cc))
-      go (atom (ref m n)) is = no-array (λ (bs : List ℕ) (q : atom (ref m n) ≡ atom (array bs)). impossible (cc))
-      go (form es) is = no-array (λ (bs : List ℕ) (q : form es ≡ atom (array bs)). impossible (cc))
-
--- a value that is an array whose bytes are between two places
-pub record IsArray (w : List ℕ) (to : ℕ) (e : Expr) (p q : ℕ) : Type 0 where
-  pub own : List ℕ
-  pub is : e ≡ atom (array own)
-  pub order : p ≤ q
-  pub end : q ≡ to
-  pub part : slice p q w ≡ own
-
-told-array : {w : List ℕ} {to : ℕ} {e : Expr} {r : Bytes} {p q : ℕ} → Operand w to e r → Array p q ≡ r → IsArray w to e p q
-told-array {w} {to} {p = p} {q = q} (an-array {from = from} bs h part) same =
-    let start : p ≡ from = cc in
-    let end : q ≡ to = cc in
-    record { own = bs; is = refl; order = rw (start, end) h; end = end; part = rw (start, end) part }
-told-array (no-array n) same = impossible (cc)
-
-told-other : {w : List ℕ} {to : ℕ} {e : Expr} {r : Bytes} → Operand w to e r → Other ≡ r → (bs : List ℕ) → e ≡ atom (array bs) → ⊥
-told-other (an-array bs h part) same cs is = impossible (cc)
-told-other (no-array n) same cs is = n cs is
+      go (atom nil) is = λ bs q. impossible (cc)
+      go (atom (array bs)) is = let part = array-part bs is in record { own = bs; is = refl; order = part .0; end = refl; part = part .1 }
+      go (atom (int v)) is = λ bs q. impossible (cc)
+      go (atom (ref m n)) is = λ bs q. impossible (cc)
+      go (form es) is = λ bs q. impossible (cc)
 
 -- the two operands of a concat
 module _ {w : List ℕ} {start top : ℕ} {a b : Expr} (there : Stand w start top (more a (only b))) (fits : FitsAll (more a (only b))) where
@@ -237,21 +217,21 @@ module _ {w : List ℕ} {start top : ℕ} {a b : Expr} (there : Stand w start to
   second-operand : Operand w top b (array-at w mid)
   second-operand = subst (λ (k : ℕ). Operand w k b (array-at w mid)) second-end (operand w mid b rest (fits .1 .0) second-here)
 
-  pub first-other : Other ≡ array-at w start → (bs : List ℕ) → a ≡ atom (array bs) → ⊥
-  first-other = told-other first-operand
+  pub first-other : array-at w start ≡ Other → (bs : List ℕ) → a ≡ atom (array bs) → ⊥
+  first-other told = subst (Operand w mid a) told first-operand
 
-  module _ {p q : ℕ} (told : Array p q ≡ array-at w start) where
+  module _ {p q : ℕ} (told : array-at w start ≡ Array p q) where
     pub first-array : IsArray w mid a p q
-    first-array = told-array first-operand told
+    first-array = subst (Operand w mid a) told first-operand
 
     pub first-inside : q ≤ top
     first-inside = omega (arith, first-array .end, second-end)
 
-    second-at : array-at w q ≡ array-at w mid
-    second-at = ap (λ (k : ℕ). array-at w k) (first-array .end)
+    second-told : Operand w top b (array-at w q)
+    second-told = rw (first-array .end) second-operand
 
-    pub second-other : Other ≡ array-at w q → (bs : List ℕ) → b ≡ atom (array bs) → ⊥
-    second-other told′ = told-other second-operand (told′ ∙ second-at)
+    pub second-other : array-at w q ≡ Other → (bs : List ℕ) → b ≡ atom (array bs) → ⊥
+    second-other told′ = subst (Operand w top b) told′ second-told
 
-    pub second-array : {r s : ℕ} → Array r s ≡ array-at w q → IsArray w top b r s
-    second-array told′ = told-array second-operand (told′ ∙ second-at)
+    pub second-array : {r s : ℕ} → array-at w q ≡ Array r s → IsArray w top b r s
+    second-array told′ = subst (Operand w top b) told′ second-told

@@ -3,12 +3,11 @@
 use Prim.Native.Nat.{ℕ, _+_, _≤_, _<_}
 use mathlib.Core.Path.{_≡_, refl, sym, ap, _∙_, subst}
 use mathlib.Core.List.{List, _∷_, _++_, append-nil}
-use mathlib.Core.Bool.{Bool, true, false, _||_}
+use mathlib.Core.Bool.{or-comm}
 use native.Mathlib.Omega.{arith}
 use lib.ListN.{length}
-use lib.Seq.{slice}
 use lib.Dec.{eqb}
-use Rattle.spec.specs.Expr.{some, Exprs, none, append, canonical}
+use Rattle.spec.specs.Expr.{some, Exprs, none, append}
 use Rattle.spec.specs.Nodes.{Node, Nodes, empty, cons, markers, markers-all}
 use Rattle.spec.specs.Runs.{done, Held, kept, ceased, hold}
 use Rattle.spec.specs.Plan.{Place, top, element, inner, Here}
@@ -35,24 +34,14 @@ use Rattle.evaluator.proofs.Shown.{shows-more, shows-kept, shows-lower,
 
 -- Values one after the other
 
-stand-append : (w : List ℕ) (a b c : ℕ) (vs us : Exprs) → Stand w a b vs → Stand w b c us → Stand w a c (append vs us)
-stand-append w a b c vs us x y = record {
+stand-append : {w : List ℕ} {a b c : ℕ} {vs us : Exprs} → Stand w a b vs → Stand w b c us → Stand w a c (append vs us)
+stand-append {w} {a} {b} {c} {vs} {us} x y = record {
   order = omega (arith, x .order, y .order);
   inside = y .inside;
-  bytes =
-      slice-split a b c w (x .order) (y .order) (y .inside)
-      ∙ ap (λ (z : List ℕ). z ++ slice b c w) (x .bytes)
-      ∙ ap (λ (z : List ℕ). canonical vs ++ z) (y .bytes)
-      ∙ sym (canonical-append vs us);
+  bytes = slice-split a b c w (x .order) (y .order) (y .inside) ∙ rw (x .bytes, y .bytes) (sym (canonical-append vs us));
 }
 
 -- Where the next expression stands
-
-either-way : (a b : Bool) → a || b ≡ b || a
-either-way true true = refl
-either-way true false = refl
-either-way false true = refl
-either-way false false = refl
 
 module _ (s t : List ℕ) (row : ℕ) (e : Node) (node : NodeAt s t row e) where
   alone : NodesAt s t row (next t row) (cons e empty)
@@ -62,13 +51,9 @@ module _ (s t : List ℕ) (row : ℕ) (e : Node) (node : NodeAt s t row e) where
   placed-beyond : (stands : Stands) (p : Place) → Placed s t row stands p → Placed s t (next t row) stands (beyond e p)
   unfolding markers
   placed-beyond stands (top earlier) (at-top es nodes same) =
-      at-top (append-nodes es (cons e empty)) (nodes-append s t 0 row (next t row) es (cons e empty) nodes alone)
-      λ m. some-append (eqb m) (markers e) earlier
-      ∙ either-way (some (eqb m) (markers e)) (some (eqb m) earlier)
-      ∙ ap (λ (b : Bool). b || some (eqb m) (markers e)) (same m)
-      ∙ sym (some-append (eqb m) (markers-all es) (markers e))
-      ∙ ap (λ (l : List ℕ). some (eqb m) (markers-all es ++ l)) (sym (append-nil (markers e)))
-      ∙ ap (some (eqb m)) (sym (markers-append es (cons e empty)))
+      at-top {earlier = markers e ++ earlier} (append-nodes es (cons e empty)) (nodes-append s t 0 row (next t row) es (cons e empty) nodes alone)
+      λ m. rw (some-append (eqb m) (markers e) earlier, same m, markers-append es (cons e empty), append-nil (markers e), some-append (eqb m) (markers-all es) (markers e))
+      (or-comm (some (eqb m) (markers e)) (some (eqb m) (markers-all es)))
   placed-beyond stands element at-element = at-element
   placed-beyond stands inner at-inner = at-inner
 
@@ -228,7 +213,7 @@ module _ {s t : List ℕ} {bound codes : ℕ} {args : List ℕ} {stands : Stands
               single = eval-scope codes (going-more .head) standing-here one (r .single) (ends .0);
               entered = r .entered;
             };
-            stand = stand-append w′ (st₀ .top) (st .top) (st′ .top) (g .passed) (one .values) (stand-below others (omega arith) (g .stand)) stand;
+            stand = stand-append (stand-below others (omega arith) (g .stand)) stand;
             others = untouched-then (g .others) (untouched-less (st₀ .top) (st₀ .floor) order (g .lower) others);
             lower = omega (arith, g .lower);
             fewer = omega (arith, ends .1, g .fewer);

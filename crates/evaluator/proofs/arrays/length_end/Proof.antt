@@ -20,20 +20,8 @@ there c =
     let pre = c .before .before .pre in
     innermost (a .s .now) (a .at) (c .threes .result) (pre .2 .0) (pre .0) (pre .1) (c .threes .ensures) (pre .2 .1)
 
-add-p : tie.Need-add-p
-add-p c = omega (arith, there c .inside)
-
-shared-slice-read-b : tie.Need-shared-slice-read-b
-shared-slice-read-b c = there (c .before) .inside
-
 cast-b : tie.Need-cast-b
 cast-b c = omega (arith, c .shared-slice-known2 .given (c .before .before .before .args .at + c .before .threes .result))
-
-add-q : tie.Need-add-q
-add-q c = omega (arith, there (c .before) .inside)
-
-sub-nested-end : tie.Need-sub-nested-end
-sub-nested-end c = there (c .before .before) .high
 
 nested-end-requires : tie.Need-nested-end-requires
 nested-end-requires c κs =
@@ -43,9 +31,6 @@ nested-end-requires c κs =
 
 returns : tie.Need-returns
 returns c = let i = there (c .before .before .before) in ends-as (sym (i .int (c .before .if1 .taken))) (c .nested-end .ensures)
-
-add-e : tie.Need-add-e
-add-e c = omega (arith, there (c .before .before) .array (c .if1 .left) .inside)
 
 short-number-requires : tie.Need-short-number-requires
 short-number-requires c κs = let q = there (c .before .before) .array (c .if1 .left) in (omega arith, q .inside, q .short)
@@ -78,14 +63,14 @@ length-end-spec =
     tie.close
     (tie.spec
     (λ c κs. search needs)
-    add-p
-    shared-slice-read-b
+    (λ c. omega (arith, there c .inside))
+    (λ c. there (c .before) .inside)
     cast-b
-    add-q
-    sub-nested-end
+    (λ c. omega (arith, there (c .before) .inside))
+    (λ c. there (c .before .before) .high)
     nested-end-requires
     returns
-    add-e
+    (λ c. omega (arith, there (c .before .before) .array (c .if1 .left) .inside))
     short-number-requires
     nested-end-requires-2
     returns-2)

@@ -23,9 +23,6 @@ passing : (c : tie.In-loop Inv-loop μ-loop) → let a = c .before .before .befo
     Passing (a .s .now) (around (a .depth) (taken (a .value) (drop (a .from) (a .s .now)))) (l .k) (l .v) (l .at)
 passing c = let pre = c .before .before .before .pre in nested-next (pre .2 .1) (c .before .loop .inv) (pre .0) (omega arith)
 
-short-number-requires : tie.Need-short-number-requires Inv-loop μ-loop
-short-number-requires c κs = (omega arith, passing c .inside, passing c .short)
-
 loop-again : tie.Need-loop-again Inv-loop μ-loop
 loop-again c = rw (c .short-number .ensures) (passing (c .before) .next)
 
@@ -40,7 +37,7 @@ nested-end-spec =
     μ-loop
     loop-holds
     (λ c. omega (arith, passing c .inside))
-    short-number-requires
+    (λ c κs. (omega arith, passing c .inside, passing c .short))
     (λ c. omega arith)
     (λ c. omega arith)
     loop-again

@@ -11,50 +11,34 @@ use Rattle.evaluator.proofs.Finishes.{code-none, code-first, code-many,
 use Rattle.evaluator.proofs.element.is_single.Statement.{statement}
 use Rattle.evaluator.proofs.element.is_single.Tie as tie
 
-next-requires : tie.Need-next-requires
-next-requires c κs = c .before .before .pre .1 .form .inside
-
 returns : tie.Need-returns
-returns c = λ body at.
-    let a = c .before .before .before .before .args in
-    sym (code-none (a .s .now) (a .table .now) (a .code) body at (omega arith))
+returns c body at = sym (code-none at (omega arith))
 
 -- the first expression of the code
 first : (c : tie.Else1) → let start = c .before .before .before .before in let a = start .args in
     MoreAt (a .s .now) (a .table .now) (a .code + 2) (next (a .table .now) (a .code)) (start .pre .0)
-first c =
-    let start = c .before .before .before .before in
-    let a = start .args in
-    code-first (a .s .now) (a .table .now) (a .code) (start .pre .0) (start .pre .1) (omega arith)
+first c = code-first (c .before .before .before .before .pre .1) (omega arith)
 
 next-requires-2 : tie.Need-next-requires-2
-next-requires-2 c κs =
-    let a = c .before .before .before .before .args in
-    let f = first c in
-    node-whole (a .s .now) (a .table .now) (a .code + 2) (f .head) (f .node) .0
+next-requires-2 c κs = let f = first c in node-whole _ _ _ (f .head) (f .node) .0
 
 returns-2 : tie.Need-returns-2
-returns-2 c = λ body at.
-    let a = c .before .before .before .before .before .before .args in
-    sym (code-many (a .s .now) (a .table .now) (a .code) body at (omega arith) (omega arith))
+returns-2 c body at = sym (code-many at (omega arith) (omega arith))
 
 head-requires : tie.Need-head-requires
-head-requires c κs =
-    let f = first (c .before .before) in
-    (f .head, f .node)
+head-requires c κs = let f = first (c .before .before) in (f .head, f .node)
 
 returns-3 : tie.Need-returns-3
-returns-3 c = λ body at.
+returns-3 c body at =
     let known = c .before .before .before .before .before .before in
-    let a = known .before .args in
-    let stream = all-bytes (a .s .now) (λ i. known .shared-slice-known .given i .fits) in
-    code-one (a .s .now) (a .table .now) (a .code) body at (omega arith) (c .head .result) stream (omega arith) (c .head .ensures)
+    let stream = all-bytes (known .before .args .s .now) (λ i. known .shared-slice-known .given i .fits) in
+    code-one at (omega arith) (c .head .result) stream (omega arith) (c .head .ensures)
 
 pub is-single-spec : {M : Type 1} → statement M
 is-single-spec =
     tie.close
     (tie.spec
-    next-requires
+    (λ c κs. c .before .before .pre .1 .form .inside)
     (λ c. search needs)
     returns
     (λ c. search needs)

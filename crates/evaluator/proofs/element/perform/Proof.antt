@@ -31,12 +31,6 @@ associate-requires c κs =
 small : (c : tie.After-known-told4) → let told = c .before .task4 .given .0 in (told .0 < function-bit) × (told .1 .0 < 65536)
 small c = function-small (rw (c .before .task4 .given .1) at (c .before .before .before .before .before .before .pre .5 .planned))
 
-add-t32 : tie.Need-add-t32
-add-t32 c = omega (arith, small c .0)
-
-cast-t33 : tie.Need-cast-t33
-cast-t33 c = omega (arith, small c .1)
-
 returns : tie.Need-returns
 returns c sc st run e h is p = refuse-begun run (rw (c .before .task .given .1) at p)
 
@@ -84,8 +78,8 @@ perform-spec =
     associate-requires
     (λ c κs. search needs)
     (λ c. search needs)
-    add-t32
-    cast-t33
+    (λ c. omega (arith, small c .0))
+    (λ c. omega (arith, small c .1))
     (λ c. search needs)
     (λ c κs. search needs)
     returns

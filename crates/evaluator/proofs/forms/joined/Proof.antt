@@ -12,12 +12,12 @@ use Rattle.evaluator.proofs.forms.joined.Tie as tie
 
 -- the arrays that were found
 told-first : (c : tie.After-a) → let s = c .before .before .before .before .before .args in
-    Array (c .a .given .0 .0) (c .a .given .0 .1 .0) ≡ array-at (s .w .now) (s .start)
-told-first c = sym (c .a .given .1) ∙ c .before .before .array-at .ensures
+    array-at (s .w .now) (s .start) ≡ Array (c .a .given .0 .0) (c .a .given .0 .1 .0)
+told-first c = sym (c .before .before .array-at .ensures) ∙ c .a .given .1
 
 told-second : (c : tie.After-c) → let f = c .before .before .before .before .before in
-    Array (c .c .given .0 .0) (c .c .given .0 .1 .0) ≡ array-at (f .before .before .before .before .before .args .w .now) (f .a .given .0 .1 .0)
-told-second c = sym (c .c .given .1) ∙ c .before .before .array-at2 .ensures
+    array-at (f .before .before .before .before .before .args .w .now) (f .a .given .0 .1 .0) ≡ Array (c .c .given .0 .0) (c .c .given .0 .1 .0)
+told-second c = sym (c .before .before .array-at2 .ensures) ∙ c .c .given .1
 
 join-at-requires : tie.Need-join-at-requires
 join-at-requires c κs =
@@ -31,14 +31,14 @@ join-at-requires c κs =
 
 returns : tie.Need-returns
 returns c a b there fits =
-    let told = sym (c .enum-told .given .1) ∙ c .before .before .array-at .ensures in
-    (no-arrays (λ bs cs is is′. first-other there fits told bs is))
+    let told = sym (c .before .before .array-at .ensures) ∙ c .enum-told .given .1 in
+    no-arrays (λ bs cs is is′. first-other there fits told bs is)
 
 returns-2 : tie.Need-returns-2
 returns-2 c a b there fits =
     let f = c .before .before .before .before .before in
-    let told = sym (c .enum-told2 .given .1) ∙ c .before .before .array-at2 .ensures in
-    (no-arrays (λ bs cs is is′. second-other there fits (told-first f) told cs is′))
+    let told = sym (c .before .before .array-at2 .ensures) ∙ c .enum-told2 .given .1 in
+    no-arrays (λ bs cs is is′. second-other there fits (told-first f) told cs is′)
 
 returns-3 : tie.Need-returns-3
 returns-3 c a b there fits =

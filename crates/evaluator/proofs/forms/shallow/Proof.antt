@@ -22,18 +22,9 @@ loop-holds c =
     let a = c .before .args in
     nesting-start (a .values .now) (all-bytes (a .values .now) (λ i. c .shared-slice-known .given i .fits)) (c .before .pre .1)
 
-sub-loop : tie.Need-sub-loop Inv-loop μ-loop
-sub-loop c = c .loop .inv .inside
-
-add-loop : tie.Need-add-loop Inv-loop μ-loop
-add-loop c = omega (arith, c .loop .inv .few)
-
 -- where the loop goes on, bytes are left
 left : (c : tie.In-loop Inv-loop μ-loop) → c .before .loop .at < length (c .before .before .before .args .values .now)
 left c = omega (arith, c .loop-test .taken, c .before .loop .inv .few)
-
-token-at-requires : tie.Need-token-at-requires Inv-loop μ-loop
-token-at-requires c κs = omega (arith, left c)
 
 -- what is known of the turn where the token is this one
 at-token : (c : tie.After-token-at Inv-loop μ-loop) (r : Answer) → c .token-at .result ≡ r
@@ -46,14 +37,8 @@ returns c = at-token (c .before .before .before) Opening (c .before .enum-told .
 loop-again : tie.Need-loop-again Inv-loop μ-loop
 loop-again c = at-token (c .before .before .before) Opening (c .before .enum-told .given .1) .1 (c .if1 .left)
 
-sub-depth : tie.Need-sub-depth Inv-loop μ-loop
-sub-depth c = omega (arith, at-token (c .before .before) Closing (c .enum-told2 .given .1) .0)
-
 loop-again-2 : tie.Need-loop-again-2 Inv-loop μ-loop
 loop-again-2 c = at-token (c .before .before) Closing (c .enum-told2 .given .1) .1
-
-loop-less-3 : tie.Need-loop-less-3 Inv-loop μ-loop
-loop-less-3 c = omega (arith, at-token (c .before .before .before) _ (c .before .end .given .1) .0)
 
 loop-again-3 : tie.Need-loop-again-3 Inv-loop μ-loop
 loop-again-3 c = at-token (c .before .before .before) _ (c .before .end .given .1) .1
@@ -71,9 +56,9 @@ shallow-spec =
     Inv-loop
     μ-loop
     loop-holds
-    sub-loop
-    add-loop
-    token-at-requires
+    (λ c. c .loop .inv .inside)
+    (λ c. omega (arith, c .loop .inv .few))
+    (λ c κs. omega (arith, left c))
     (λ c. search needs)
     returns
     (λ c. omega arith)
@@ -81,12 +66,12 @@ shallow-spec =
     (λ c. omega arith)
     loop-again
     (λ c. search needs)
-    sub-depth
+    (λ c. omega (arith, at-token (c .before .before) Closing (c .enum-told2 .given .1) .0))
     (λ c. omega arith)
     (λ c. omega arith)
     loop-again-2
     (λ c. search needs)
-    loop-less-3
+    (λ c. omega (arith, at-token (c .before .before .before) _ (c .before .end .given .1) .0))
     loop-again-3
     (λ c. search needs)
     returns-2

@@ -19,24 +19,12 @@ loop-holds c =
     let v = c .before .pre .1 in
     spreading-start (a .values .now) (a .base) (a .args .now) (v .0, record { is = v .1; fits = v .2; shallow = v .3 })
 
-expression-end-requires : tie.Need-expression-end-requires Inv-loop μ-loop
-expression-end-requires c κs = (omega arith, omega arith, spreading-right _ _ _ _ _ (c .before .loop .inv))
-
 -- where the value ends
 at-end : (c : tie.After-put-place-arg Inv-loop μ-loop) → let l = c .before .before .before in let a = l .before .before .args in
     Ended (a .values .now) (a .base) (l .loop .args) (l .loop .at) (l .loop .n) (c .before .expression-end .result)
 at-end c =
     let l = c .before .before .before in
     spreading-turn _ _ _ _ _ (l .loop .inv) _ (c .before .expression-end .ensures) (λ h. omega (arith, c .put-place-arg .given)) (c .before .before .loop-test .taken)
-
-add-put-place-2 : tie.Need-add-put-place-2 Inv-loop μ-loop
-add-put-place-2 c = omega (arith, at-end c .inside)
-
-put-place-requires : tie.Need-put-place-requires Inv-loop μ-loop
-put-place-requires c κs = omega (arith, at-end c .forward, at-end c .inside, c .put-place-arg .given)
-
-loop-less : tie.Need-loop-less Inv-loop μ-loop
-loop-less c = omega (arith, at-end (c .before) .forward)
 
 loop-again : tie.Need-loop-again Inv-loop μ-loop
 loop-again c = rw (c .put-place .ensures) (at-end (c .before) .next)
@@ -52,11 +40,11 @@ spread-spec =
     Inv-loop
     μ-loop
     loop-holds
-    expression-end-requires
+    (λ c κs. (omega arith, omega arith, spreading-right _ _ _ _ _ (c .before .loop .inv)))
     (λ c. omega arith)
-    add-put-place-2
-    put-place-requires
+    (λ c. omega (arith, at-end c .inside))
+    (λ c κs. omega (arith, at-end c .forward, at-end c .inside, c .put-place-arg .given))
     (λ c. omega arith)
-    loop-less
+    (λ c. omega (arith, at-end (c .before) .forward))
     loop-again
     returns)

@@ -38,9 +38,6 @@ sized c vs there fits = form-sized there (sym (told-depth (c .before) vs there f
 returns-2 : tie.Need-returns-2
 returns-2 c vs there fits = unpaid (sized (c .before .before) vs there fits) (c .if2 .taken)
 
-slice-write-w-2 : tie.Need-slice-write-w-2
-slice-write-w-2 c = simp length-set (omega (arith, c .before .before .move-bytes .kept .0))
-
 returns-3 : tie.Need-returns-3
 returns-3 c vs there fits =
     let m = c .before .before .before in
@@ -70,7 +67,7 @@ wrapped-spec =
     (λ c. search needs)
     (λ c. search needs)
     (λ c. search needs)
-    slice-write-w-2
+    (λ c. simp length-set (omega (arith, c .before .before .move-bytes .kept .0)))
     (λ c. search needs)
     (λ c κs. search needs)
     (λ c. search needs)

@@ -266,9 +266,6 @@ module _ (t : ℕ) where
         kept-start j,
       )
 
-  list-loop-less : list-lts.Need-loop-less list-calls (list-at t) list.Post list-Inv-loop list-μ-loop
-  list-loop-less c = nearer (behind (c .before .before .before .before))
-
   list-loop-again : list-lts.Need-loop-again list-calls (list-at t) list.Post list-Inv-loop list-μ-loop
   list-loop-again c =
       let j = c .before .before .before in
@@ -290,9 +287,6 @@ module _ (t : ℕ) where
       let l = left-as j (some (turn (j .before))) _ (c .before .before .before .left3 .given .1) in
       omega (arith, l .few, entries-length (now .keys) (now .places) (now .scope .len))
 
-  list-loop-less-2 : list-lts.Need-loop-less-2 list-calls (list-at t) list.Post list-Inv-loop list-μ-loop
-  list-loop-less-2 c = nearer (behind (c .before .before .before .before .before .before .before))
-
   list-loop-again-2 : list-lts.Need-loop-again-2 list-calls (list-at t) list.Post list-Inv-loop list-μ-loop
   list-loop-again-2 c =
       let j = c .before .before .before .before .before .before in
@@ -310,9 +304,6 @@ module _ (t : ℕ) where
             ∙ kept-start j;
         longer = omega (arith, more .1, i .longer);
       }
-
-  list-same-length-2 : list-lts.Need-same-length-2 list-calls (list-at t) list.Post list-Inv-loop list-μ-loop
-  list-same-length-2 c = c .before .before .loop .inv .size
 
   list-returns-2 : list-lts.Need-returns-2 list-calls (list-at t) list.Post list-Inv-loop list-μ-loop
   list-returns-2 c =
@@ -351,15 +342,6 @@ module _ (t : ℕ) where
 
   call-returns-1 : call-lts.Need-returns call-calls (call-at t) call.Post
   call-returns-1 c = rw (told (c .before)) λ bound codes body behind h vs es z. call-refused z _ (c .if1 .taken)
-
-  call-sub-spread : call-lts.Need-sub-spread call-calls (call-at t) call.Post
-  call-sub-spread c = some-calls (c .before .before .before) .calls .stand .order
-
-  call-part-spread-start : call-lts.Need-part-spread-start call-calls (call-at t) call.Post
-  call-part-spread-start c = let z = some-calls (c .before .before .before .before) .calls in search (needs, z .stand .order)
-
-  call-part-spread-end : call-lts.Need-part-spread-end call-calls (call-at t) call.Post
-  call-part-spread-end c = let z = some-calls (c .before .before .before .before) .calls in search (needs, z .stand .inside)
 
   call-spread-requires : call-lts.Need-spread-requires call-calls (call-at t) call.Post
   call-spread-requires c κs =
@@ -417,9 +399,6 @@ module _ (t : ℕ) where
             (l .result) (l .ensures .0),
       )
 
-  call-returns-2 : call-lts.Need-returns-2 call-calls (call-at t) call.Post
-  call-returns-2 c = rw (c .before .out .given .1) refl
-
   call-returns-3 : call-lts.Need-returns-3 call-calls (call-at t) call.Post
   call-returns-3 c =
       let n = c .before .before .before .before .before .before .before .before in
@@ -431,5 +410,15 @@ module _ (t : ℕ) where
 
 pub +call+list-spec : {M : Type 1} → statement M
 +call+list-spec = close μ-call μ-list
-    (λ t. call-lts.spec (call-calls t) (call-at t) call.Post (λ c. search needs) (λ c. search needs) (call-returns-1 t) (call-sub-spread t) (call-part-spread-start t) (call-part-spread-end t) (call-spread-requires t) (call-add-list t) (call-back-to-requires t) (call-add-list-2 t) (call-next-requires t) (call-list-requires t) (call-returned-requires t) (λ c κs. search needs) (call-returns-2 t) (λ c. search needs) (call-returns-3 t))
-    λ t. list-lts.spec (list-calls t) (list-at t) list.Post list-Inv-loop list-μ-loop (list-loop-holds t) (list-next-requires t) (list-begin-requires t) (λ c. search needs) (λ c. search needs) (λ c κs. search needs) (list-list-requires t) (list-finish-requires t) (λ c. search needs) (list-list-requires-2 t) (list-call-requires t) (λ c. search needs) (list-same-length t) (list-returns t) (λ c. search needs) (list-loop-less t) (list-loop-again t) (λ c. search needs) (list-add-requires t) (list-loop-less-2 t) (list-loop-again-2 t) (λ c κs. search needs) (list-same-length-2 t) (list-returns-2 t)
+    (λ t. call-lts.spec (call-calls t) (call-at t) call.Post (λ c. search needs) (λ c. search needs) (call-returns-1 t)
+    (λ c. some-calls t (c .before .before .before) .calls .stand .order)
+    (λ c. let z = some-calls t (c .before .before .before .before) .calls in search (needs, z .stand .order))
+    (λ c. let z = some-calls t (c .before .before .before .before) .calls in search (needs, z .stand .inside))
+    (call-spread-requires t) (call-add-list t) (call-back-to-requires t) (call-add-list-2 t) (call-next-requires t) (call-list-requires t)
+    (call-returned-requires t) (λ c κs. search needs) (λ c. rw (c .before .out .given .1) refl) (λ c. search needs) (call-returns-3 t))
+    λ t. list-lts.spec (list-calls t) (list-at t) list.Post list-Inv-loop list-μ-loop (list-loop-holds t) (list-next-requires t) (list-begin-requires t)
+    (λ c. search needs) (λ c. search needs) (λ c κs. search needs) (list-list-requires t) (list-finish-requires t) (λ c. search needs)
+    (list-list-requires-2 t) (list-call-requires t) (λ c. search needs) (list-same-length t) (list-returns t) (λ c. search needs)
+    (λ c. nearer t (behind t (c .before .before .before .before))) (list-loop-again t) (λ c. search needs) (list-add-requires t)
+    (λ c. nearer t (behind t (c .before .before .before .before .before .before .before))) (list-loop-again-2 t) (λ c κs. search needs)
+    (λ c. c .before .before .loop .inv .size) (list-returns-2 t)

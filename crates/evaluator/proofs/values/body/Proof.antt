@@ -3,43 +3,40 @@ use borrow.Author.Needs.{needs}
 use Prim.Native.Nat.{ℕ, _-_}
 use mathlib.Core.Path.{_≡_, refl, sym, _∙_, subst}
 use mathlib.Core.List.{List}
-use native.Mathlib.Omega.{arith}
 use lib.ListN.{length}
 use Rattle.spec.specs.Expr.{Atom, nil, array, int, ref, if-array}
 use Rattle.spec.specs.Reading.{atom-kind}
-use Rattle.evaluator.specs.Stands.{cell, LeafAt}
+use Rattle.evaluator.specs.Stands.{LeafAt}
 use Rattle.evaluator.proofs.Nodes.{kind-array, leaf-kind}
 use Rattle.evaluator.proofs.values.body.Statement.{statement}
 use Rattle.evaluator.proofs.values.body.Tie as tie
 
--- an atom's body, by what its kind tells of it
-module _ {s t : List ℕ} {r from : ℕ} where
-  of-array : (a : Atom) → LeafAt s t r a → atom-kind a ≡ 2 → ((bs : List ℕ) → LeafAt s t r (array bs) → from ≡ cell t r 2 - length bs)
-      → from ≡ if-array a (λ bs. cell t r 2 - length bs) (cell t r 1)
-  of-array nil l h is = absurd (omega arith)
-  of-array (array bs) l h is = is bs l
-  of-array (int v) l h is = absurd (omega arith)
-  of-array (ref m n) l h is = absurd (omega arith)
+-- the body of an atom other than an array
+of-other : (from end : ℕ) (a : Atom) → (atom-kind a ≡ 2 → ⊥) → from ≡ if-array a (λ bs. end - length bs) from
+of-other from end nil h = refl
+of-other from end (array bs) h = absurd (h refl)
+of-other from end (int v) h = refl
+of-other from end (ref m n) h = refl
 
-  of-other : (a : Atom) → LeafAt s t r a → (atom-kind a ≡ 2 → ⊥) → from ≡ cell t r 1 → from ≡ if-array a (λ bs. cell t r 2 - length bs) (cell t r 1)
-  of-other nil l h is = is
-  of-other (array bs) l h is = absurd (h refl)
-  of-other (int v) l h is = is
-  of-other (ref m n) l h is = is
+-- an array, if the code is told so
+is-array : (c : tie.After-kind) (a : Atom) → let x = c .before .before .before .args in LeafAt (x .s .now) (x .table .now) (x .row) a → c .kind .result ≡ 2
+    → (bs : List ℕ) × (a ≡ array bs) × LeafAt (x .s .now) (x .table .now) (x .row) (array bs)
+is-array c a leaf two =
+    let is = kind-array a (leaf-kind leaf ∙ sym (c .kind .ensures) ∙ two) in
+    (is .0, is .1, subst (LeafAt _ _ _) (is .1) leaf)
 
 body-requires : tie.Need-body-requires
 body-requires c κs =
-    let leaf = c .before .before .before .before .pre .1 in
-    let is = kind-array (c .before .before .before .before .pre .0) (leaf-kind leaf ∙ sym (c .before .kind .ensures) ∙ c .if1 .taken) in
-    (is .0, subst (LeafAt _ _ _) (is .1) leaf)
+    let pre = c .before .before .before .before .pre in
+    let is = is-array (c .before) (pre .0) (pre .1) (c .if1 .taken) in
+    (is .0, is .2)
 
 returns : tie.Need-returns
-returns c a leaf =
-    of-array a leaf (leaf-kind leaf ∙ sym (c .before .before .kind .ensures) ∙ c .before .if1 .taken) (c .body .ensures)
+returns c a leaf = let is = is-array (c .before .before) a leaf (c .before .if1 .taken) in rw (is .1) (c .body .ensures (is .0) (is .2))
 
 returns-2 : tie.Need-returns-2
 returns-2 c a leaf =
-    of-other a leaf (λ h. c .before .if1 .left (c .before .before .kind .ensures ∙ sym (leaf-kind leaf) ∙ h)) (c .start .ensures)
+    rw (c .start .ensures) (of-other _ _ a (λ h. c .before .if1 .left (c .before .before .kind .ensures ∙ sym (leaf-kind leaf) ∙ h)))
 
 pub body-spec : {M : Type 1} → statement M
 body-spec = tie.close (tie.spec (λ c κs. search needs) body-requires returns (λ c κs. search needs) returns-2)

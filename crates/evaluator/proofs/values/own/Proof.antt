@@ -21,9 +21,6 @@ module _ (c : tie.After-end) where
   given : Found (start .pre .1 .0)
   given = found (start .pre .1 .0) (start .pre .1 .1)
 
-sub-put-atom : tie.Need-sub-put-atom
-sub-put-atom c = given (c .before .before .before) .order
-
 returns : tie.Need-returns
 returns c a leaf =
     let k = c .before .before in
@@ -55,8 +52,8 @@ own-spec =
     (λ c. given c .order)
     (λ c κs. search needs)
     returns
-    sub-put-atom
-    sub-put-atom
+    (λ c. given (c .before .before .before) .order)
+    (λ c. given (c .before .before .before) .order)
     (λ c. search needs)
     put-atom-requires
     (λ c. search needs)

@@ -32,9 +32,6 @@ sized : (c : tie.After-atom-size) (m n : ℕ) (id : List ℕ) → LeafOf (c .bef
     → let e = c .before in Sized (ns-form m n id) (4 + (e .before .before .end .result - e .before .before .before .start .result) + c .atom-size .result)
 sized c m n id leaf leaf′ = ns-sized (reference (c .before) m n leaf) (array-id (c .before) id leaf′) (omega (arith, c .atom-size .ensures))
 
-sub-atom-size : tie.Need-sub-atom-size
-sub-atom-size c = array-id c _ (start c .pre .1 .4) .order
-
 add-n-2 : tie.Need-add-n-2
 add-n-2 c =
     let e = c .before in
@@ -44,9 +41,6 @@ add-n-2 c =
 
 returns : tie.Need-returns
 returns c m n id leaf leaf′ = unpaid (sized (c .before .before) m n id leaf leaf′) (c .if1 .taken)
-
-sub-put-ns-2 : tie.Need-sub-put-ns-2
-sub-put-ns-2 c = sub-atom-size (c .before .before .before .before)
 
 put-ns-requires : tie.Need-put-ns-requires
 put-ns-requires c κs =
@@ -79,15 +73,15 @@ own-ns-spec =
     (λ c κs. search needs)
     (λ c. search needs)
     (λ c. search needs)
-    sub-atom-size
+    (λ c. array-id c _ (start c .pre .1 .4) .order)
     (λ c κs. search needs)
     add-n-2
     returns
     (λ c. search needs)
     (λ c. search needs)
     (λ c. search needs)
-    sub-put-ns-2
-    sub-put-ns-2
+    (λ c. let e = c .before .before .before .before in array-id e _ (start e .pre .1 .4) .order)
+    (λ c. let e = c .before .before .before .before in array-id e _ (start e .pre .1 .4) .order)
     (λ c. search needs)
     put-ns-requires
     (λ c. search needs)

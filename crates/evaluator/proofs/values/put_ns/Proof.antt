@@ -63,12 +63,6 @@ last-room c =
     let size = length-append (front k) (id k) in
     (omega (arith, p .place), put-length (omega arith) p)
 
-slice-write-w-4 : tie.Need-slice-write-w-4
-slice-write-w-4 c = omega (arith, last-room (c .before .before))
-
-same-length : tie.Need-same-length
-same-length c = simp length-set (last-room (c .before .before) .1)
-
 returns : tie.Need-returns
 returns c =
     let p = c .before .before in
@@ -88,6 +82,6 @@ put-ns-spec =
     (λ c. search needs)
     put-atom-requires
     put-atom-requires-2
-    slice-write-w-4
-    same-length
+    (λ c. omega (arith, last-room (c .before .before)))
+    (λ c. simp length-set (last-room (c .before .before) .1))
     returns)
