@@ -64,6 +64,14 @@ module _ (s t w : List ℕ) (floor : ℕ) where
   shows-more e es d ds h l = (h, l)
 
   -- a definition elsewhere in the workspace, or a lower floor
+  module _ {w′ : List ℕ} {floor′ : ℕ} (each : (e : Entry) (m n : ℕ) (c : Defined) → EntryAt s t w floor e m n c → EntryAt s t w′ floor′ e m n c) where
+    shows-each : (es : List Entry) (ds : Scope) → Shows s t w floor es ds → Shows s t w′ floor′ es ds
+    unfolding Shows
+    shows-each [] [] h = tt
+    shows-each [] (d ∷ ds) h = absurd h
+    shows-each (e ∷ es) [] h = absurd h
+    shows-each (e ∷ es) (d ∷ ds) h = (each e (d .marker) (d .name) (d .content) (h .0), shows-each es ds (h .1))
+
   entry-kept : {w′ : List ℕ} {below : ℕ} → Untouched w w′ below floor → (e : Entry) (m n : ℕ) (c : Defined)
       → EntryAt s t w floor e m n c → EntryAt s t w′ floor e m n c
   entry-kept u e m n (value vs) (value-at from to f k p low order short stand) = value-at from to f k p low order short (stand-above u low stand)
@@ -71,23 +79,14 @@ module _ (s t w : List ℕ) (floor : ℕ) where
 
   pub shows-kept : {w′ : List ℕ} {below : ℕ} → Untouched w w′ below floor → (es : List Entry) (ds : Scope)
       → Shows s t w floor es ds → Shows s t w′ floor es ds
-  unfolding Shows
-  shows-kept u [] [] h = tt
-  shows-kept u [] (d ∷ ds) h = absurd h
-  shows-kept u (e ∷ es) [] h = absurd h
-  shows-kept u (e ∷ es) (d ∷ ds) h = (entry-kept u e (d .marker) (d .name) (d .content) (h .0), shows-kept u es ds (h .1))
+  shows-kept u = shows-each (entry-kept u)
 
   entry-lower : (floor′ : ℕ) → floor′ ≤ floor → (e : Entry) (m n : ℕ) (c : Defined) → EntryAt s t w floor e m n c → EntryAt s t w floor′ e m n c
   entry-lower floor′ less e m n (value vs) (value-at from to f k p low order short stand) = value-at from to f k p (omega arith) order short stand
   entry-lower floor′ less e m n (function body) (function-at f k code) = function-at f k code
 
   pub shows-lower : (floor′ : ℕ) → floor′ ≤ floor → (es : List Entry) (ds : Scope) → Shows s t w floor es ds → Shows s t w floor′ es ds
-  unfolding Shows
-  shows-lower floor′ less [] [] h = tt
-  shows-lower floor′ less [] (d ∷ ds) h = absurd h
-  shows-lower floor′ less (e ∷ es) [] h = absurd h
-  shows-lower floor′ less (e ∷ es) (d ∷ ds) h =
-      (entry-lower floor′ less e (d .marker) (d .name) (d .content) (h .0), shows-lower floor′ less es ds (h .1))
+  shows-lower floor′ less = shows-each (entry-lower floor′ less)
 
   behind-more : (visible : ℕ) (e : Entry) (es : List Entry) (behind : Scope) → visible ≤ length es
       → Shows s t w floor (drop (length es - visible) es) behind → Shows s t w floor (drop (length (e ∷ es) - visible) (e ∷ es)) behind

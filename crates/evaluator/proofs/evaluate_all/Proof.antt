@@ -14,30 +14,23 @@ use Rattle.evaluator.proofs.evaluate_all.Tie as tie
 list-requires : tie.Need-list-requires
 list-requires c κs =
     let known = c .before .before .before .before .before .before .before .before in
-    let a = known .before .args in
-    let has = known .before .pre .0 in
-    let b = all-bytes (a .s .now) (λ i. known .shared-slice-known .given i .fits) in
-    record {
-      bound = a .rows;
-      codes = 32;
-      nodes = number-all 0 (has .means);
-      place = top [];
-      here = start;
-      ready = stream-ready (a .s .now) (has .before) (a .table .now) (a .rows) (has .rows) (has .means) b has (has .is) (has .filled-in) (a .w .now)
-          (replicate 64 0) (replicate 64 0) (entries (replicate 256 0) (replicate 256 0) (c .new .result)) (a .steps) 0 0 (c .new .ensures _ _) (known .before .pre .1);
-    }
+    let pre = known .before .pre in
+    let b = all-bytes (known .before .args .s .now) (λ i. known .shared-slice-known .given i .fits) in
+    let none = entries (replicate 256 0) (replicate 256 0) (c .new .result) in
+    let ready = stream-ready _ _ _ _ _ _ b (pre .0) (pre .0 .is) (pre .0 .filled-in) (known .before .args .w .now) (replicate 64 0) (replicate 64 0) none (known .before .args .steps) 0 0
+    (c .new .ensures _ _) (pre .1) in
+    record { bound = _; codes = 32; nodes = number-all 0 (pre .0 .means); place = top []; here = start; ready = ready }
 
 returns : tie.Need-returns
 returns c = λ t rs es reads fills.
     let ran = c .before .before in
     let known = ran .before .before .before .before .before .before .before .before .before in
-    let a = known .before .args in
-    let has = known .before .pre .0 in
-    let b = all-bytes (a .s .now) (λ i. known .shared-slice-known .given i .fits) in
-    let ready = stream-ready (a .s .now) t (a .table .now) (a .rows) rs es b has reads fills (a .w .now) (replicate 64 0) (replicate 64 0)
-    (entries (replicate 256 0) (replicate 256 0) (ran .before .new .result)) (a .steps) 0 0 (ran .before .new .ensures _ _) (known .before .pre .1) in
-    stream-ended (a .s .now) t (a .table .now) (a .rows) rs es b has reads fills (a .steps) (a .w .now) _ _ (ran .list .result)
-    (ran .list .ensures .0 (a .rows) 32 (number-all 0 es) (top []) start ready)
+    let pre = known .before .pre in
+    let b = all-bytes (known .before .args .s .now) (λ i. known .shared-slice-known .given i .fits) in
+    let none = entries (replicate 256 0) (replicate 256 0) (ran .before .new .result) in
+    let ready = stream-ready _ t _ _ rs es b (pre .0) reads fills (known .before .args .w .now) (replicate 64 0) (replicate 64 0) none (known .before .args .steps) 0 0
+    (ran .before .new .ensures _ _) (pre .1) in
+    stream-ended _ t _ _ rs es b (pre .0) reads fills _ _ _ _ (ran .list .result) (ran .list .ensures .0 _ 32 (number-all 0 es) (top []) start ready)
 
 pub evaluate-all-spec : {M : Type 1} → statement M
 evaluate-all-spec = tie.close (tie.spec (λ c κs. search needs) list-requires (λ c. search needs) returns)

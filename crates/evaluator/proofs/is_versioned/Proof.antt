@@ -1,37 +1,32 @@
 -- `evaluator::is_versioned` meets its contract: no row, or the key of the first expression's head. Assumes nothing.
 use native.Mathlib.Omega.{arith}
+use Rattle.laws.specs.Demands.{Bytes}
 use Rattle.laws.proofs.Steps.{all-bytes}
 use Rattle.evaluator.proofs.Nodes.{nodes-more}
 use Rattle.evaluator.proofs.Evaluations.{versioned-none, versioned-first, stream-nodes}
 use Rattle.evaluator.proofs.is_versioned.Statement.{statement}
 use Rattle.evaluator.proofs.is_versioned.Tie as tie
 
+bytes : (c : tie.After-shared-slice-known) → Bytes (c .before .args .s .now)
+bytes c = all-bytes (c .before .args .s .now) (λ i. c .shared-slice-known .given i .fits)
+
 returns : tie.Need-returns
 returns c = λ t rs es reads fills.
-    let start = c .before .before .before in
-    let a = start .args in
-    let b = all-bytes (a .s .now) (λ i. c .before .before .shared-slice-known .given i .fits) in
-    versioned-none (a .s .now) (a .table .now) (a .rows) es
-    (stream-nodes (a .s .now) t (a .table .now) (a .rows) rs es b (start .pre) reads fills) (c .if1 .taken)
+    let known = c .before .before in
+    versioned-none _ _ _ es (stream-nodes _ t _ _ rs es (bytes known) (known .before .pre) reads fills) (c .if1 .taken)
 
 head-requires : tie.Need-head-requires
 head-requires c κs =
-    let start = c .before .before .before in
-    let a = start .args in
-    let has = start .pre in
-    let b = all-bytes (a .s .now) (λ i. c .before .before .shared-slice-known .given i .fits) in
-    let nodes = stream-nodes (a .s .now) (has .before) (a .table .now) (a .rows) (has .rows) (has .means) b has (has .is) (has .filled-in) in
-    let first = nodes-more (a .s .now) (a .table .now) 0 (a .rows) _ nodes (omega (arith, c .if1 .left)) in
-    (first .head, first .node)
+    let known = c .before .before in
+    let has = known .before .pre in
+    let nodes = stream-nodes _ _ _ _ _ (has .means) (bytes known) has (has .is) (has .filled-in) in
+    (_, nodes-more _ _ _ _ _ nodes (omega (arith, c .if1 .left)) .node)
 
 returns-2 : tie.Need-returns-2
 returns-2 c = λ t rs es reads fills.
-    let start = c .before .before .before .before in
-    let a = start .args in
-    let b = all-bytes (a .s .now) (λ i. c .before .before .before .shared-slice-known .given i .fits) in
-    versioned-first (a .s .now) (a .table .now) (a .rows) b es
-    (stream-nodes (a .s .now) t (a .table .now) (a .rows) rs es b (start .pre) reads fills) (omega (arith, c .before .if1 .left)) (c .head .result)
-    (c .head .ensures)
+    let known = c .before .before .before in
+    let nodes = stream-nodes _ t _ _ rs es (bytes known) (known .before .pre) reads fills in
+    versioned-first _ _ _ (bytes known) es nodes (omega (arith, c .before .if1 .left)) _ (c .head .ensures)
 
 pub is-versioned-spec : {M : Type 1} → statement M
 is-versioned-spec = tie.close (tie.spec returns head-requires returns-2)

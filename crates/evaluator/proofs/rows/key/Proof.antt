@@ -9,70 +9,25 @@ use Rattle.evaluator.proofs.Keys.{RefAt, ref-read}
 use Rattle.evaluator.proofs.rows.key.Statement.{statement}
 use Rattle.evaluator.proofs.rows.key.Tie as tie
 
-cast-name : tie.Need-cast-name
-cast-name c = omega (arith, c .shared-slice-known3 .given (c .before .end .result - 1))
-
-cast-first : tie.Need-cast-first
-cast-first c = omega (arith, c .shared-slice-known4 .given (c .before .before .before .start .result))
-
 -- the reference, when its first byte is read
 reads : (c : tie.After-shared-slice-known4) (m n : ℕ) → let a = c .before .before .before .before .before .before .args in
     LeafAt (a .s .now) (a .table .now) (a .row) (ref m n) → RefAt (a .s .now) (c .before .before .before .start .result) (c .before .before .end .result) m n
-reads c m n l =
-    let a = c .before .before .before .before .before .before .args in
-    rw (c .before .before .before .start .ensures, c .before .before .end .ensures) (ref-read (a .s .now) (a .table .now) (a .row) m n l)
+reads c m n l = rw (c .before .before .before .start .ensures, c .before .before .end .ensures) (ref-read _ _ _ m n l)
 
--- the one that is asked for
-asked : (c : tie.After-shared-slice-known4) → let given = c .before .before .before .before .before .before .pre in
-    RefAt (c .before .before .before .before .before .before .args .s .now) (c .before .before .before .start .result) (c .before .before .end .result)
-    (given .0) (given .1)
-asked c = let given = c .before .before .before .before .before .before .pre in reads c (given .0) (given .1) (given .2)
-
-mul-result : tie.Need-mul-result
-mul-result c = omega (arith, c .before .shared-slice-known4 .given (c .before .before .before .before .start .result))
+-- the one that is asked for, whose marker is not too large
+asked : (c : tie.After-shared-slice-known4) → let start = c .before .before .before .before .before .before in
+    RefAt (start .args .s .now) (c .before .before .before .start .result) (c .before .before .end .result) (start .pre .0) (start .pre .1) × (start .pre .0 ≤ 65535)
+asked c = let given = c .before .before .before .before .before .before .pre in (reads c _ _ (given .2), given .2 .spells .1)
 
 add-result : tie.Need-add-result
 add-result c =
-    omega (
-      arith,
-      c .before .shared-slice-known4 .given (c .before .before .before .before .start .result),
-      c .before .shared-slice-known4 .given (c .before .before .before .end .result - 1),
-    )
-
-returns : tie.Need-returns
-returns c = λ m n l. let r = reads (c .before) m n l in omega (arith, r .name, r .short (c .if1 .taken))
-
-sub-full-2 : tie.Need-sub-full-2
-sub-full-2 c = omega (arith, asked (c .before) .long (c .if1 .left))
-
-sub-result : tie.Need-sub-result
-sub-result c = omega (arith, asked (c .before) .long (c .if1 .left))
-
-cast-result : tie.Need-cast-result
-cast-result c = omega (arith, c .shared-slice-known5 .given (c .before .before .before .before .end .result - 2))
-
--- its marker is not too large
-limit : (c : tie.After-shared-slice-known4) → c .before .before .before .before .before .before .pre .0 ≤ 65535
-limit c = c .before .before .before .before .before .before .pre .2 .spells .1
-
-add-result-3 : tie.Need-add-result-3
-add-result-3 c = let at = c .before .before in omega (arith, asked at .long (c .before .if1 .left), limit at)
-
-mul-result-3 : tie.Need-mul-result-3
-mul-result-3 c = let at = c .before .before in omega (arith, asked at .long (c .before .if1 .left), limit at)
+    let given = c .before .shared-slice-known4 .given in
+    omega (arith, given (c .before .before .before .before .start .result), given (c .before .before .before .end .result - 1))
 
 add-result-4 : tie.Need-add-result-4
 add-result-4 c =
-    let at = c .before .before in
-    omega (
-      arith,
-      asked at .long (c .before .if1 .left),
-      limit at,
-      c .shared-slice-known5 .given (c .before .before .before .before .end .result - 1),
-    )
-
-returns-2 : tie.Need-returns-2
-returns-2 c = λ m n l. let r = reads (c .before .before) m n l in omega (arith, r .name, r .long (c .before .if1 .left))
+    let a = asked (c .before .before) in
+    omega (arith, a .0 .long (c .before .if1 .left), a .1, c .shared-slice-known5 .given (c .before .before .before .before .end .result - 1))
 
 pub key-spec : {M : Type 1} → statement M
 key-spec =
@@ -82,21 +37,21 @@ key-spec =
     (λ c κs. search needs)
     (λ c. search needs)
     (λ c. search needs)
-    cast-name
+    (λ c. omega (arith, c .shared-slice-known3 .given (c .before .end .result - 1)))
     (λ c. search needs)
-    cast-first
-    mul-result
+    (λ c. omega (arith, c .shared-slice-known4 .given (c .before .before .before .start .result)))
+    (λ c. omega (arith, c .before .shared-slice-known4 .given (c .before .before .before .before .start .result)))
     add-result
-    returns
+    (λ c m n l. let r = reads (c .before) m n l in omega (arith, r .name, r .short (c .if1 .taken)))
     (λ c. search needs)
-    sub-full-2
+    (λ c. omega (arith, asked (c .before) .0 .long (c .if1 .left)))
     (λ c. search needs)
     (λ c. search needs)
     (λ c. search needs)
-    sub-result
+    (λ c. omega (arith, asked (c .before) .0 .long (c .if1 .left)))
     (λ c. search needs)
-    cast-result
-    add-result-3
-    mul-result-3
+    (λ c. omega (arith, c .shared-slice-known5 .given (c .before .before .before .before .end .result - 2)))
+    (λ c. let a = asked (c .before .before) in omega (arith, a .0 .long (c .before .if1 .left), a .1))
+    (λ c. let a = asked (c .before .before) in omega (arith, a .0 .long (c .before .if1 .left), a .1))
     add-result-4
-    returns-2)
+    (λ c m n l. let r = reads (c .before .before) m n l in omega (arith, r .name, r .long (c .before .if1 .left))))
