@@ -1,4 +1,4 @@
--- `read` is the parser of the grammar: a stream that is read as some expressions spells them. Where their rows are, and what Item gives.
+-- `read` is the parser of the grammar: a stream that is read as some expressions spells them.
 -- Document 01: "Bytes to expressions". Assumes nothing.
 use Prim.Native.Nat.{ℕ, _+_, _≤_}
 use mathlib.Core.Path.{_≡_, refl, sym, ap, _∙_, subst}
