@@ -194,35 +194,37 @@ evaluation-answered s l (unversioned rs es e h) = rw (e, h)
 evaluation-answered s l (wrong-version rs es e h k) = rw (e, h, k)
 evaluation-answered s l (runs rs es e h k) = rw (e, h, k)
 
+-- a run is begun
+abbrev pub Begun : List ℕ → Exprs → Type 0
+Begun s es = (not (is-versioned es) ≡ false) × (not (same (take 6 s) version-bytes) ≡ false)
+
 -- why Evaluate refuses what was read
-pub data Why (l : Lent) (rs : List Row) (es : Exprs) : ℕ → ℕ → Type 0 where
-  no-version : Why l rs es 9 0
-  other-version : Why l rs es 10 0
-  stops : (v r : ℕ) → bounded l es ≡ stopped v r → Why l rs es v (row-at rs r .start)
-  too-long : (ls : List Exprs) → bounded l es ≡ done ls → length (l .output) < length (canonical (result ls)) → Why l rs es 18 0
+pub data Why (s : List ℕ) (l : Lent) (rs : List Row) (es : Exprs) : ℕ → ℕ → Type 0 where
+  no-version : Why s l rs es 9 0
+  other-version : Why s l rs es 10 0
+  stops : (v r : ℕ) → Begun s es → bounded l es ≡ stopped v r → Why s l rs es v (row-at rs r .start)
+  too-long : (ls : List Exprs) → bounded l es ≡ done ls → length (l .output) < length (canonical (result ls)) → Why s l rs es 18 0
 
 -- what it puts out
 pub data Leaves (s : List ℕ) (l : Lent) (rs : List Row) (es : Exprs) : List ℕ → ℕ → Type 0 where
-  leaves : (ls : List Exprs) → bounded l es ≡ done ls → not (is-versioned es) ≡ false → not (same (take 6 s) version-bytes) ≡ false
-      → Leaves s l rs es (canonical (result ls)) (steps-in (run es .events))
+  leaves : (ls : List Exprs) → Begun s es → bounded l es ≡ done ls → Leaves s l rs es (canonical (result ls)) (steps-in (run es .events))
 
 abbrev pub Evaluates : List ℕ → Lent → Answer → Type 0
-Evaluates s l = Answers s (l .table) (l .output) (Why l) (Leaves s l)
+Evaluates s l = Answers s (l .table) (l .output) (Why s l) (Leaves s l)
 
 pub evaluation-answers : (s : List ℕ) (l : Lent) → Evaluates s l (evaluation s l)
 evaluation-answers s l = rw (evaluation-answered s l (way s (l .table))) (go (way s (l .table)))
   where
-    by-end : (rs : List Row) (es : Exprs) → reading s (l .table) ≡ readable rs es → not (is-versioned es) ≡ false
-        → not (same (take 6 s) version-bytes) ≡ false → (x : End (List Exprs)) → bounded l es ≡ x
+    by-end : (rs : List Row) (es : Exprs) → reading s (l .table) ≡ readable rs es → Begun s es → (x : End (List Exprs)) → bounded l es ≡ x
         → Evaluates s l (end-answer rs (steps-in (run es .events)) (filled rs (l .table)) (l .output) x)
-    by-end rs es e h k (done ls) q = put-answers rs es e (too-long ls q) (leaves ls q h k) (put-out-is (canonical (result ls)) _ _ _)
-    by-end rs es e h k (stopped v r) q = refuses rs es e (stops v r q)
+    by-end rs es e b (done ls) q = put-answers rs es e (too-long ls q) (leaves ls b q) (put-out-is (canonical (result ls)) _ _ _)
+    by-end rs es e b (stopped v r) q = refuses rs es e (stops v r b q)
 
     go : (y : Way s (l .table)) → Evaluates s l (answered y l)
     go (unread v p e) = not-read v p e
     go (unversioned rs es e h) = refuses rs es e no-version
     go (wrong-version rs es e h k) = refuses rs es e other-version
-    go (runs rs es e h k) = by-end rs es e h k (bounded l es) refl
+    go (runs rs es e h k) = by-end rs es e (h, k) (bounded l es) refl
 
 -- what was read fits
 pub reading-fits : (s t : List ℕ) (rs : List Row) (es : Exprs) → Bytes s → reading s t ≡ readable rs es → FitsAll es
@@ -253,8 +255,7 @@ pub record Ran (s : List ℕ) (l : Lent) : Type 0 where
   pub meaning : Exprs
   pub left : List Exprs
   pub reads : reading s (l .table) ≡ readable rows meaning
-  pub versioned : not (is-versioned meaning) ≡ false
-  pub one-zero : not (same (take 6 s) version-bytes) ≡ false
+  pub begun : Begun s meaning
   pub within : Within (l .steps) (min (l .work) 65536) (run meaning .events) (run meaning .end) left
   pub is : evaluation s l
       ≡ acceptance (length (canonical (result left))) (steps-in (run meaning .events)) (filled rows (l .table)) (over (canonical (result left)) (l .output))
@@ -262,21 +263,20 @@ pub record Ran (s : List ℕ) (l : Lent) : Type 0 where
 pub evaluate-ran : (s : List ℕ) (l : Lent) → Bytes s → evaluation s l .number ≡ 0 → Ran s l
 evaluate-ran s l b h = go (evaluation-answers s l) refl h
   where
-    refused : {v p : ℕ} (rs : List Row) (es : Exprs) → reading s (l .table) ≡ readable rs es → Why l rs es v p → v ≡ 0 → ⊥
+    refused : {v p : ℕ} (rs : List Row) (es : Exprs) → reading s (l .table) ≡ readable rs es → Why s l rs es v p → v ≡ 0 → ⊥
     refused rs es e no-version z = omega arith
     refused rs es e other-version z = omega arith
-    refused rs es e (stops v r c) z = not-accepted v (cut-refused es (reading-fits s (l .table) rs es b e) (l .steps) (min (l .work) 65536) v r c) z
+    refused rs es e (stops v r begun c) z = not-accepted v (cut-refused es (reading-fits s (l .table) rs es b e) (l .steps) (min (l .work) 65536) v r c) z
     refused rs es e (too-long ls c k) z = omega arith
 
     accepted : {bs : List ℕ} {k : ℕ} (rs : List Row) (es : Exprs) → reading s (l .table) ≡ readable rs es → Leaves s l rs es bs k
         → evaluation s l ≡ acceptance (length bs) k (filled rs (l .table)) (over bs (l .output)) → Ran s l
-    accepted rs es e (leaves ls c v o) q = record {
+    accepted rs es e (leaves ls begun c) q = record {
       rows = rs;
       meaning = es;
       left = ls;
       reads = e;
-      versioned = v;
-      one-zero = o;
+      begun = begun;
       within = cut-done (run es .events) (run es .end) (l .steps) (min (l .work) 65536) ls c;
       is = q;
     }

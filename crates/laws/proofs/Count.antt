@@ -1,22 +1,18 @@
 -- Steps: what Evaluate counts, and when it gives refusal 16. Document 01: "Step count". Assumes nothing.
-use Prim.Native.Nat.{ℕ, zero, suc, _/_, _≤_, _<_, min}
+use Prim.Native.Nat.{ℕ, zero, suc, _≤_, _<_, min}
 use mathlib.Core.Path.{_≡_, refl, sym, ap, _∙_}
 use mathlib.Core.List.{List, [], _∷_, map}
-use mathlib.Core.Bool.{Bool, true, false}
 use lib.ListN.{length, getD, length-map, List·getD-map}
-use lib.Dec.{ltb}
-use borrow.Author.Tests.{ltb-true, ltb-false}
 use native.Mathlib.Omega.{arith}
-use Rattle.spec.specs.Expr.{Exprs, canonical}
-use Rattle.spec.specs.Reading.{row-width}
-use Rattle.spec.specs.Runs.{End, done, stopped, cut, steps-in}
-use Rattle.spec.specs.Evaluation.{run, result}
-use Rattle.spec.specs.Calls.{Answer, filled, row-at, end-answer}
+use Rattle.spec.specs.Expr.{Exprs}
+use Rattle.spec.specs.Reading.{Row, readable}
+use Rattle.spec.specs.Runs.{stopped, steps-in}
+use Rattle.spec.specs.Evaluation.{run}
+use Rattle.spec.specs.Calls.{Answer, filled, row-at, end-answer, reading}
 use Rattle.laws.specs.Demands.{Bytes, Lent, step-rows, step-places, all-steps, with-steps}
-use Rattle.laws.proofs.Reading.{read-refused}
-use Rattle.laws.proofs.Runs.{cut-enough, cut-short, cut-own}
+use Rattle.laws.proofs.Runs.{cut-enough, cut-short, cut-sixteen}
 use Rattle.laws.proofs.Values.{not-rule, run-proper}
-use Rattle.laws.proofs.Calls.{Put, too-short, fits, put-out-is, Way, unread, unversioned, wrong-version, runs, way, answered, reading-fits, Ran}
+use Rattle.laws.proofs.Calls.{bounded, Way, unread, unversioned, wrong-version, runs, answered, Begun, reading-fits, Ran}
 
 -- Refusal 16
 
@@ -66,37 +62,20 @@ way-short s t (runs rs es e x y) l h =
     let short = cut-short (run es .events) (run es .end) (l .steps) (min (l .work) 65536) (rw (length-map rows place) at h) in
     (rw short, rw short (sym (getD-inside (map place rows) (l .steps) 0 (place 0) h ∙ List·getD-map place rows (l .steps) 0)))
 
-put-number : {bs : List ℕ} {k : ℕ} {t o : List ℕ} {a : Answer} → Put bs k t o a → a .number ≡ 16 → ⊥
-put-number (too-short l) h = omega arith
-put-number (fits l) h = omega arith
+-- the steps of a run that is begun
+begun-steps : (s : List ℕ) (l : Lent) (rs : List Row) (es : Exprs) → reading s (l .table) ≡ readable rs es → Begun s es
+    → length (all-steps s l) ≡ length (step-rows (min (l .work) 65536) (run es .events))
+begun-steps s l rs es e b =
+    ap length (steps-stepped s (l .table) (runs rs es e (b .0) (b .1)) (l .work))
+    ∙ length-map (step-rows (min (l .work) 65536) (run es .events)) (λ k. row-at rs k .start)
 
--- a run with steps enough does not give 16: it would be its own end
-pub way-sixteen : (s t : List ℕ) (y : Way s t) (l : Lent) → Bytes s → answered y l .number ≡ 16 → l .steps < length (stepped y (l .work))
-way-sixteen s t (unread v p e) l b h = absurd (omega (arith, read-refused s (length t / row-width) v p b e .1))
-way-sixteen s t (unversioned rs es e x) l b h = absurd (omega arith)
-way-sixteen s t (wrong-version rs es e x y) l b h = absurd (omega arith)
-way-sixteen s t (runs rs es e x y) l b h = rw (length-map rows (λ r. row-at rs r .start)) (go (ltb (l .steps) (length rows)) refl)
-  where
-    w : ℕ
-    w = min (l .work) 65536
-
-    rows : List ℕ
-    rows = step-rows w (run es .events)
-
-    own : (z : End (List Exprs)) → cut (length rows) w (run es .events) (run es .end) ≡ z
-        → end-answer rs (steps-in (run es .events)) (filled rs t) (l .output) z .number ≡ 16 → ⊥
-    own (done ls) c k = put-number (put-out-is (canonical (result ls)) (steps-in (run es .events)) (filled rs t) (l .output)) k
-    own (stopped v r) c k =
-        let end = cut-own (run es .events) (run es .end) w r (c ∙ ap (λ (q : ℕ). stopped q r) k) in
-        not-rule {v = 16} {w = 16} refl (run-proper es (reading-fits s t rs es b e) .stops 16 r end .0) refl
-
-    go : (c : Bool) → ltb (l .steps) (length rows) ≡ c → l .steps < length rows
-    go true c = ltb-true (l .steps) (length rows) c
-    go false c = absurd (own _ (sym (cut-enough (run es .events) (run es .end) (l .steps) w (ltb-false (l .steps) (length rows) c))) h)
+-- a run that is refused with 16 has too few: no rule gives this number
+pub stopped-short : (s : List ℕ) (l : Lent) (rs : List Row) (es : Exprs) → Bytes s → reading s (l .table) ≡ readable rs es → Begun s es
+    → (r : ℕ) → bounded l es ≡ stopped 16 r → l .steps < length (all-steps s l)
+stopped-short s l rs es b e begun r c =
+    rw (begun-steps s l rs es e begun) (cut-sixteen (run es .events) (run es .end) (l .steps) (min (l .work) 65536) r
+    (λ q. not-rule {v = 16} {w = 16} refl (run-proper es (reading-fits s (l .table) rs es b e) .stops 16 r q .0) refl) c)
 
 -- an accepted evaluation takes all the steps that the rules take
 pub ran-all-steps : (s : List ℕ) (l : Lent) (r : Ran s l) → steps-in (run (r .meaning) .events) ≡ length (all-steps s l)
-ran-all-steps s l r =
-    let rows = step-rows (min (l .work) 65536) (run (r .meaning) .events) in
-    let way : Way s (l .table) = runs (r .rows) (r .meaning) (r .reads) (r .versioned) (r .one-zero) in
-    sym (ap length (steps-stepped s (l .table) way (l .work)) ∙ length-map rows (λ k. row-at (r .rows) k .start) ∙ r .within .all)
+ran-all-steps s l r = sym (begun-steps s l (r .rows) (r .meaning) (r .reads) (r .begun) ∙ r .within .all)

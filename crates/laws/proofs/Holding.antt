@@ -1,4 +1,5 @@
--- Laws of `hold`: how a run in two parts is held, and what one event costs. And how a list of nodes is held: a form's elements, a call's code, the top level. Document 01: "Steps", "Workspace". Assumes nothing.
+-- Laws of `hold`: how a run in two parts is held, and what one event costs. And how a list of nodes is held: a form's
+-- elements, a call's code, the top level. Document 01: "Steps", "Workspace". Assumes nothing.
 use Prim.Native.Nat.{ℕ, zero, suc, _+_, _-_, _≤_, _<_}
 use mathlib.Core.Path.{_≡_, refl, sym, ap, _∙_}
 use mathlib.Core.List.{List, [], _∷_, _++_}

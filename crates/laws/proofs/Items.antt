@@ -6,10 +6,10 @@ use mathlib.Core.List.{List, [], _∷_, _++_, append-assoc, append-nil}
 use native.Mathlib.Omega.{arith}
 use lib.ListN.{length, drop, length-append}
 use lib.Seq.{drop-at}
-use Rattle.spec.specs.Expr.{Expr, atom, form, Exprs, none, more, only, size, first, without, rows, rows-all}
+use Rattle.spec.specs.Expr.{Expr, atom, form, Exprs, none, more, size, first, without, rows, rows-all}
 use Rattle.spec.specs.Reading.{Token, closing, tokens, Row, ends, rows-of}
-use Rattle.spec.specs.Calls.{Buffer, Part, part, no-part, row-at, item}
-use Rattle.laws.specs.Grammar.{Spells, SpellsAll, Piece, SpellsItem, expr-rows, all-rows}
+use Rattle.spec.specs.Calls.{Buffer, no-part, row-at, item}
+use Rattle.laws.specs.Grammar.{Spells, SpellsAll, SpellsItem, expr-rows, all-rows}
 use Rattle.laws.proofs.Reading.{form-end, expr-tokens, all-tokens, tokens-expr, tokens-all}
 
 -- the ends of forms that are still open are not changed by whole expressions
@@ -77,75 +77,43 @@ unfolding expr-rows
 expr-first (atom a) x sp p rs = (refl, refl)
 expr-first (form es) x sp p rs = (refl, refl)
 
--- of bytes that spell expressions, with their rows from place p on: where the k-th is, and that it is spelled there
-record Found (b : Buffer) (es : Exprs) (x : List ℕ) (p k : ℕ) (it : Part) : Type 0 where
-  expr : Expr
-  asked : first 1 (without k es) ≡ only expr
-  from : ℕ
-  to : ℕ
-  is : it ≡ part b (p + from) (p + to)
-  bytes : List ℕ
-  piece : Piece x from to bytes
-  spells : Spells expr bytes
-
-find : (b : Buffer) (k : ℕ) (es : Exprs) (x : List ℕ) (sp : SpellsAll es x) (p : ℕ) (rs : List Row) → k < size es
-    → Found b es x p k (item b (all-rows es x sp p ++ rs) k es)
+-- of a buffer that ends with bytes that spell expressions, behind `before`: the k-th, by the rows of these
+find : (b : Buffer) (s : List ℕ) (k : ℕ) (es : Exprs) (x : List ℕ) (sp : SpellsAll es x) (before : List ℕ) → s ≡ before ++ x → k < size es
+    → SpellsItem b s es k (item b (all-rows es x sp (length before)) k es)
 unfolding item size first without expr-rows
-find b zero none x sp p rs h = absurd (omega arith)
-find b (suc k) none x sp p rs h = absurd (omega arith)
-find b zero (more e es) x sp p rs h =
-    let y = sp .0 in
-    let back = all-rows es (sp .1) (sp .4) (p + length y) in
-    let one = expr-first e y (sp .3) p (back ++ rs) in
-    record {
+find b s zero none x sp before q h = absurd (omega arith)
+find b s (suc k) none x sp before q h = absurd (omega arith)
+find b s zero (more e es) x sp before q h =
+    let one = expr-first e (sp .0) (sp .3) (length before) (all-rows es (sp .1) (sp .4) (length before + length (sp .0))) in record {
       expr = e;
       asked = refl;
-      from = 0;
-      to = length y;
-      is = rw (append-assoc (expr-rows e y (sp .3) p) back rs, one .0, one .1) (ap (λ (q : ℕ). part b q (p + length y)) (omega arith));
-      bytes = y;
-      piece = record { before = []; behind = sp .1; is = sp .2; start = refl; end = omega arith };
+      from = length before;
+      to = length before + length (sp .0);
+      is = rw (one .0, one .1);
+      bytes = sp .0;
+      piece = record { before = before; behind = sp .1; is = q ∙ ap (λ (z : List ℕ). before ++ z) (sp .2); start = refl; end = refl };
       spells = sp .3;
     }
-find b (suc k) (more e es) x sp p rs h =
+find b s (suc k) (more e es) x sp before q h =
     let y = sp .0 in
-    let front = expr-rows e y (sp .3) p in
-    let back = all-rows es (sp .1) (sp .4) (p + length y) in
-    let f = find b k es (sp .1) (sp .4) (p + length y) rs (omega arith) in
-    let dropped : drop (rows e) ((front ++ back) ++ rs) ≡ back ++ rs = ap (drop (rows e)) (append-assoc front back rs) ∙ drop-at front (back ++ rs) (rows e) (expr-rows-count e y (sp .3) p) in
-    let piece = f .piece in
-    record {
-      expr = f .expr;
-      asked = f .asked;
-      from = length y + f .from;
-      to = length y + f .to;
-      is = rw dropped (f .is ∙ ap (λ (q : ℕ). part b q (p + length y + f .to)) (omega arith) ∙ ap (part b (p + (length y + f .from))) (omega arith));
-      bytes = f .bytes;
-      piece = record {
-        before = y ++ piece .before;
-        behind = piece .behind;
-        is = sp .2 ∙ ap (λ (u : List ℕ). y ++ u) (piece .is) ∙ sym (append-assoc y (piece .before) (f .bytes ++ piece .behind));
-        start = length-append y (piece .before) ∙ omega (arith, piece .start);
-        end = omega (arith, piece .end);
-      };
-      spells = f .spells;
-    }
-
-pub item-spelled : (b : Buffer) (s : List ℕ) (es : Exprs) (k : ℕ) (rs : List Row) → SpellsAll es s → rs ≡ rows-of (tokens 0 0 s) → k < size es
-    → SpellsItem b s es k (item b rs k es)
-item-spelled b s es k rs sp e h =
-    let f = find b k es s sp 0 [] h in
-    let same : all-rows es s sp 0 ++ [] ≡ rs = append-nil (all-rows es s sp 0) ∙ sym (e ∙ spelled-rows es s sp) in
+    let front = expr-rows e y (sp .3) (length before) in
+    let place : length before + length y ≡ length (before ++ y) = sym (length-append before y) in
+    let split : s ≡ (before ++ y) ++ sp .1 = q ∙ ap (λ (z : List ℕ). before ++ z) (sp .2) ∙ sym (append-assoc before y (sp .1)) in
+    let f = find b s k es (sp .1) (sp .4) (before ++ y) split (omega arith) in
     record {
       expr = f .expr;
       asked = f .asked;
       from = f .from;
       to = f .to;
-      is = ap (λ (l : List Row). item b l k es) (sym same) ∙ f .is ∙ ap (λ (q : ℕ). part b q (0 + f .to)) (omega arith) ∙ ap (part b (f .from)) (omega arith);
+      is = rw (drop-at front _ (rows e) (expr-rows-count e y (sp .3) (length before)), place) (f .is);
       bytes = f .bytes;
       piece = f .piece;
       spells = f .spells;
     }
+
+pub item-spelled : (b : Buffer) (s : List ℕ) (es : Exprs) (k : ℕ) (rs : List Row) → SpellsAll es s → rs ≡ rows-of (tokens 0 0 s) → k < size es
+    → SpellsItem b s es k (item b rs k es)
+item-spelled b s es k rs sp e h = rw (e, spelled-rows es s sp) (find b s k es s sp [] refl h)
 
 pub item-past : (b : Buffer) (k : ℕ) (es : Exprs) (rs : List Row) → size es ≤ k → item b rs k es ≡ no-part
 unfolding item size

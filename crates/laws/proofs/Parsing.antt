@@ -1,21 +1,18 @@
--- `read` is the parser of the grammar: a stream that is read as some expressions spells them. Where their rows are, and what Item gives.
+-- `read` is the parser of the grammar: a stream that is read as some expressions spells them.
 -- Document 01: "Bytes to expressions". Assumes nothing.
 use Prim.Native.Nat.{ℕ, _+_, _≤_}
 use mathlib.Core.Path.{_≡_, refl, sym, ap, _∙_, subst}
 use mathlib.Core.List.{List, [], _∷_, _++_, append-assoc}
-use mathlib.Core.Bool.{Bool, true, false}
 use lib.ListN.{length, getD}
-use lib.Dec.{eqb}
-use borrow.Author.Tests.{eqb-true}
 use native.Mathlib.Omega.{arith}
-use Rattle.spec.specs.Expr.{if_then_else_, Atom, Expr, atom, form, Exprs, none, size}
-use Rattle.spec.specs.Reading.{Taken, taken, failed, read-atom, Token, opening, closing, whole, bad, atom-token, token, further, tokens, put, wrap, lists, Row, readable, read}
+use Rattle.spec.specs.Expr.{Atom, Expr, atom, form, Exprs, none, size}
+use Rattle.spec.specs.Reading.{taken, read-atom, Token, opening, closing, whole, token, further, tokens, put, wrap, lists, Row, readable, read}
 use Rattle.laws.specs.Demands.{Bytes}
 use Rattle.laws.specs.Grammar.{Spells, SpellsAll}
 use Rattle.laws.proofs.Basics.{impossible}
 use Rattle.laws.proofs.Fits.{bytes-back}
 use Rattle.laws.proofs.Spelling.{atom-taken}
-use Rattle.laws.proofs.Tokens.{Right, at-end, opens, closes, stands}
+use Rattle.laws.proofs.Tokens.{From, from-01, from-02, from-atom, token-from, Right, at-end, opens, closes, stands}
 use Rattle.laws.proofs.Rows.{rows-count}
 use Rattle.laws.proofs.Reading.{tokens-atom, read-readable}
 
@@ -46,24 +43,6 @@ wrap-spells (es ∷ fs ∷ ls) s k h =
     let same : (0x01 ∷ (x ++ (0x02 ∷ []))) ++ h .1 ≡ 0x01 ∷ s = ap (λ (y : List ℕ). 0x01 ∷ y) (append-assoc x (0x02 ∷ []) (h .1) ∙ sym (h .2)) in
     subst (λ (y : List ℕ). SpellsLists (wrap (es ∷ fs ∷ ls)) y) same (put-spells (form es) (0x01 ∷ (x ++ (0x02 ∷ []))) (x, refl, h .3) (fs ∷ ls) (h .1) (h .4))
 
--- which bytes a token comes from
-data From (p b : ℕ) (s : List ℕ) : Token → Type 0 where
-  from-01 : b ≡ 0x01 → From p b s (opening p)
-  from-02 : b ≡ 0x02 → From p b s (closing p)
-  from-atom : (a : Atom) (e : ℕ) (t : List ℕ) → read-atom b s ≡ taken a t → From p b s (whole a p e)
-  from-bad : {w q : ℕ} → From p b s (bad w q)
-
-token-from : (p b : ℕ) (s : List ℕ) → From p b s (token p b s)
-unfolding token
-token-from p b s = go (eqb b 0x01) refl (eqb b 0x02) refl (read-atom b s) refl
-  where
-    go : (c : Bool) → eqb b 0x01 ≡ c → (d : Bool) → eqb b 0x02 ≡ d → (x : Taken Atom) → read-atom b s ≡ x
-        → From p b s (if c then opening p else if d then closing p else atom-token p (p + 1 + length s) x)
-    go true e d k x q = from-01 (eqb-true b 0x01 e)
-    go false e true k x q = from-02 (eqb-true b 0x02 k)
-    go false e false k (taken a t) q = from-atom a _ t q
-    go false e false k (failed w t) q = from-bad
-
 -- the first token of some bytes
 first-token : (p : ℕ) (s : List ℕ) (t : Token) (ts : List Token) → tokens p 0 s ≡ t ∷ ts
     → (b : ℕ) × (u : List ℕ) × (s ≡ b ∷ u) × From p b u t × (tokens (p + 1) (further t) u ≡ ts)
@@ -86,7 +65,7 @@ from-closing : {p b q : ℕ} {s : List ℕ} → From p b s (closing q) → b ≡
 from-closing (from-02 h) = h
 
 from-whole : {p b q k : ℕ} {s : List ℕ} {a : Atom} → From p b s (whole a q k) → (t : List ℕ) × (read-atom b s ≡ taken a t)
-from-whole (from-atom a k t h) = (t, h)
+from-whole (from-atom a t h) = (t, h)
 
 close-spells : (ls : List Exprs) (s : List ℕ) → SpellsLists ls s → SpellsLists (none ∷ ls) (0x02 ∷ s)
 close-spells [] s h = absurd h

@@ -165,11 +165,11 @@ module _ {A : Type 0} where
         go (lacks-step r p l q) = rw q
         go (lacks-work r p l q) = absurd (omega arith)
 
-    -- with steps enough, 16 would have to be the run's own end
-    pub cut-own : (w r : ℕ) → cut (length (step-rows w es)) w es e ≡ stopped 16 r → e ≡ stopped 16 r
-    cut-own w r = go (holds es e (length (step-rows w es)) w)
+    -- 16 is for want of steps, if it is not the run's own end
+    pub cut-sixteen : (n w r : ℕ) → (e ≡ stopped 16 r → ⊥) → cut n w es e ≡ stopped 16 r → n < length (step-rows w es)
+    cut-sixteen n w r own = go (holds es e n w)
       where
-        go : {x : Held A} → Holds (length (step-rows w es)) w es e x → forget x ≡ stopped 16 r → e ≡ stopped 16 r
-        go (ends i j p q l) h = sym (ended-end e i j) ∙ h
-        go (lacks-step k p l q) h = absurd (omega arith)
+        go : {x : Held A} → Holds n w es e x → forget x ≡ stopped 16 r → n < length (step-rows w es)
+        go (ends i j p q l) h = absurd (own (sym (ended-end e i j) ∙ h))
+        go (lacks-step k p l q) h = l
         go (lacks-work k p l q) h = absurd (let z : _≡_ {A = ℕ} 17 16 = cc in omega arith)

@@ -1,4 +1,5 @@
--- A canonical stream is the shortest of its meaning, and the only one of its length; and an atom that bytes spell fits. Document 01: "Canonical", against the grammar. Assumes nothing.
+-- A canonical stream is the shortest of its meaning, and the only one of its length; and an atom that bytes spell fits.
+-- Document 01: "Canonical", against the grammar. Assumes nothing.
 use Prim.Native.Nat.{ℕ, _+_, _/_, _%_, _≤_, _<_}
 use mathlib.Core.Path.{_≡_, refl, ap, _∙_}
 use mathlib.Core.List.{List, [], _∷_, _++_}

@@ -257,11 +257,12 @@ module _ (call : Call) (call-single : SingleCall call) where
       rw (a .3) (call-value r _ _ (a .1) refl (rw t at (look-up-each SingleDefined m n (h .scope) s) .1) (a .2))
   perform-single r ms h (calls-subst t) k left i s e = let a = call-done call r ms h left _ _ e in rw (a .3) (call-value r _ _ (a .1) refl s (a .2))
 
-  eval-single-if : (e : Node) (h : Here) (left : Left) → headed-by rest e ≡ false → h .place ≡ inner → SingleScope (h .scope)
+  -- an expression that is no `rest` form, where no definition is allowed, leaves one value
+  eval-single : (e : Node) (h : Here) (left : Left) → headed-by rest e ≡ false → h .place ≡ inner → SingleScope (h .scope)
       → eval call e h .end ≡ done left → Single (left .values)
   unfolding eval
-  eval-single-if (leaf r a) h left q i s e = perform-single r [] h (rule h (leaf r a)) q left i s e
-  eval-single-if (branch r es) h left q i s e = perform-single r (eval-all call es) h (rule h (branch r es)) q left i s e
+  eval-single (leaf r a) h left q i s e = perform-single r [] h (rule h (leaf r a)) q left i s e
+  eval-single (branch r es) h left q i s e = perform-single r (eval-all call es) h (rule h (branch r es)) q left i s e
 
   -- the only one of a list
   one-single : (e : Node) (h : Here) (left : Left) → headed-by rest e ≡ false → h .place ≡ inner → SingleScope (h .scope)
@@ -270,7 +271,7 @@ module _ (call : Call) (call-single : SingleCall call) where
   one-single e h left q i s t =
       let a = bind-done (eval call e h) _ left t in
       let k : left ≡ record { values = append (a .0 .values) none; here = a .0 .here } = cc (a .2) in
-      rw (k, append-none (a .0 .values)) (eval-single-if e h (a .0) q i s (a .1))
+      rw (k, append-none (a .0 .values)) (eval-single e h (a .0) q i s (a .1))
 
   eval-scope-if : (e : Node) (h : Here) (left : Left) → SingleScope (h .scope) → eval call e h .end ≡ done left → SingleScope (left .here .scope)
   unfolding eval
@@ -295,11 +296,6 @@ unfolding append
 pair us vs ws x y q = (x .value, y .value, q ∙ rw (x .is, y .is))
 
 module _ (k : ℕ) where
-  -- an expression that is no `rest` form, where no definition is allowed, leaves one value
-  eval-single : (e : Node) (h : Here) (left : Left) → headed-by rest e ≡ false → h .place ≡ inner → SingleScope (h .scope)
-      → eval (run-code k) e h .end ≡ done left → Single (left .values)
-  eval-single e h left q i s t = eval-single-if (run-code k) (run-code-single k) e h left q i s t
-
   -- definitions that have one value each are kept so
   pub eval-scope : (e : Node) (h : Here) (left : Left) → SingleScope (h .scope) → eval (run-code k) e h .end ≡ done left
       → SingleScope (left .here .scope)
@@ -310,13 +306,13 @@ module _ (k : ℕ) where
   in-list-single e h left q s t =
       let a = in-list-split (run-code k) e empty inner h left t in
       let b = in-list-none (run-code k) inner (a .one .here) (a .others) (a .continues) in
-      rw (a .is, b, append-none (a .one .values)) (eval-single e (standing inner h) (a .one) q refl s (a .evaluates))
+      rw (a .is, b, append-none (a .one .values)) (eval-single (run-code k) (run-code-single k) e (standing inner h) (a .one) q refl s (a .evaluates))
 
   pub in-list-pair : (e f : Node) (h : Here) (left : Left) → headed-by rest e ≡ false → headed-by rest f ≡ false → SingleScope (h .scope)
       → in-list (run-code k) (cons e (cons f empty)) inner h .end ≡ done left
       → (x : Expr) × (y : Expr) × (left .values ≡ more x (only y))
   in-list-pair e f h left q t s u =
       let a = in-list-split (run-code k) e (cons f empty) inner h left u in
-      let x = eval-single e (standing inner h) (a .one) q refl s (a .evaluates) in
+      let x = eval-single (run-code k) (run-code-single k) e (standing inner h) (a .one) q refl s (a .evaluates) in
       let y = in-list-single f (a .one .here) (a .others) t (eval-scope e (standing inner h) (a .one) s (a .evaluates)) (a .continues) in
       pair (left .values) (a .one .values) (a .others .values) x y (ap (λ (l : Left). l .values) (a .is))

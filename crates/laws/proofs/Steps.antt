@@ -3,19 +3,17 @@
 use Prim.Native.Nat.{ℕ, suc, _+_, _-_, _≤_, _<_}
 use mathlib.Core.Path.{_≡_, refl, sym, ap, _∙_, subst}
 use mathlib.Core.List.{List, [], _∷_, _++_}
-use mathlib.Core.Bool.{Bool, true, false}
 use lib.ListN.{length, take, drop, getD, length-append, length-drop, drop-of-length-le}
 use lib.Seq.{drop-cons, drop-drop, take-at, drop-at}
-use lib.Dec.{eqb}
 use native.Mathlib.Omega.{arith}
 use native.Mathlib.Numerals.{add-one}
-use Rattle.spec.specs.Expr.{if_then_else_, Atom, atom-bytes}
-use Rattle.spec.specs.Reading.{Taken, taken, failed, read-atom, Token, opening, closing, whole, bad, atom-token, token, further, tokens}
+use Rattle.spec.specs.Expr.{Atom, atom-bytes}
+use Rattle.spec.specs.Reading.{Token, opening, closing, whole, bad, token, further, tokens}
 use Rattle.laws.specs.Demands.{Bytes}
 use Rattle.laws.specs.Grammar.{SpellsAtom}
 use Rattle.laws.proofs.Fits.{bytes-drop}
 use Rattle.laws.proofs.Spelling.{SplitOff, atom-taken}
-use Rattle.laws.proofs.Tokens.{Laid, tokens-laid}
+use Rattle.laws.proofs.Tokens.{From, from-01, from-02, from-atom, from-bad, token-from, Laid, tokens-laid}
 use Rattle.laws.proofs.Reading.{tokens-atom}
 
 -- the tokens from a place on
@@ -54,23 +52,20 @@ StepAt s p (bad w q) = (ts : List Token) × (tokens-from s p ≡ bad w q ∷ ts)
 
 -- the token at a place inside a stream
 module _ (s : List ℕ) (p : ℕ) (stream : Bytes s) (inside : p < length s) where
-  byte : ℕ
+  abbrev byte : ℕ
   byte = getD s p 0
 
-  behind : List ℕ
+  abbrev behind : List ℕ
   behind = drop (suc p) s
 
   from-here : drop p s ≡ byte ∷ behind
-  unfolding byte behind
   from-here = drop-cons s p 0 inside
 
   small : byte < 256
-  unfolding byte behind
   small = subst Bytes from-here (bytes-drop p s stream) .0
 
   -- what spells the bytes in front of u goes from p to where u begins
   atom-step : (a : Atom) (u : List ℕ) → SplitOff (SpellsAtom a) (byte ∷ behind) u → WholeAt s p a (p + 1 + length behind - length u)
-  unfolding byte behind
   atom-step a u o =
       let x = o .front in
       let e : ℕ = p + 1 + length (drop (suc p) s) - length u in
@@ -89,21 +84,17 @@ module _ (s : List ℕ) (p : ℕ) (stream : Bytes s) (inside : p < length s) whe
       record { is = step; forward = laid .1; inside = omega arith; spelled = subst (SpellsAtom a) part (o .holds); shorter = laid .2 }
 
   one-byte : (t : Token) → token p byte behind ≡ t → further t ≡ 0 → tokens-from s p ≡ t ∷ tokens-from s (p + 1)
-  unfolding tokens byte behind
+  unfolding tokens
   one-byte t e f = rw (from-here, e, f) (ap (λ (k : ℕ). t ∷ tokens (p + 1) 0 (drop k s)) (sym (add-one p)))
 
   pub step-at : StepAt s p (token p (getD s p 0) (drop (suc p) s))
-  unfolding token byte behind
-  step-at = go (eqb byte 0x01) (eqb byte 0x02) refl refl (read-atom byte behind) refl
+  step-at = go (token-from p byte behind) refl
     where
-      kind : Bool → Bool → Taken Atom → Token
-      kind c d x = if c then opening p else if d then closing p else atom-token p (p + 1 + length behind) x
-
-      go : (c d : Bool) → eqb byte 0x01 ≡ c → eqb byte 0x02 ≡ d → (x : Taken Atom) → read-atom byte behind ≡ x → StepAt s p (kind c d x)
-      go true d q r x e = one-byte (opening p) (rw q) refl
-      go false true q r x e = one-byte (closing p) (rw (q, r)) refl
-      go false false q r (taken a u) e = (refl, atom-step a u (atom-taken byte behind a u small (bytes-drop (suc p) s stream) e))
-      go false false q r (failed w u) e = (tokens (p + 1) 0 behind, ap (λ (l : List ℕ). tokens p 0 l) from-here ∙ unfold tokens in rw (q, r, e))
+      go : {t : Token} → From p byte behind t → token p byte behind ≡ t → StepAt s p t
+      go (from-01 h) q = one-byte (opening p) q refl
+      go (from-02 h) q = one-byte (closing p) q refl
+      go (from-atom a u e) q = (refl, atom-step a u (atom-taken byte behind a u small (bytes-drop (suc p) s stream) e))
+      go (from-bad w u e) q = (tokens (p + 1) 0 behind, ap (λ (l : List ℕ). tokens p 0 l) from-here ∙ unfold tokens in rw q)
 
 pub tokens-end : (s : List ℕ) (p : ℕ) → length s ≤ p → tokens-from s p ≡ []
 unfolding tokens

@@ -10,7 +10,7 @@ use native.Mathlib.Omega.{arith}
 use native.Mathlib.Decide.{ℕ-discrete}
 use Rattle.spec.specs.Expr.{Exprs, size, first, rows-all, canonical}
 use Rattle.spec.specs.Reading.{tokens, Row, rows-of, row-width, numbers, Reading, refused, readable, read}
-use Rattle.spec.specs.Runs.{steps-in}
+use Rattle.spec.specs.Runs.{stopped, steps-in}
 use Rattle.spec.specs.Evaluation.{run, result}
 use Rattle.spec.specs.Calls.{Answer, refusal, acceptance, filled, put-out, once-read, reading, row-at, Read, Write, Evaluate, Buffer, no-part, chosen, Item}
 use Rattle.laws.specs.Demands.{Bytes, Begins, Kept, Lent, evaluation, result-bytes, row-numbers, NoSmaller, SameSizes, Final, Alike, Accepted, meaning-of, SameFirst, left-by, values-of, bytes-of-first, all-steps, with-steps, Counted, SamePrefix}
@@ -28,7 +28,7 @@ use Rattle.laws.proofs.Values.{not-rule, run-fits, run-proper}
 use Rattle.laws.proofs.Prefix.{run-first, result-split}
 use Rattle.laws.proofs.Calls.{put-out-bytes, rows-fit, filled-length, read-cases, not-read, refuses, accepts, answers-kept, answers-within, answers-table, answers-counted, answers-place, write-answers, write-out, write-room, Written, written, bounded, Way, way, evaluation-answered, Why, no-version, other-version, stops, too-long, Evaluates, evaluation-answers, reading-fits, CutNumber, for-steps, for-work, for-rule, cut-refused, ran, ran-means, ran-ends, left-values, left-fits}
 use Rattle.laws.proofs.Retry.{refusals-alike, put-out-alike, end-alike, same-end-alike, reads-same, evaluations-alike}
-use Rattle.laws.proofs.Count.{stepped, steps-stepped, way-enough, OutOfSteps, way-short, way-sixteen, ran-all-steps}
+use Rattle.laws.proofs.Count.{stepped, steps-stepped, way-enough, OutOfSteps, way-short, stopped-short, ran-all-steps}
 
 -- Demand 1: "Every public call ends and answers for all inputs": the calls are functions on all lists. "Bad input gets the refusal number and
 -- place from document 01's table, [..] and the output buffer is then unchanged."
@@ -225,10 +225,10 @@ output-enough s l b long = go (evaluation-answers s l)
     cut-so (for-work k) z = omega arith
     cut-so (for-rule k) z = not-rule {v = 18} refl k z
 
-    why : {v p : ℕ} (rs : List Row) (es : Exprs) → reading s (l .table) ≡ readable rs es → Why l rs es v p → v ≡ 18 → ⊥
+    why : {v p : ℕ} (rs : List Row) (es : Exprs) → reading s (l .table) ≡ readable rs es → Why s l rs es v p → v ≡ 18 → ⊥
     why rs es e no-version z = omega arith
     why rs es e other-version z = omega arith
-    why rs es e (stops v r c) z = cut-so (cut-refused es (reading-fits s (l .table) rs es b e) (l .steps) (min (l .work) 65536) v r c) z
+    why rs es e (stops v r begun c) z = cut-so (cut-refused es (reading-fits s (l .table) rs es b e) (l .steps) (min (l .work) 65536) v r c) z
     why rs es e (too-long ls c h) z =
         let within = cut-done (run es .events) (run es .end) (l .steps) (min (l .work) 65536) ls c in
         omega (arith, run-fits es ls (reading-fits s (l .table) rs es b e) (within .ends) .1, within .work)
@@ -254,7 +254,7 @@ write-contents s t t′ o o′ h k = rw (reads-same s t t′ h) (go (reading s t
   where
     go : (x : Reading)
         → Alike (once-read t o (λ rs es. put-out (canonical es) 0 (filled rs t) o) x) (once-read t′ o′ (λ rs es. put-out (canonical es) 0 (filled rs t′) o′) x)
-    go (refused w p) = refusals-alike w p t t′ o o′
+    go (refused w p) = refusals-alike
     go (readable rs es) = put-out-alike (filled rs t) (filled rs t′) o o′ (omega arith) (canonical es) 0 (λ z. k)
 
 pub read-contents : (s t t′ : List ℕ) → length t ≡ length t′ → Alike (Read s t) (Read s t′) × (row-numbers (Read s t) ≡ row-numbers (Read s t′))
@@ -268,7 +268,7 @@ read-contents s t t′ h = rw (reads-same s t t′ h) (go (reading s t))
     rows-first rs t = rw (← numbers-length rs rs) (take-append-seam (numbers rs rs) (drop (length (numbers rs rs)) t))
 
     go : (x : Reading) → Alike (after t x) (after t′ x) × (row-numbers (after t x) ≡ row-numbers (after t′ x))
-    go (refused w p) = (refusals-alike w p t t′ [] [], refl)
+    go (refused w p) = (refusals-alike, refl)
     go (readable rs es) = (record { number = refl; place = refl; given = refl; steps = refl; bytes = λ z. refl }, rows-first rs t ∙ sym (rows-first rs t′))
 
 -- "The count is always the one that document 01 defines, never above the steps given."
@@ -302,7 +302,18 @@ module _ (s : List ℕ) (l : Lent) where
   short-refused h = rw (evaluation-answered s l its-way, steps-are) (way-short s (l .table) its-way l (rw steps-are at h))
 
   pub sixteen : Bytes s → (evaluation s l .number ≡ 16) ↔ (l .steps < length (all-steps s l))
-  sixteen b = (λ h. rw steps-are (way-sixteen s (l .table) its-way l b (rw (evaluation-answered s l its-way) at h)), λ h. short-refused h .0)
+  sixteen b = (go (evaluation-answers s l), λ h. short-refused h .0)
+    where
+      why : {v p : ℕ} (rs : List Row) (es : Exprs) → reading s (l .table) ≡ readable rs es → Why s l rs es v p → v ≡ 16 → l .steps < length (all-steps s l)
+      why rs es e no-version z = absurd (omega arith)
+      why rs es e other-version z = absurd (omega arith)
+      why rs es e (stops v r begun c) z = stopped-short s l rs es b e begun r (c ∙ ap (λ (k : ℕ). stopped k r) z)
+      why rs es e (too-long ls c h) z = absurd (omega arith)
+
+      go : {a : Answer} → Evaluates s l a → a .number ≡ 16 → l .steps < length (all-steps s l)
+      go (not-read v p e) z = absurd (omega (arith, read-refused s (length (l .table) / row-width) v p b e .1))
+      go (refuses rs es e w) z = why rs es e w z
+      go (accepts rs es e w room) z = absurd (omega arith)
 
   pub sixteen-place : l .steps < length (all-steps s l) → evaluation s l .place ≡ getD (all-steps s l) (l .steps) 0
   sixteen-place h = short-refused h .1
@@ -369,10 +380,10 @@ write-place s t o b = answers-place b (λ rs es v p e w. omega (arith, w .1)) (w
 pub evaluation-place : (s : List ℕ) (l : Lent) → Bytes s → evaluation s l .place ≤ length s
 evaluation-place s l b = answers-place b go (evaluation-answers s l)
   where
-    go : (rs : List Row) (es : Exprs) (v p : ℕ) → reading s (l .table) ≡ readable rs es → Why l rs es v p → p ≤ length s
+    go : (rs : List Row) (es : Exprs) (v p : ℕ) → reading s (l .table) ≡ readable rs es → Why s l rs es v p → p ≤ length s
     go rs es _ _ e no-version = omega arith
     go rs es _ _ e other-version = omega arith
-    go rs es _ _ e (stops v r c) =
+    go rs es _ _ e (stops v r begun c) =
         inside-start (row-at [] 0) (length s) rs (rows-in-stream s (length (l .table) / row-width) rs es b e) (omega arith) r
     go rs es _ _ e (too-long ls c h) = omega arith
 

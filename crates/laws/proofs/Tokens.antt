@@ -15,7 +15,7 @@ use Rattle.laws.proofs.Basics.{impossible, by-test}
 use Rattle.laws.proofs.Fits.{bytes-front, Fits}
 use Rattle.laws.proofs.Spelling.{front, atom-taken}
 use Rattle.laws.proofs.Shortest.{spelled-fits}
-use Rattle.laws.proofs.Atoms.{Off, off-atom}
+use Rattle.laws.proofs.Atoms.{off-atom}
 
 -- a verdict is right only by way of the branch that does not refuse
 not-refused : (b : Bool) (w p : ℕ) (v : Verdict) → (if b then wrong w p else v) ≡ right → (b ≡ false) × (v ≡ right)
@@ -72,6 +72,25 @@ right-tokens end room (whole a p e ∷ ts) d n c =
     let k = right-whole end room ts a p e d n c in stands (k .0) (right-tokens end room ts d (n + 1) (k .1))
 right-tokens end room (bad w p ∷ ts) d n c = absurd (right-bad end room ts w p d n c)
 
+-- One token
+
+-- which bytes it comes from
+pub data From (p b : ℕ) (s : List ℕ) : Token → Type 0 where
+  from-01 : b ≡ 0x01 → From p b s (opening p)
+  from-02 : b ≡ 0x02 → From p b s (closing p)
+  from-atom : (a : Atom) (t : List ℕ) → read-atom b s ≡ taken a t → From p b s (whole a p (p + 1 + length s - length t))
+  from-bad : (w : ℕ) (t : List ℕ) → read-atom b s ≡ failed w t → From p b s (bad w (p + 1 + length s - length t))
+
+pub token-from : (p b : ℕ) (s : List ℕ) → From p b s (token p b s)
+unfolding token
+token-from p b s =
+    by-test (From p b s) (eqb b 0x01) (λ e. from-01 (eqb-true b 0x01 e)) λ e.
+    by-test (From p b s) (eqb b 0x02) (λ e. from-02 (eqb-true b 0x02 e)) λ e. go (read-atom b s) refl
+  where
+    go : (x : Taken Atom) → read-atom b s ≡ x → From p b s (atom-token p (p + 1 + length s) x)
+    go (taken a t) q = from-atom a t q
+    go (failed w t) q = from-bad w t q
+
 -- Where tokens lie
 
 -- Tokens that lie one after the other from place p on in a stream that ends at `end`. An atom fits, and takes no fewer bytes than its
@@ -89,8 +108,7 @@ laid-at p q ts end end′ e e′ l = subst (λ (x : ℕ). Laid x ts end′) e (s
 -- a first token, with those of the bytes behind it
 laid-first : (p b : ℕ) (s : List ℕ) → b < 256 → Bytes s → ((k : ℕ) → k ≤ length s → Laid (p + 1 + k) (tokens (p + 1) k s) (p + 1 + length s))
     → Laid p (token p b s ∷ tokens (p + 1) (further (token p b s)) s) (p + 1 + length s)
-unfolding token
-laid-first p b s h bs rest = go (eqb b 0x01) (eqb b 0x02) (read-atom b s) refl (off-atom b s)
+laid-first p b s h bs rest = go (token-from p b s)
   where
     end : ℕ
     end = p + 1 + length s
@@ -98,9 +116,10 @@ laid-first p b s h bs rest = go (eqb b 0x01) (eqb b 0x02) (read-atom b s) refl (
     next : Laid (p + 1) (tokens (p + 1) 0 s) end
     next = laid-at (p + 1 + 0) (p + 1) (tokens (p + 1) 0 s) end end (omega arith) refl (rest 0 (omega arith))
 
-    atomic : (x : Taken Atom) → read-atom b s ≡ x → Off (suc (length s)) x
-        → Laid p (atom-token p end x ∷ tokens (p + 1) (further (atom-token p end x)) s) end
-    atomic (taken a t) e o =
+    go : {x : Token} → From p b s x → Laid p (x ∷ tokens (p + 1) (further x) s) end
+    go (from-01 e) = (omega arith, next)
+    go (from-02 e) = (omega arith, next)
+    go (from-atom a t e) =
         let split = atom-taken b s a t h bs e in
         let fits = spelled-fits a (split .front) (bytes-front (split .front) t (subst Bytes (split .is) (h, bs))) (split .holds) in
         let some = ap length (front a (split .front) (split .holds) .is) in
@@ -112,16 +131,7 @@ laid-first p b s h bs rest = go (eqb b 0x01) (eqb b 0x02) (read-atom b s) refl (
           fits .0,
           laid-at (p + 1 + k) (end - length t) (tokens (p + 1) k s) end end (omega arith) refl (rest k (omega arith)),
         )
-    atomic (failed w t) e o = omega arith
-
-    kind : Bool → Bool → Taken Atom → Token
-    kind c d x = if c then opening p else if d then closing p else atom-token p end x
-
-    go : (c d : Bool) (x : Taken Atom) → read-atom b s ≡ x → Off (suc (length s)) x
-        → Laid p (kind c d x ∷ tokens (p + 1) (further (kind c d x)) s) end
-    go true d x e o = (omega arith, next)
-    go false true x e o = (omega arith, next)
-    go false false x e o = atomic x e o
+    go (from-bad w t e) = let off = rw e at (off-atom b s) in omega arith
 
 pub tokens-laid : (s : List ℕ) (p k : ℕ) → Bytes s → k ≤ length s → Laid (p + k) (tokens p k s) (p + length s)
 unfolding tokens
