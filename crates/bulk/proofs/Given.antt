@@ -1,13 +1,13 @@
 -- What an answer gives is there: for callers that go on to use the rows, the bytes or the part. Document 01: "The calls". Assumes nothing.
-use Prim.Native.Nat.{ℕ, _+_, _*_, _≤_, max}
-use mathlib.Core.Path.{_≡_, sym, ap, _∙_}
+use Prim.Native.Nat.{ℕ, _+_, _*_, _≤_}
+use mathlib.Core.Path.{_≡_}
 use mathlib.Core.List.{List, []}
 use native.Mathlib.Omega.{arith}
 use lib.ListN.{length}
 use denote.Ref.{RefT}
 use Rattle.spec.specs.Reading.{row-width}
-use Rattle.spec.specs.Calls.{Answer, acceptance, Read, Write, Evaluate, Buffer, of-stream, of-result, part, chosen, Item}
-use Rattle.laws.specs.Demands.{Bytes, Kept, Lent}
+use Rattle.spec.specs.Calls.{Answer, acceptance, Read, Write, Evaluate, Buffer, part, Item}
+use Rattle.laws.specs.Demands.{Kept, Lent}
 use Rattle.laws.proofs.Theorems.{read-keeps, write-keeps, read-fits, write-fits, evaluation-keeps, evaluation-fits}
 use Rattle.bulk.specs.Answers.{Answered, AnsweredEvaluation, of-buffer, PartItself}
 use Rattle.bulk.specs.declared.Answer.{Answer as Told}
@@ -16,7 +16,6 @@ use Rattle.bulk.specs.declared.Evaluation.{Evaluation}
 use Rattle.bulk.specs.declared.Evaluation.the-variants.{Accepted as Result}
 use Rattle.bulk.specs.declared.Part.{Part as Place}
 use Rattle.bulk.specs.declared.Part.the-variants.{Of}
-use Rattle.bulk.proofs.Items.{item-inside}
 
 -- an acceptance leaves in table and output what it gives
 module _ {a : Answer} (t o t′ o′ : List ℕ) (n k : ℕ) (is : acceptance n k t′ o′ ≡ a) (keeps : Kept t o a) where
@@ -38,20 +37,9 @@ given-result r n k s t t′ o o′ work steps accepted h =
     let l : Lent = record { table = t; work = work; output = o; steps = steps } in
     bytes-there t o t′ o′ n k (rw accepted at (h .is)) (evaluation-keeps s l) (evaluation-fits s l)
 
--- Item's part, from its place on, lies in one of the two buffers
-pub given-part : (b : Buffer) (stream result x : RefT (List ℕ)) (k : ℕ) (place : Place) (start end : ℕ) → Bytes (stream .now) → Bytes (result .now)
-    → of-buffer b place ≡ Item (stream .now) (result .now) b k → place ≡ Of start end → PartItself (Item (stream .now) (result .now) b k) stream result x
-    → start + length (x .now) ≤ max (length (stream .now)) (length (result .now))
-given-part b stream result x k place start end bytes bytes′ told at part-is =
-    let is : part b start end ≡ Item (stream .now) (result .now) b k = ap (of-buffer b) (sym at) ∙ told in
-    let inside = item-inside b (stream .now) (result .now) k start end (of-either b) is in
-    let it : PartItself (part b start end) stream result x = rw (← is) at part-is in
-    omega (arith, longest b, it .place .size)
-  where
-    of-either : (b : Buffer) → Bytes (chosen b (stream .now) (result .now))
-    of-either of-stream = bytes
-    of-either of-result = bytes′
-
-    longest : (b : Buffer) → length (chosen b (stream .now) (result .now)) ≤ max (length (stream .now)) (length (result .now))
-    longest of-stream = omega arith
-    longest of-result = omega arith
+-- Item's part goes from its place's start to its end
+pub given-part : (b : Buffer) (stream result x : RefT (List ℕ)) (k : ℕ) (place : Place) (start end : ℕ) → of-buffer b place ≡ Item (stream .now) (result .now) b k
+    → place ≡ Of start end → PartItself (Item (stream .now) (result .now) b k) stream result x → start + length (x .now) ≡ end
+given-part b stream result x k place start end told at part-is =
+    let it : PartItself (part b start end) stream result x = rw (← told, at) at part-is in
+    it .place .size
