@@ -1,13 +1,13 @@
 -- What an answer gives is there: for callers that go on to use the rows, the bytes or the part. Document 01: "The calls". Assumes nothing.
-use Prim.Native.Nat.{ℕ, _+_, _*_, _≤_, max}
-use mathlib.Core.Path.{_≡_, sym, ap, _∙_}
+use Prim.Native.Nat.{ℕ, _+_, _*_, _≤_}
+use mathlib.Core.Path.{_≡_}
 use mathlib.Core.List.{List, []}
 use native.Mathlib.Omega.{arith}
 use lib.ListN.{length}
 use denote.Ref.{RefT}
 use Rattle.spec.specs.Reading.{row-width}
-use Rattle.spec.specs.Calls.{Answer, Read, Write, Evaluate, Buffer, of-stream, of-result, part, chosen, Item}
-use Rattle.laws.specs.Demands.{Bytes, Lent, evaluation}
+use Rattle.spec.specs.Calls.{Answer, acceptance, Read, Write, Evaluate, Buffer, part, Item}
+use Rattle.laws.specs.Demands.{Kept, Lent}
 use Rattle.laws.proofs.Theorems.{read-keeps, write-keeps, read-fits, write-fits, evaluation-keeps, evaluation-fits}
 use Rattle.bulk.specs.Answers.{Answered, AnsweredEvaluation, of-buffer, PartItself}
 use Rattle.bulk.specs.declared.Answer.{Answer as Told}
@@ -16,48 +16,30 @@ use Rattle.bulk.specs.declared.Evaluation.{Evaluation}
 use Rattle.bulk.specs.declared.Evaluation.the-variants.{Accepted as Result}
 use Rattle.bulk.specs.declared.Part.{Part as Place}
 use Rattle.bulk.specs.declared.Part.the-variants.{Of}
-use Rattle.bulk.proofs.Items.{item-inside}
+
+-- an acceptance leaves in table and output what it gives
+module _ {a : Answer} (t o t′ o′ : List ℕ) (n k : ℕ) (is : acceptance n k t′ o′ ≡ a) (keeps : Kept t o a) where
+  rows-there : row-width * a .given ≤ length t → row-width * n ≤ length t′
+  rows-there fits = let n-fits = rw (← is) at fits in let kept = rw (← is) at keeps in omega (arith, kept .tables)
+
+  bytes-there : a .given ≤ length o → n ≤ length o′
+  bytes-there fits = let n-fits = rw (← is) at fits in let kept = rw (← is) at keeps in omega (arith, kept .outputs)
 
 module _ (r : Told) (n : ℕ) (s t t′ : List ℕ) (accepted : r ≡ Accepted n) where
-  told-given : (o : List ℕ) (a : Answer) → Answered a r t′ o → n ≡ a .given
-  told-given o a h = ap (λ (x : Answer). x .given) (rw accepted at (h .is))
-
-  -- of the table and the output after the call
   pub given-rows : Answered (Read s t) r t′ [] → row-width * n ≤ length t′
-  given-rows h =
-      let same : t′ ≡ Read s t .table = ap (λ (x : Answer). x .table) (rw accepted at (h .is)) in
-      let size : length t′ ≡ length t = ap length same ∙ read-keeps s t .tables in
-      omega (arith, told-given [] (Read s t) h, read-fits s t)
+  given-rows h = rows-there t [] t′ [] n 0 (rw accepted at (h .is)) (read-keeps s t) (read-fits s t)
 
   pub given-bytes : (o o′ : List ℕ) → Answered (Write s t o) r t′ o′ → n ≤ length o′
-  given-bytes o o′ h =
-      let same : o′ ≡ Write s t o .output = ap (λ (x : Answer). x .output) (rw accepted at (h .is)) in
-      let size : length o′ ≡ length o = ap length same ∙ write-keeps s t o .outputs in
-      omega (arith, told-given o′ (Write s t o) h, write-fits s t o)
+  given-bytes o o′ h = bytes-there t o t′ o′ n 0 (rw accepted at (h .is)) (write-keeps s t o) (write-fits s t o)
 
--- the same of a result
 pub given-result : (r : Evaluation) (n k : ℕ) (s t t′ o o′ : List ℕ) (work steps : ℕ) → r ≡ Result n k → AnsweredEvaluation (Evaluate s t work o steps) r t′ o′ → n ≤ length o′
 given-result r n k s t t′ o o′ work steps accepted h =
     let l : Lent = record { table = t; work = work; output = o; steps = steps } in
-    let told : n ≡ evaluation s l .given = ap (λ (x : Answer). x .given) (rw accepted at (h .is)) in
-    let same : o′ ≡ evaluation s l .output = ap (λ (x : Answer). x .output) (rw accepted at (h .is)) in
-    let size : length o′ ≡ length o = ap length same ∙ evaluation-keeps s l .outputs in
-    omega (arith, told, evaluation-fits s l)
+    bytes-there t o t′ o′ n k (rw accepted at (h .is)) (evaluation-keeps s l) (evaluation-fits s l)
 
--- Item's part, from its place on, lies in one of the two buffers
-pub given-part : (b : Buffer) (stream result x : RefT (List ℕ)) (k : ℕ) (place : Place) (start end : ℕ) → Bytes (stream .now) → Bytes (result .now)
-    → of-buffer b place ≡ Item (stream .now) (result .now) b k → place ≡ Of start end → PartItself (Item (stream .now) (result .now) b k) stream result x
-    → start + length (x .now) ≤ max (length (stream .now)) (length (result .now))
-given-part b stream result x k place start end bytes bytes′ told at part-is =
-    let is : part b start end ≡ Item (stream .now) (result .now) b k = ap (of-buffer b) (sym at) ∙ told in
-    let inside = item-inside b (stream .now) (result .now) k start end (of-either b) is in
-    let it : PartItself (part b start end) stream result x = rw (← is) at part-is in
-    omega (arith, longest b, it .place .size)
-  where
-    of-either : (b : Buffer) → Bytes (chosen b (stream .now) (result .now))
-    of-either of-stream = bytes
-    of-either of-result = bytes′
-
-    longest : (b : Buffer) → length (chosen b (stream .now) (result .now)) ≤ max (length (stream .now)) (length (result .now))
-    longest of-stream = omega arith
-    longest of-result = omega arith
+-- Item's part goes from its place's start to its end
+pub given-part : (b : Buffer) (stream result x : RefT (List ℕ)) (k : ℕ) (place : Place) (start end : ℕ) → of-buffer b place ≡ Item (stream .now) (result .now) b k
+    → place ≡ Of start end → PartItself (Item (stream .now) (result .now) b k) stream result x → start + length (x .now) ≡ end
+given-part b stream result x k place start end told at part-is =
+    let it : PartItself (part b start end) stream result x = rw (← told, at) at part-is in
+    it .place .size

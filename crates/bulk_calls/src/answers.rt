@@ -5,20 +5,6 @@ ghost use Rattle.spec.specs.Reading.{row-width};
 ghost use Rattle.text.specs.Size.{buffer-size};
 use text::Buffer;
 
-fn numbers(buffer: &mut Buffer, used: usize, table: &[u32]) -> usize
-    requires { ⌜ used ≤ buffer-size ⌝ }
-    ensures { λ r. ⌜ r ≤ buffer-size ⌝ }
-{
-    let mut at = used;
-    let mut i: usize = 0;
-    while i < table.len() {
-        at = text::byte(buffer, at, b' ');
-        at = text::number(buffer, at, table[i]);
-        i += 1;
-    }
-    at
-}
-
 // A hexadecimal digit.
 fn digit(n: u8) -> u8
     requires { ⌜ n < 16 ⌝ }
@@ -63,9 +49,12 @@ pub fn rows(buffer: &mut Buffer, used: usize, table: &[u32], given: usize) -> us
     ensures { λ r. ⌜ r ≤ buffer-size ⌝ }
 {
     let past_count = accepted(buffer, used, given);
+    if given == 0 {
+        return text::byte(buffer, past_count, b'\n');
+    }
+    let past_space = text::byte(buffer, past_count, b' ');
     let end = bulk::ROW_WIDTH * given;
-    let past_rows = numbers(buffer, past_count, &table[0..end]);
-    text::byte(buffer, past_rows, b'\n')
+    text::numbers(buffer, past_space, &table[0..end], end)
 }
 
 // The bytes that were written, and the line's end.

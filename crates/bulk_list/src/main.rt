@@ -11,29 +11,7 @@ use text::Buffer;
 // How many rows the table has.
 const ROWS: usize = 4096;
 
-// Prints the numbers of rows, a line for each row.
-fn print_rows(buffer: &mut Buffer, used: usize, numbers: &[u32]) -> usize
-    requires { ⌜ used ≤ buffer-size ⌝ }
-    ensures { λ r. ⌜ r ≤ buffer-size ⌝ }
-{
-    let mut at = used;
-    let mut i: usize = 0;
-    while i < numbers.len() {
-        at = text::number(buffer, at, numbers[i]);
-        i += 1;
-        at = text::byte(
-            buffer,
-            at,
-            if i % bulk::ROW_WIDTH == 0 {
-                b'\n'
-            } else {
-                b' '
-            },
-        );
-    }
-    at
-}
-
+// Prints how many rows there are, and a line for each.
 fn print_table(buffer: &mut Buffer, table: &[u32], rows: usize) -> usize
     requires { ⌜ row-width * rows ≤ length (now table) ⌝ }
     ensures { λ r. ⌜ r ≤ buffer-size ⌝ }
@@ -42,7 +20,7 @@ fn print_table(buffer: &mut Buffer, table: &[u32], rows: usize) -> usize
     let past_number = text::decimal(buffer, past_word, rows as u64);
     let past_line = text::byte(buffer, past_number, b'\n');
     let end = bulk::ROW_WIDTH * rows;
-    print_rows(buffer, past_line, &table[0..end])
+    text::numbers(buffer, past_line, &table[0..end], bulk::ROW_WIDTH)
 }
 
 fn list(buffer: &mut Buffer, stream: &[u8], table: &mut [u32]) -> usize

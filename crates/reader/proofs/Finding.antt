@@ -4,6 +4,7 @@ use Prim.Native.Nat.{ℕ, suc, _+_, _-_, _≤_, _<_}
 use mathlib.Core.Path.{_≡_, refl, sym, ap, _∙_, subst}
 use mathlib.Core.List.{List, [], _∷_, _++_, append-nil}
 use native.Mathlib.Omega.{arith}
+use borrow.Author.Needs.{needs}
 use native.Mathlib.Decide.{decLe}
 use lib.ListN.{length, drop, getD, length-drop}
 use lib.Seq.{drop-at, getD-drop}
@@ -116,29 +117,25 @@ pub spelled-some : (e : Expr) (x : List ℕ) → Spells e x → 0 < length x
 spelled-some (atom a) x sp = omega (arith, ap length (front a x sp .is))
 spelled-some (form es) x sp = omega (arith, ap length (sp .1))
 
--- At place p the expressions `left` are left, of which number n is the one asked for.
-pub record Finding (s : List ℕ) (k p n : ℕ) : Type 0 where
+-- the expressions `left` can be read from place p on
+pub record Readable (s : List ℕ) (p : ℕ) (left : Exprs) : Type 0 where
   pub short : length s ≤ 65536
   pub inside : p ≤ length s
-  pub left : Exprs
-  pub spells : SpellsAll left (drop p s)
   pub shallow : deepest left ≤ 64
   pub few : rows-all left ≤ length s
+
+-- At place p the expressions `left` are left, of which number n is the one asked for.
+pub record Finding (s : List ℕ) (k p n : ℕ) : Type 0 where
+  pub left : Exprs
+  pub bounds : Readable s p left
+  pub spells : SpellsAll left (drop p s)
   pub same : (b : Buffer) → item b (rows-of (tokens 0 0 s)) k (meaning-of s) ≡ item b (rows-of (tokens-from s p)) n left
 
 pub finding-start : (s : List ℕ) (k : ℕ) → ((i : ℕ) → getD s i 0 < 256) → CanRead s → Finding s k 0 k
 finding-start s k bytes can =
     let r = read-readable s (length s) _ _ can in
     let m = read-meant s (length s) _ _ (all-bytes s bytes) r in
-    record {
-      short = r .short;
-      inside = omega arith;
-      left = meaning-of s;
-      spells = read-spells s (length s) _ _ (all-bytes s bytes) can;
-      shallow = m .shallow;
-      few = m .roomy;
-      same = λ b. refl;
-    }
+    record { left = meaning-of s; bounds = search needs; spells = read-spells s (length s) _ _ (all-bytes s bytes) can; same = λ b. refl }
 
 -- one expression more, which ends at e
 pub record Passed (s : List ℕ) (k p n e : ℕ) : Type 0 where
@@ -153,7 +150,7 @@ module _ (s : List ℕ) (k p n : ℕ) (f : Finding s k p n) where
   finding-right = (
     0,
     ap (λ (x : List ℕ). check (length s) (length s) (tokens p 0 x) 0 0) (sym (append-nil (drop p s)))
-        ∙ check-all (length s) (length s) (f .left) (drop p s) (f .spells) p 0 0 [] (omega (arith, f .shallow)) (omega (arith, f .few)),
+        ∙ check-all (length s) (length s) (f .left) (drop p s) (f .spells) p 0 0 [] (omega arith) (omega arith),
   )
 
   pub finding-end : length s ≤ p → (b : Buffer) → no-part ≡ item b (rows-of (tokens 0 0 s)) k (meaning-of s)
@@ -167,12 +164,12 @@ module _ (s : List ℕ) (k p n : ℕ) (f : Finding s k p n) where
 
   pub finding-turn : (e : ℕ) → p < length s → e ≡ row-at (rows-of (tokens-from s p)) 0 .end → Passed s k p n e
   unfolding rows deepest item
-  finding-turn e in-stream at-end = go (f .left) (f .spells) (f .shallow) (f .few) (f .same)
+  finding-turn e in-stream at-end = go (f .left) (f .spells) (f .bounds) (f .same)
     where
-      go : (es : Exprs) → SpellsAll es (drop p s) → deepest es ≤ 64 → rows-all es ≤ length s
+      go : (es : Exprs) → SpellsAll es (drop p s) → Readable s p es
           → ((b : Buffer) → item b (rows-of (tokens 0 0 s)) k (meaning-of s) ≡ item b (rows-of (tokens-from s p)) n es) → Passed s k p n e
-      go none sp shallow few same = absurd (omega (arith, ap length sp, length-drop p s))
-      go (more c es) sp shallow few same =
+      go none sp bounds same = absurd (omega (arith, ap length sp, length-drop p s))
+      go (more c es) sp bounds same =
           let x = sp .0 in
           let y = sp .1 in
           let q : ℕ = p + length x in
@@ -194,12 +191,9 @@ module _ (s : List ℕ) (k p n : ℕ) (f : Finding s k p n) where
             inside = omega arith;
             this = λ z b. sym (same b ∙ rw (z, start, ← at-end));
             later = λ z. rw end (record {
-              short = f .short;
-              inside = omega arith;
               left = es;
+              bounds = search needs;
               spells = subst (SpellsAll es) rest (sp .4);
-              shallow = omega arith;
-              few = omega arith;
               same =
                   λ b. let more-left : n ≡ suc (n - 1) = omega (arith, z) in same b
                   ∙ ap (λ (m : ℕ). item b (rows-of (tokens-from s p)) m (more c es)) more-left

@@ -1,7 +1,7 @@
 // Text for standard output, gathered in a buffer so that a call of the system writes much of it; and numbers that were written. `used` is how
 // many of the buffer's bytes are in use, and each function that takes it gives how many are so afterwards. Assumes the contract that the kit states
 // of C's `write`.
-ghost use Prim.Native.Nat.{_≤_};
+ghost use Prim.Native.Nat.{_≤_, _<_};
 ghost use Rattle.text.specs.Size.{buffer-size};
 use libc::STDOUT_FILENO;
 
@@ -53,11 +53,26 @@ pub fn decimal(buffer: &mut Buffer, used: usize, n: u64) -> usize
 }
 
 // The same for a number of 32 bits.
-pub fn number(buffer: &mut Buffer, used: usize, n: u32) -> usize
+fn number(buffer: &mut Buffer, used: usize, n: u32) -> usize
     requires { ⌜ used ≤ buffer-size ⌝ }
     ensures { λ r. ⌜ r ≤ buffer-size ⌝ }
 {
     decimal(buffer, used, n as u64)
+}
+
+// Numbers with a space between them, and a line's end behind every `width` of them.
+pub fn numbers(buffer: &mut Buffer, used: usize, numbers: &[u32], width: usize) -> usize
+    requires { ⌜ (used ≤ buffer-size) × (0 < width) ⌝ }
+    ensures { λ r. ⌜ r ≤ buffer-size ⌝ }
+{
+    let mut at = used;
+    let mut i: usize = 0;
+    while i < numbers.len() {
+        at = number(buffer, at, numbers[i]);
+        i += 1;
+        at = byte(buffer, at, if i % width == 0 { b'\n' } else { b' ' });
+    }
+    at
 }
 
 // The line of a refusal.

@@ -14,18 +14,27 @@ use Rattle.bulk.proofs.Answering.{evaluate-refusal, copied-over, has-re
 use Rattle.bulk.proofs.evaluate.Statement.{statement}
 use Rattle.bulk.proofs.evaluate.Tie as tie
 
+abbrev reading : tie.After-rows → tie.After-read-rows
+reading c = c .before .before .before .before
+
+abbrev start : tie.After-rows → tie.Start
+start c = reading c .before .before .before .before .before .before
+
 -- the stream was read
-was-read : (c : tie.After-rows) → let read = c .before .before .before .before in
-    WasRead (read .before .before .before .before .before .before .args .stream .now) (read .before .before .before .before .before .before .args .table .now) (read .read-rows .last .1 .0) (c .rows .given .0 .0) (c .rows .given .0 .1 .0)
+was-read : (c : tie.After-rows) → let a = start c .args in
+    WasRead (a .stream .now) (a .table .now) (reading c .read-rows .last .1 .0) (c .rows .given .0 .0) (c .rows .given .0 .1 .0)
 was-read c = rw (c .rows .given .1) at (c .before .before .before .before .read-rows .ensures)
 
 evaluate-requires : tie.Need-evaluate-requires
 evaluate-requires c κs = has-read (was-read (c .before .before .before))
 
 -- what the evaluation told, where it is this
-told : (c : tie.After-evaluate) (r : Result) → c .evaluate .result ≡ r → let a = c .before .before .before .before .before .before .before .before .before .before .before .before .before .before .args in
-    Evaluated (a .stream .now) (a .table .now) (a .workspace .now) (c .evaluate .last .1 .1 .1 .0) (a .output .now) (a .steps) (rows-of (tokens 0 0 (a .stream .now))) r
-told c r e = let read = was-read (c .before .before .before .before) in rw e at (c .evaluate .ensures _ (c .before .before .before .before .before .before .before .before .before .before .before .before .before .before .args .output .now) _ _ (read .is) (read .filled-in))
+told : (c : tie.After-evaluate) (r : Result) → c .evaluate .result ≡ r → let a = start (c .before .before .before .before) .args in
+    let rows = rows-of (tokens 0 0 (a .stream .now)) in
+    Evaluated (a .stream .now) (a .table .now) (a .workspace .now) (c .evaluate .last .1 .1 .1 .0) (a .output .now) (a .steps) rows r
+told c r e =
+    let rows = c .before .before .before .before in
+    rw e at (c .evaluate .ensures _ (start rows .args .output .now) _ _ (was-read rows .is) (was-read rows .filled-in))
 
 -- a result is in the workspace
 inside : (c : tie.After-size) → c .size .given .0 .0 ≤ length (c .before .before .before .before .evaluate .last .1 .1 .1 .0)

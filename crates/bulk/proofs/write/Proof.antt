@@ -8,9 +8,15 @@ use Rattle.bulk.proofs.Answering.{write-refusal, write-short, write-acc
 use Rattle.bulk.proofs.write.Statement.{statement}
 use Rattle.bulk.proofs.write.Tie as tie
 
+abbrev reading : tie.After-length → tie.After-read-rows
+reading c = c .before .before .before .before
+
+abbrev start : tie.After-length → tie.Start
+start c = reading c .before .before .before .before .before
+
 -- the stream was read
-was-read : (c : tie.After-length) → let read = c .before .before .before .before in
-    WasRead (read .before .before .before .before .before .args .stream .now) (read .before .before .before .before .before .args .table .now) (read .read-rows .last .1 .0) (c .length .given .0 .0) (c .length .given .0 .1 .0)
+was-read : (c : tie.After-length) → let a = start c .args in
+    WasRead (a .stream .now) (a .table .now) (reading c .read-rows .last .1 .0) (c .length .given .0 .0) (c .length .given .0 .1 .0)
 was-read c = rw (c .length .given .1) at (c .before .before .before .before .read-rows .ensures)
 
 returns : tie.Need-returns
@@ -23,9 +29,9 @@ returns-2 : tie.Need-returns-2
 returns-2 c =
     let copy = c .before .before in
     let test = copy .before .before in
-    let read = was-read (test .before .before .before) in
-    let whole = copied-whole read (λ i. test .before .before .before .before .before .before .before .before .before .before .before .shared-slice-known .given i .fits) (test .if2 .taken) _ in
-    write-acceptance read _ _ (test .before .if1 .left) (copy .copy .ensures .1 ∙ whole)
+    let length = test .before .before .before in
+    let whole = copied-whole (was-read length) (λ i. reading length .before .before .before .before .shared-slice-known .given i .fits) (test .if2 .taken) _ in
+    write-acceptance (was-read length) _ _ (test .before .if1 .left) (copy .copy .ensures .1 ∙ whole)
 
 emit-requires : tie.Need-emit-requires
 emit-requires c κs = let read = was-read (c .before .before .before .before) in (read .can, omega (arith, read .sized, c .before .before .if1 .left))
