@@ -1,8 +1,9 @@
 -- `bulk::evaluate` meets its contract: a stream that can't be read, or what the evaluation of its rows told, and the result put out if there is
 -- room. Assumes nothing.
 use borrow.Author.Needs.{needs}
-use Prim.Native.Nat.{_≤_}
+use Prim.Native.Nat.{ℕ, _≤_}
 use mathlib.Core.Path.{_≡_, sym, _∙_}
+use mathlib.Core.List.{List}
 use native.Mathlib.Omega.{arith}
 use lib.ListN.{length, take}
 use lib.Seq.{length-take-le}
@@ -36,8 +37,12 @@ told c r e =
     let rows = c .before .before .before .before in
     rw e at (c .evaluate .ensures _ (start rows .args .output .now) _ _ (was-read rows .is) (was-read rows .filled-in))
 
--- a result is in the workspace
-inside : (c : tie.After-size) → c .size .given .0 .0 ≤ length (c .before .before .before .before .evaluate .last .1 .1 .1 .0)
+-- the workspace afterwards
+abbrev work : tie.After-size → List ℕ
+work c = c .before .before .before .before .evaluate .last .1 .1 .1 .0
+
+-- a result is in it
+inside : (c : tie.After-size) → c .size .given .0 .0 ≤ length (work c)
 inside c = told (c .before .before .before .before) _ (c .size .given .1) .0
 
 returns : tie.Need-returns
@@ -49,13 +54,12 @@ slice-reshare-prefix-copy : tie.Need-slice-reshare-prefix-copy
 slice-reshare-prefix-copy c = omega (arith, inside (c .before .before))
 
 slice-aggregate-copy : tie.Need-slice-aggregate-copy
-slice-aggregate-copy c = sym (length-take-le _ _ (inside (c .before .before .before)))
+slice-aggregate-copy c = let size = c .before .before .before in sym (length-take-le _ (work size) (omega (arith, inside size)))
 
 copy-requires : tie.Need-copy-requires
 copy-requires c κs =
     let size = c .before .before .before .before in
-    let w = size .before .before .before .before .evaluate .last .1 .1 .1 .0 in
-    omega (arith, length-take-le (size .size .given .0 .0) w (inside size), c .before .before .if1 .left)
+    omega (arith, length-take-le (size .size .given .0 .0) (work size) (inside size), c .before .before .if1 .left)
 
 returns-2 : tie.Need-returns-2
 returns-2 c = evaluate-refusal (rw (c .before .number .given .1) at (c .before .before .before .before .before .read-rows .ensures)) _ _ _
@@ -69,9 +73,8 @@ returns-4 : tie.Need-returns-4
 returns-4 c =
     let size = c .before .before .before .before .before .before .before in
     let v = size .before .before .before .before in
-    let w = v .evaluate .last .1 .1 .1 .0 in
-    rows-result (was-read (v .before .before .before .before)) _ _ w _ _ (told v _ (size .size .given .1)) _ (c .before .before .before .before .before .if1 .left)
-    (c .before .before .copy .ensures .1 ∙ copied-over (take (size .size .given .0 .0) w) _)
+    rows-result (was-read (v .before .before .before .before)) _ _ (work size) _ _ (told v _ (size .size .given .1)) _ (c .before .before .before .before .before .if1 .left)
+    (c .before .before .copy .ensures .1 ∙ copied-over (take (size .size .given .0 .0) (work size)) _)
 
 pub evaluate-spec : {M : Type 1} → statement M
 evaluate-spec =
