@@ -17,8 +17,8 @@ list-requires c κs =
     let pre = known .before .pre in
     let b = all-bytes (known .before .args .s .now) (λ i. known .shared-slice-known .given i .fits) in
     let none = entries (replicate 256 0) (replicate 256 0) (c .new .result) in
-    let ready = stream-ready _ _ _ _ _ _ b (pre .0) (pre .0 .is) (pre .0 .filled-in) (known .before .args .w .now) (replicate 64 0) (replicate 64 0) none (known .before .args .steps) 0 0
-    (c .new .ensures _ _) (pre .1) in
+    let ready = stream-ready _ _ _ _ _ _ b (pre .0) (pre .0 .is) (pre .0 .filled-in) (known .before .args .w .now) (replicate 64 0) (replicate 64 0) none
+    (known .before .args .steps) 0 0 (c .new .ensures _ _) (pre .1) in
     record { bound = _; codes = 32; nodes = number-all 0 (pre .0 .means); place = top []; here = start; ready = ready }
 
 returns : tie.Need-returns

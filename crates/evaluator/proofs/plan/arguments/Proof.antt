@@ -57,15 +57,16 @@ returns-4 c = λ w floor top q sc es xs h l.
     let e = c .before .before .before .before .before .before in
     let m = n (e .before .before) in
     let g = in-code e w top xs l in
-    rw (c .before .if4 .left, number (e .before .before) q es (λ n. plan-arg n xs) h, g .is, lt-ltb m (size (g .values)) (omega arith), c .before .before .packed-from .ensures, c .packed-to .ensures)
-    (repeats _ _ _ (g .argument m (omega arith) (omega arith) .own))
+    rw (c .before .if4 .left, number (e .before .before) q es (λ n. plan-arg n xs) h, g .is, lt-ltb m (size (g .values)) (omega arith))
+    (rw (c .before .before .packed-from .ensures, c .packed-to .ensures) (repeats _ _ _ (g .argument m (omega arith) (omega arith) .own)))
 
 returns-5 : tie.Need-returns-5
 returns-5 c = λ w floor top q sc es xs h l.
     let e = c .before .before .before .before in
     let m = n (e .before .before) in
     let g = in-code e w top xs l in
-    rw (number (e .before .before) q es (rule (start (e .before .before)) xs) h, g .is, lt-leb m (size (g .values)) (omega arith), le-ltb m (size (g .values)) (omega arith)) (rw if-same (refuses 15))
+    rw (number (e .before .before) q es (rule (start (e .before .before)) xs) h, g .is)
+    (rw (lt-leb m (size (g .values)) (omega arith), le-ltb m (size (g .values)) (omega arith), if-same) (refuses 15))
 
 returns-6 : tie.Need-returns-6
 unfolding canonical

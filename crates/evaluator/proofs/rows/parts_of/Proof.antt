@@ -30,7 +30,8 @@ third c = some-next _ _ _ _ _ (second (c .before .before)) (omega arith) (c .bef
 returns : tie.Need-returns
 returns c = λ k es h.
     let n = c .before .before in
-    rw (c .found .ensures, form-parts _ _ _ _ _ _ _ k es h (n .next .ensures) refl refl refl, le-leb (n .next .result) (n .before .before .before .args .row + 1) (omega arith))
+    rw (c .found .ensures, form-parts _ _ _ _ _ _ _ k es h (n .next .ensures) refl refl refl)
+    (rw (le-leb (n .next .result) (n .before .before .before .args .row + 1) (omega arith)))
 
 returns-2 : tie.Need-returns-2
 returns-2 c = λ k es h.
@@ -56,7 +57,8 @@ module _ (c : tie.After-next4) where
 
   at-least : (k : ℕ) (es : Nodes) → let a = c .before .before .before .before .before .before .before .before .before .args in
       NodeAt (a .s .now) (a .table .now) (a .row) (branch k es)
-      → parts-of es ≡ record { count = if leb past (c .next4 .result) then 3 else 4; second = c .before .before .before .before .next2 .result; third = c .before .before .next3 .result }
+      → let l = c .before .before in
+      parts-of es ≡ record { count = if leb past (c .next4 .result) then 3 else 4; second = l .before .before .next2 .result; third = l .next3 .result }
   at-least k es h =
       let l = c .before .before in
       let m = l .before .before in
