@@ -4,9 +4,9 @@ pub mod Keys
 pub mod Parts
 pub mod Bodies
 pub mod Entries
+pub mod Places
 pub mod Named
 pub mod Borne
-pub mod Places
 pub mod Completing
 pub mod Depths
 pub mod Spread
