@@ -100,7 +100,7 @@ pub fn evaluate(
         Checked::Right { rows, length: _ } => {
             reader::fill(stream, table);
             match evaluator::evaluate(stream, table, rows, workspace, steps) {
-                Result::Refused(number, place) => Evaluation::Refused { number, place },
+                Result::Refused { number, place } => Evaluation::Refused { number, place },
                 Result::Is {
                     length: size,
                     steps: taken,

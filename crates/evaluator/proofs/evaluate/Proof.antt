@@ -11,17 +11,19 @@ use Rattle.evaluator.proofs.evaluate.Tie as tie
 
 returns : tie.Need-returns
 returns c = λ t out rs es reads fills.
-    let a = c .before .before .before .before .before .args in
-    let named = c .before .is-versioned .ensures t rs es reads fills in
-    answer-unversioned (a .s .now) t (a .work .now) out (a .steps) rs es reads (rw named at (c .if1 .taken))
+    let a = c .before .before .before .before .before .before .args in
+    let named = c .before .before .is-versioned .ensures t rs es reads fills in
+    rw (c .refused .ensures)
+    (answer-unversioned (a .s .now) t (a .work .now) out (a .steps) rs es reads (rw named at (c .before .if1 .taken)))
 
 returns-2 : tie.Need-returns-2
 returns-2 c = λ t out rs es reads fills.
-    let if1 = c .before .before in
+    let if1 = c .before .before .before in
     let a = if1 .before .before .before .before .before .args in
     let named = if1 .before .is-versioned .ensures t rs es reads fills in
-    answer-wrong-version (a .s .now) t (a .work .now) out (a .steps) rs es reads (rw named at (if1 .if1 .left))
-    (rw (c .before .has-version .ensures) at (c .if2 .taken))
+    rw (c .refused2 .ensures)
+    (answer-wrong-version (a .s .now) t (a .work .now) out (a .steps) rs es reads (rw named at (if1 .if1 .left))
+    (rw (c .before .before .has-version .ensures) at (c .before .if2 .taken)))
 
 slice-aggregate-evaluate-all : tie.Need-slice-aggregate-evaluate-all
 slice-aggregate-evaluate-all c =
@@ -66,7 +68,7 @@ sub-t18 c =
 
 returns-3 : tie.Need-returns-3
 returns-3 c = λ t out rs es reads fills.
-    let told = c .before .before in
+    let told = c .before .before .before in
     let ran = told .before .before .before .before in
     let sized = ran .before .before in
     let known = sized .before .before .before in
@@ -76,9 +78,10 @@ returns-3 c = λ t out rs es reads fills.
     let part = take (sized .work-size .result) (a .work .now) in
     let named = known .before .is-versioned .ensures t rs es reads fills in
     let ended : Ended (a .steps) part part rs es (Refused n r) = rw (told .number .given .1) at (ran .evaluate-all .ensures t rs es reads fills) in
-    answer-stopped (a .s .now) t (a .work .now) out (a .steps) rs es reads (rw named at (known .if1 .left))
+    rw (c .refused3 .ensures)
+    (answer-stopped (a .s .now) t (a .work .now) out (a .steps) rs es reads (rw named at (known .if1 .left))
     (rw (sized .before .before .has-version .ensures) at (sized .before .if2 .left)) (sized .work-size .result) (sized .work-size .ensures) n r
-    (c .start .result) ended (rw fills at (c .start .ensures))
+    (c .before .start .result) ended (rw fills at (c .before .start .ensures)))
 
 returns-4 : tie.Need-returns-4
 returns-4 c = λ t out rs es reads fills.
@@ -100,7 +103,9 @@ evaluate-spec =
     tie.close
     (tie.spec
     (λ c κs. search needs)
+    (λ c κs. search needs)
     returns
+    (λ c κs. search needs)
     (λ c κs. search needs)
     returns-2
     (λ c κs. search needs)
@@ -109,6 +114,7 @@ evaluate-spec =
     evaluate-all-requires
     (λ c. search needs)
     start-requires
+    (λ c κs. search needs)
     (λ c. search needs)
     sub-t18
     (λ c. search needs)
