@@ -98,7 +98,7 @@ pub fn evaluate(
         Checked::Wrong(number, place) => Evaluation::Refused { number, place },
         Checked::Right(rows, _) => {
             match evaluator::evaluate(stream, table, rows, workspace, steps) {
-                Result::Refused(number, place) => Evaluation::Refused { number, place },
+                Result::Refused { number, place } => Evaluation::Refused { number, place },
                 Result::Is {
                     length: size,
                     steps: taken,

@@ -26,11 +26,18 @@ ghost use Rattle.spec.specs.Expr.{same, Exprs};
 ghost use Rattle.spec.specs.Reading.{Row, readable};
 ghost use Rattle.spec.specs.Calls.{filled, reading, is-versioned, version-bytes};
 ghost use Rattle.evaluator.specs.Evaluated.{HasRead, Ended, Evaluated};
+ghost use Rattle.evaluator.specs.declared.Result.the-variants.{Refused};
 
 // The result's length and the steps taken, or a refusal.
 pub enum Result {
     Is { length: usize, steps: u64 },
-    Refused(u32, usize),
+    Refused { number: u32, place: usize },
+}
+
+fn refused(number: u32, place: usize) -> Result
+    ensures { λ r. ⌜ r ≡ Refused number place ⌝ }
+{
+    Result::Refused { number, place }
 }
 
 // Whether the first expression is headed by `version`.
@@ -113,14 +120,14 @@ pub fn evaluate(s: &[u8], table: &[u32], rows: usize, work: &mut [u8], steps: u6
         → Evaluated (now (s .entry)) t (now (work .entry)) (now (work .exit)) out steps rs r) ⌝ }
 {
     if !is_versioned(s, table, rows) {
-        return Result::Refused(9, 0);
+        return refused(9, 0);
     }
     if !has_version(s) {
-        return Result::Refused(10, 0);
+        return refused(10, 0);
     }
     let size = work_size(work.len());
     match evaluate_all(s, table, rows, &mut work[..size], steps) {
-        Out::Refused(number, row) => Result::Refused(number, rows::start(table, row)),
+        Out::Refused(number, row) => refused(number, rows::start(table, row)),
         Out::Done(state) => Result::Is {
             length: state.top,
             steps: steps - state.steps,

@@ -10,15 +10,17 @@ use Rattle.evaluator.proofs.evaluate.Tie as tie
 
 returns : tie.Need-returns
 returns c = λ t out rs es reads fills.
-    let a = c .before .before .before .before .before .args in
-    answer-unversioned _ t (a .work .now) out (a .steps) rs es reads (rw (c .before .is-versioned .ensures t rs es reads fills) at (c .if1 .taken))
+    let a = c .before .before .before .before .before .before .args in
+    rw (c .refused .ensures)
+    (answer-unversioned _ t (a .work .now) out (a .steps) rs es reads (rw (c .before .before .is-versioned .ensures t rs es reads fills) at (c .before .if1 .taken)))
 
 returns-2 : tie.Need-returns-2
 returns-2 c = λ t out rs es reads fills.
-    let if1 = c .before .before in
+    let if1 = c .before .before .before in
     let a = if1 .before .before .before .before .before .args in
-    answer-wrong-version _ t (a .work .now) out (a .steps) rs es reads (rw (if1 .before .is-versioned .ensures t rs es reads fills) at (if1 .if1 .left))
-    (rw (c .before .has-version .ensures) at (c .if2 .taken))
+    rw (c .refused2 .ensures)
+    (answer-wrong-version _ t (a .work .now) out (a .steps) rs es reads (rw (if1 .before .is-versioned .ensures t rs es reads fills) at (if1 .if1 .left))
+    (rw (c .before .before .has-version .ensures) at (c .before .if2 .taken)))
 
 -- the part of the workspace that counts
 sized : (c : tie.After-work-size) → let start = c .before .before .before .before .before .before .before .before in
@@ -45,13 +47,14 @@ sub-t18 c =
 
 returns-3 : tie.Need-returns-3
 returns-3 c = λ t out rs es reads fills.
-    let told = c .before .before in
+    let told = c .before .before .before in
     let ran = told .before .before .before .before in
     let size = ran .before .before in
     let known = size .before .before .before in
     let ended = rw (told .number .given .1) at (ran .evaluate-all .ensures t rs es reads fills) in
-    answer-stopped _ t _ out _ rs es reads (rw (known .before .is-versioned .ensures t rs es reads fills) at (known .if1 .left))
-    (rw (size .before .before .has-version .ensures) at (size .before .if2 .left)) _ (size .work-size .ensures) _ _ _ ended (rw fills at (c .start .ensures))
+    rw (c .refused3 .ensures)
+    (answer-stopped _ t _ out _ rs es reads (rw (known .before .is-versioned .ensures t rs es reads fills) at (known .if1 .left))
+    (rw (size .before .before .has-version .ensures) at (size .before .if2 .left)) _ (size .work-size .ensures) _ _ _ ended (rw fills at (c .before .start .ensures)))
 
 returns-4 : tie.Need-returns-4
 returns-4 c = λ t out rs es reads fills.
@@ -68,7 +71,9 @@ evaluate-spec =
     tie.close
     (tie.spec
     (λ c κs. search needs)
+    (λ c κs. search needs)
     returns
+    (λ c κs. search needs)
     (λ c κs. search needs)
     returns-2
     (λ c κs. search needs)
@@ -77,6 +82,7 @@ evaluate-spec =
     (λ c κs. (c .before .before .before .before .before .before .before .before .before .pre, omega (arith, sized (c .before), c .before .work-size .ensures)))
     (λ c. search needs)
     start-requires
+    (λ c κs. search needs)
     (λ c. search needs)
     sub-t18
     (λ c. search needs)
