@@ -65,14 +65,14 @@ abbrev pub lent : Buffer → RefT (List ℕ) → RefT (List ℕ) → RefT (List 
 lent of-stream stream result = stream
 lent of-result stream result = result
 
--- x lies in a buffer from one place to another: in the buffer's block, `start` further than the buffer does, and as long as that
+-- x lies in a buffer from `start` to `end`: in the buffer's block, `start` further on than the buffer itself, and with as many bytes
 pub record Lies (buffer x : RefT (List ℕ)) (start end : ℕ) : Type 0 where
   pub block : x .ptr .0 ≡ buffer .ptr .0
   pub offset : x .ptr .1 ≡ buffer .ptr .1 + start
   pub size : start + length (x .now) ≡ end
 
--- Where the part that Item gives lies. Of the part of an item that is not there document 01 says that it "is empty", and so no place is decided: it has no
--- bytes that could lie at one. (An item that is there has a byte at least.)
+-- Where the part that Item gives lies. Of an item that is not there document 01 says that "the part is empty", and nothing else: no place is decided
+-- for it. (An item that is there has a byte at least.)
 abbrev pub PartLies : Part → RefT (List ℕ) → RefT (List ℕ) → RefT (List ℕ) → Type 0
 PartLies (part b start end) stream result x = Lies (lent b stream result) x start end
 PartLies no-part stream result x = Unit {0}

@@ -98,7 +98,8 @@ TopTurn s p Closing = ⊥
 TopTurn s p (Whole k b e) = row-at (rows-of (tokens-from s p)) 0 .end ≡ e
 TopTurn s p (Bad w q) = ⊥
 
-pub top-turn : (s : List ℕ) (p : ℕ) → ((i : ℕ) → getD s i 0 < 256) → p < length s → RightFrom s p 0 → (r : Answer) → r ≡ shown (token-at s p) → TopTurn s p r
+pub top-turn : (s : List ℕ) (p : ℕ) → ((i : ℕ) → getD s i 0 < 256) → p < length s → RightFrom s p 0
+    → (r : Answer) → r ≡ shown (token-at s p) → TopTurn s p r
 unfolding rows-of
 top-turn s p bytes inside passes r told = go r (next s p r (all-bytes s bytes) inside told)
   where

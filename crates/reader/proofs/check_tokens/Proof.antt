@@ -30,7 +30,8 @@ TurnAt c r =
 at-token : (c : tie.After-token-at Inv-loop μ-loop) (r : Answer) → c .token-at .result ≡ r → TurnAt (c .before .before) r
 at-token c r e =
     let l = c .before .before in
-    check-turn _ _ _ _ _ _ (l .before .before .pre) (l .loop .inv) (c .before .loop-test .taken) (λ i. l .before .shared-slice-known .given i .fits) r (sym e ∙ c .token-at .ensures)
+    check-turn _ _ _ _ _ _ (l .before .before .pre) (l .loop .inv) (c .before .loop-test .taken) (λ i. l .before .shared-slice-known .given i .fits) r
+    (sym e ∙ c .token-at .ensures)
 
 at-opening : (c : tie.After-enum-told Inv-loop μ-loop) → TurnAt (c .before .before .before .before) Opening
 at-opening c = at-token (c .before .before) Opening (c .enum-told .given .1)
