@@ -22,7 +22,7 @@ pub const ROW_WIDTH: usize = reader::ROW_WIDTH;
 pub const TABLE_LIMIT: usize = ROW_WIDTH * STREAM_LIMIT;
 
 // The bytes that count of a workspace: no result is longer.
-pub const WORKSPACE_LIMIT: usize = 65536;
+pub const WORKSPACE_LIMIT: usize = evaluator::WORKSPACE_LIMIT;
 
 // What Read and Write answer: the number of rows or the length, or a refusal's number and place.
 pub enum Answer {

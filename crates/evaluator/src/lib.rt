@@ -28,6 +28,9 @@ ghost use Rattle.spec.specs.Calls.{filled, reading, is-versioned, version-bytes
 ghost use Rattle.evaluator.specs.Evaluated.{HasRead, Ended, Evaluated};
 ghost use Rattle.evaluator.specs.declared.Result.the-variants.{Refused};
 
+// The bytes that count of a workspace: no result is longer.
+pub const WORKSPACE_LIMIT: usize = 65536;
+
 // The result's length and the steps taken, or a refusal.
 pub enum Result {
     Is { length: usize, steps: u64 },
@@ -65,10 +68,10 @@ fn has_version(s: &[u8]) -> bool
 fn work_size(work: usize) -> usize
     ensures { λ r. ⌜ r ≡ min work 65536 ⌝ }
 {
-    if work < 65536 {
+    if work < WORKSPACE_LIMIT {
         return work;
     }
-    65536
+    WORKSPACE_LIMIT
 }
 
 // Evaluates the whole stream in a workspace.
