@@ -54,7 +54,7 @@ pub fn read(stream: &[u8], table: &mut [u32]) -> Answer
 {
     match reader::read_rows(stream, table) {
         Checked::Wrong(number, place) => Answer::Refused { number, place },
-        Checked::Right(rows, _) => Answer::Accepted { given: rows },
+        Checked::Right { rows, length: _ } => Answer::Accepted { given: rows },
     }
 }
 
@@ -65,7 +65,7 @@ pub fn write(stream: &[u8], table: &mut [u32], output: &mut [u8]) -> Answer
 {
     match reader::read_rows(stream, table) {
         Checked::Wrong(number, place) => Answer::Refused { number, place },
-        Checked::Right(_, length) => {
+        Checked::Right { rows: _, length } => {
             if output.len() < length {
                 return Answer::Refused {
                     number: 18,
@@ -96,7 +96,7 @@ pub fn evaluate(
 {
     match reader::read_rows(stream, table) {
         Checked::Wrong(number, place) => Evaluation::Refused { number, place },
-        Checked::Right(rows, _) => {
+        Checked::Right { rows, length: _ } => {
             match evaluator::evaluate(stream, table, rows, workspace, steps) {
                 Result::Refused { number, place } => Evaluation::Refused { number, place },
                 Result::Is {

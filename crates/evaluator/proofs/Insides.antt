@@ -5,7 +5,7 @@ use mathlib.Core.Path.{_≡_, refl, sym, ap, _∙_, subst}
 use mathlib.Core.List.{List}
 use native.Mathlib.Omega.{arith}
 use lib.ListN.{length, drop}
-use Rattle.spec.specs.Nodes.{Node, leaf, branch, Nodes, empty, cons, elements}
+use Rattle.spec.specs.Nodes.{Node, Nodes, empty, cons, elements}
 use Rattle.spec.specs.Runs.{done, Held, hold}
 use Rattle.spec.specs.Plan.{Scope as Definitions, Place, Here, Finish, as-call, inside, plan}
 use Rattle.spec.specs.Evaluation.{Left, finish, run-code}
@@ -13,7 +13,7 @@ use Rattle.laws.specs.Holding.{and-hold, NotTop, in-list, skip}
 use Rattle.laws.proofs.Holding.{hold-kept, hold-inside}
 use Rattle.laws.proofs.Singles.{SingleScope, call-single, in-list-single, in-list-pair, in-list-stays}
 use Rattle.laws.proofs.Values.{FitsNodes, elements-fit, call-sound, in-list-left}
-use Rattle.evaluator.specs.Stands.{next, row-of}
+use Rattle.evaluator.specs.Stands.{next}
 use Rattle.evaluator.specs.Entries.{Entry}
 use Rattle.evaluator.specs.Named.{Named}
 use Rattle.evaluator.specs.Completed.{Untouched, with-top}

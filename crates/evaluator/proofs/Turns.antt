@@ -9,7 +9,7 @@ use lib.ListN.{length}
 use lib.Dec.{eqb}
 use Rattle.spec.specs.Expr.{some, Exprs, none, append}
 use Rattle.spec.specs.Nodes.{Node, Nodes, empty, cons, markers, markers-all}
-use Rattle.spec.specs.Runs.{done, Held, kept, ceased, hold}
+use Rattle.spec.specs.Runs.{Held, kept, ceased, hold}
 use Rattle.spec.specs.Plan.{Place, top, element, inner, Here}
 use Rattle.spec.specs.Evaluation.{Left, standing, add-definition, eval, run-code}
 use Rattle.laws.specs.Holding.{and-hold, beyond, together, in-list}

@@ -19,7 +19,7 @@ pub const ROW_WIDTH: usize = 4;
 
 pub enum Checked {
     // How many rows the stream has, and the length of its canonical bytes.
-    Right(usize, usize),
+    Right { rows: usize, length: usize },
     // A refusal's number and place.
     Wrong(u32, usize),
 }
@@ -77,7 +77,10 @@ fn check_tokens(s: &[u8], room: usize) -> Checked
         }
     }
     if depth == 0 {
-        return Checked::Right(rows, at - saved);
+        return Checked::Right {
+            rows,
+            length: at - saved,
+        };
     }
     Checked::Wrong(2, at)
 }
@@ -152,9 +155,9 @@ pub fn read_rows(s: &[u8], table: &mut [u32]) -> Checked
 {
     match check(s, table.len() / ROW_WIDTH) {
         Checked::Wrong(number, place) => Checked::Wrong(number, place),
-        Checked::Right(rows, length) => {
+        Checked::Right { rows, length } => {
             fill(s, table);
-            Checked::Right(rows, length)
+            Checked::Right { rows, length }
         }
     }
 }
@@ -241,6 +244,6 @@ pub fn locate(s: &[u8], k: usize) -> Found
 {
     match check(s, s.len()) {
         Checked::Wrong(_, _) => Found::Nothing,
-        Checked::Right(_, _) => find(s, k),
+        Checked::Right { rows: _, length: _ } => find(s, k),
     }
 }

@@ -2,6 +2,7 @@
 -- Assumes nothing.
 use Prim.Native.Nat.{ℕ, _+_, _*_, _-_, _≤_, min}
 use mathlib.Core.Path.{_≡_, refl, sym, ap, _∙_}
+use mathlib.Core.List.{List}
 use mathlib.Core.Logic.{⊎-elim}
 use native.Mathlib.Omega.{arith}
 use lib.ListN.{take, drop, getD}
@@ -10,16 +11,20 @@ use Rattle.atoms.proofs.Places.{natural-held, natural-step, natural-end
 use Rattle.atoms.proofs.number.Statement.{statement}
 use Rattle.atoms.proofs.number.Tie as tie
 
+record Numbered (s : List ℕ) (from to v i : ℕ) : Type 0 where
+  begun : from ≤ i
+  inside : i ≤ to
+  small : v ≤ 65537
+  same : min (natural 0 (take (to - from) (drop from s))) 65537 ≡ min (natural v (take (to - i) (drop i s))) 65537
+
 abbrev Inv-loop : tie.InvT-loop
-Inv-loop s from to v₀ i₀ v i =
-    (from ≤ i) × (i ≤ to) × (v ≤ 65537)
-    × (min (natural 0 (take (to - from) (drop from s))) 65537 ≡ min (natural v (take (to - i) (drop i s))) 65537)
+Inv-loop s from to v₀ i₀ v i = Numbered s from to v i
 
 abbrev μ-loop : tie.MeasureT-loop
 μ-loop s from to v₀ i₀ v i = to - i
 
 loop-holds : tie.Need-loop-holds Inv-loop μ-loop
-loop-holds c = (omega arith, omega arith, omega arith, refl)
+loop-holds c = record { begun = omega arith; inside = omega arith; small = omega arith; same = refl }
 
 -- where the arms meet, `v` is the next number, held
 held : (c : tie.Joined1 Inv-loop μ-loop)
@@ -30,15 +35,16 @@ loop-again : tie.Need-loop-again Inv-loop μ-loop
 loop-again c =
     let a = c .before .before .before .before .args in
     let l = c .before .before .before .loop in
-    let rest = take (a .to - (l .i + 1)) (drop (l .i + 1) (a .s .now)) in (
-      omega arith,
-      omega arith,
-      omega (arith, held c),
-      l .inv .3
+    let rest = take (a .to - (l .i + 1)) (drop (l .i + 1) (a .s .now)) in
+    record {
+      begun = omega arith;
+      inside = omega arith;
+      small = omega (arith, held c);
+      same = l .inv .same
           ∙ ap (λ (n : ℕ). min n 65537) (natural-step (a .s .now) (l .v) (l .i) (a .to) (omega arith) (omega arith))
           ∙ natural-held (l .v * 256 + getD (a .s .now) (l .i) 0) rest
-          ∙ ap (λ (n : ℕ). min (natural n rest) 65537) (sym (held c)),
-    )
+          ∙ ap (λ (n : ℕ). min (natural n rest) 65537) (sym (held c));
+    }
 
 returns : tie.Need-returns Inv-loop μ-loop
 returns c =

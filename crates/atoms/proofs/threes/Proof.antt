@@ -1,7 +1,8 @@
 -- `atoms::threes` meets its contract. The invariant: those passed and those that follow are all.
 -- Assumes nothing.
-use Prim.Native.Nat.{_+_, _-_, _≤_}
+use Prim.Native.Nat.{ℕ, _+_, _-_, _≤_}
 use mathlib.Core.Path.{_≡_}
+use mathlib.Core.List.{List}
 use native.Mathlib.Omega.{arith}
 use lib.ListN.{length, drop}
 use Rattle.atoms.specs.Tokens.{leading-threes}
@@ -9,8 +10,13 @@ use Rattle.atoms.proofs.Places.{threes-end, threes-other, threes-more, 
 use Rattle.atoms.proofs.threes.Statement.{statement}
 use Rattle.atoms.proofs.threes.Tie as tie
 
+record Passed (s : List ℕ) (at k : ℕ) : Type 0 where
+  few : k ≤ 8
+  inside : at + k ≤ length s
+  all : leading-threes 8 (drop at s) ≡ k + leading-threes (8 - k) (drop (at + k) s)
+
 abbrev Inv-loop : tie.InvT-loop
-Inv-loop s at k₀ k = (k ≤ 8) × (at + k ≤ length s) × (leading-threes 8 (drop at s) ≡ k + leading-threes (8 - k) (drop (at + k) s))
+Inv-loop s at k₀ k = Passed s at k
 
 abbrev μ-loop : tie.MeasureT-loop
 μ-loop s at k₀ k = 8 - k
@@ -19,7 +25,7 @@ loop-holds : tie.Need-loop-holds Inv-loop μ-loop
 loop-holds c =
     let a = c .args in
     let here : a .at + 0 ≡ a .at = omega arith in
-    (omega arith, omega arith, rw here (omega arith))
+    record { few = omega arith; inside = omega arith; all = rw here (omega arith) }
 
 returns : tie.Need-returns Inv-loop μ-loop
 returns c =
@@ -40,7 +46,7 @@ loop-again c =
     let left : 8 - l .k - 1 ≡ 8 - (l .k + 1) = omega arith in
     let past : a .at + l .k + 1 ≡ a .at + (l .k + 1) = omega arith in
     let more = threes-more (a .s .now) (a .at + l .k) (8 - l .k) (omega arith) (c .if2 .left) (omega arith) in
-    (omega arith, omega arith, omega (arith, l .inv .2, rw (left, past) at more))
+    record { few = omega arith; inside = omega arith; all = omega (arith, l .inv .all, rw (left, past) at more) }
 
 returns-3 : tie.Need-returns-3 Inv-loop μ-loop
 returns-3 c =

@@ -1,6 +1,6 @@
 -- `evaluator::scope::Scope::look_up` meets its contract: what is left to search finds what the whole does. Assumes nothing.
 use borrow.Author.Needs.{needs}
-use Prim.Native.Nat.{_-_, _≤_, _<_}
+use Prim.Native.Nat.{ℕ, _-_, _≤_, _<_}
 use mathlib.Core.Path.{_≡_, _∙_}
 use mathlib.Core.List.{List, _∷_}
 use native.Mathlib.Omega.{arith}
@@ -9,8 +9,12 @@ use Rattle.evaluator.proofs.Entries.{entry-at, entries-length, entries-
 use Rattle.evaluator.proofs.scope.Scope.look_up.Statement.{statement}
 use Rattle.evaluator.proofs.scope.Scope.look_up.Tie as tie
 
+record Searching (keys places : List ℕ) (key len i : ℕ) : Type 0 where
+  few : i ≤ 256
+  finds : find key (entries-at keys places i) ≡ find key (entries-at keys places len)
+
 abbrev Inv-loop : tie.InvT-loop
-Inv-loop keys places key i₀ i = (i ≤ 256) × (find key (entries-at keys places i) ≡ find key (entries-at keys places i₀))
+Inv-loop keys places key i₀ i = Searching keys places key i₀ i
 
 abbrev μ-loop : tie.MeasureT-loop
 μ-loop keys places key i₀ i = i
@@ -24,7 +28,7 @@ module _ (c : tie.At-loop Inv-loop μ-loop) (h : 0 < c .loop .i) where
   behind = let a = c .before .args in entries-at (a .keys .now) (a .places .now) (c .loop .i - 1)
 
   found : let a = c .before .args in find (a .key) (latest ∷ behind) ≡ find (a .key) (entries (a .keys .now) (a .places .now) (a .self))
-  found = rw (← entries-latest _ _ (c .loop .i) h) (c .loop .inv .1)
+  found = rw (← entries-latest _ _ (c .loop .i) h) (c .loop .inv .finds)
 
 returns : tie.Need-returns Inv-loop μ-loop
 returns c =
@@ -44,13 +48,13 @@ loop-again : tie.Need-loop-again Inv-loop μ-loop
 loop-again c =
     let l = c .before .before .before .before in
     let h = c .before .before .before .loop-test .taken in
-    (search needs, find-other _ (latest l h) (behind l h) (c .before .if1 .left) (c .if2 .left) ∙ found l h)
+    record { few = search needs; finds = find-other _ (latest l h) (behind l h) (c .before .if1 .left) (c .if2 .left) ∙ found l h }
 
 returns-3 : tie.Need-returns-3 Inv-loop μ-loop
 unfolding find entries-at
 returns-3 c =
     let z : c .before .loop .i ≡ 0 = omega arith in
-    rw z at (c .before .loop .inv .1)
+    rw z at (c .before .loop .inv .finds)
 
 pub look-up-spec : {M : Type 1} → statement M
 look-up-spec =
