@@ -52,7 +52,9 @@ pub enum Part {
 pub fn read(stream: &[u8], table: &mut [u32]) -> Answer
     ensures { λ r. ⌜ Answered (Read (now (stream .entry)) (now (table .entry))) r (now (table .exit)) [] ⌝ }
 {
-    match reader::read_rows(stream, table) {
+    let told = reader::check(stream, table.len() / ROW_WIDTH);
+    reader::fill_told(stream, table, told);
+    match told {
         Checked::Wrong(number, place) => Answer::Refused { number, place },
         Checked::Right { rows, length: _ } => Answer::Accepted { given: rows },
     }
@@ -63,7 +65,9 @@ pub fn write(stream: &[u8], table: &mut [u32], output: &mut [u8]) -> Answer
     ensures { λ r.
         ⌜ Answered (Write (now (stream .entry)) (now (table .entry)) (now (output .entry))) r (now (table .exit)) (now (output .exit)) ⌝ }
 {
-    match reader::read_rows(stream, table) {
+    let told = reader::check(stream, table.len() / ROW_WIDTH);
+    reader::fill_told(stream, table, told);
+    match told {
         Checked::Wrong(number, place) => Answer::Refused { number, place },
         Checked::Right { rows: _, length } => {
             if output.len() < length {
@@ -94,7 +98,9 @@ pub fn evaluate(
     ensures { λ r.
         ⌜ AnsweredEvaluation (Evaluate (now (stream .entry)) (now (table .entry)) (length (now (workspace .entry))) (now (output .entry)) steps) r (now (table .exit)) (now (output .exit)) ⌝ }
 {
-    match reader::read_rows(stream, table) {
+    let told = reader::check(stream, table.len() / ROW_WIDTH);
+    reader::fill_told(stream, table, told);
+    match told {
         Checked::Wrong(number, place) => Evaluation::Refused { number, place },
         Checked::Right { rows, length: _ } => {
             match evaluator::evaluate(stream, table, rows, workspace, steps) {

@@ -3,7 +3,7 @@
 use atoms::Kind;
 use atoms::Token;
 ghost use mathlib.Core.Path.{_≡_};
-ghost use Prim.Native.Nat.{_+_, _-_, _*_, _≤_, _<_};
+ghost use Prim.Native.Nat.{_+_, _-_, _*_, _/_, _≤_, _<_};
 ghost use lib.ListN.{length, drop, getD};
 ghost use Rattle.spec.specs.Reading.{tokens, ends, rows-of, row-width, read};
 ghost use Rattle.spec.specs.Calls.{filled, row-at, Buffer, item, item-read};
@@ -149,16 +149,13 @@ pub fn fill(s: &[u8], table: &mut [u32])
     }
 }
 
-// Reads a stream into a table: its rows, if it can be read. A refusal leaves the table as it was.
-pub fn read_rows(s: &[u8], table: &mut [u32]) -> Checked
-    ensures { λ r. ⌜ ReadInto (now (s .entry)) (now (table .entry)) (now (table .exit)) r ⌝ }
+// The second pass, if the first told that the stream is right; a refusal leaves the table as it was.
+pub fn fill_told(s: &[u8], table: &mut [u32], told: Checked)
+    requires { ⌜ told ≡ checked (read (now s) (length (now table) / row-width)) ⌝ }
+    ensures { λ _. ⌜ ReadInto (now (s .entry)) (now (table .entry)) (now (table .exit)) told ⌝ }
 {
-    match check(s, table.len() / ROW_WIDTH) {
-        Checked::Wrong(number, place) => Checked::Wrong(number, place),
-        Checked::Right { rows, length } => {
-            fill(s, table);
-            Checked::Right { rows, length }
-        }
+    if let Checked::Right { rows: _, length: _ } = told {
+        fill(s, table);
     }
 }
 

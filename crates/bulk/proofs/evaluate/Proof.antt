@@ -15,16 +15,16 @@ use Rattle.bulk.proofs.Answering.{evaluate-refusal, copied-over, has-re
 use Rattle.bulk.proofs.evaluate.Statement.{statement}
 use Rattle.bulk.proofs.evaluate.Tie as tie
 
-abbrev reading : tie.After-rows → tie.After-read-rows
+abbrev reading : tie.After-told2 → tie.After-fill-told
 reading c = c .before .before .before .before
 
-abbrev start : tie.After-rows → tie.Start
-start c = reading c .before .before .before .before .before .before
+abbrev start : tie.After-told2 → tie.Start
+start c = reading c .before .before .before .before .before .before .before
 
 -- the stream was read
-was-read : (c : tie.After-rows) → let a = start c .args in
-    WasRead (a .stream .now) (a .table .now) (reading c .read-rows .last .1 .0) (c .rows .given .0 .0) (c .rows .given .0 .1 .0)
-was-read c = rw (c .rows .given .1) at (c .before .before .before .before .read-rows .ensures)
+was-read : (c : tie.After-told2) → let a = start c .args in
+    WasRead (a .stream .now) (a .table .now) (reading c .fill-told .last .1 .0) (c .told2 .given .0 .0) (c .told2 .given .0 .1 .0)
+was-read c = rw (c .told2 .given .1) at (c .before .before .before .before .fill-told .ensures)
 
 evaluate-requires : tie.Need-evaluate-requires
 evaluate-requires c κs = has-read (was-read (c .before .before .before))
@@ -62,12 +62,12 @@ copy-requires c κs =
     omega (arith, length-take-le (size .size .given .0 .0) (work size) (inside size), c .before .before .if1 .left)
 
 returns-2 : tie.Need-returns-2
-returns-2 c = evaluate-refusal (rw (c .before .number .given .1) at (c .before .before .before .before .before .read-rows .ensures)) _ _ _
+returns-2 c = evaluate-refusal (rw (c .before .told .given .1) at (c .before .before .before .before .before .fill-told .ensures)) _ _ _
 
 returns-3 : tie.Need-returns-3
 returns-3 c =
     let v = c .before .before .before .before .before in
-    rows-refusal (was-read (v .before .before .before .before)) _ _ _ _ (told v _ (c .before .number2 .given .1))
+    rows-refusal (was-read (v .before .before .before .before)) _ _ _ _ (told v _ (c .before .number .given .1))
 
 returns-4 : tie.Need-returns-4
 returns-4 c =
@@ -80,6 +80,7 @@ pub evaluate-spec : {M : Type 1} → statement M
 evaluate-spec =
     tie.close
     (tie.spec
+    (λ c κs. search needs)
     (λ c κs. search needs)
     (λ c. search needs)
     (λ c. search needs)

@@ -6,15 +6,16 @@ use Rattle.bulk.proofs.read.Statement.{statement}
 use Rattle.bulk.proofs.read.Tie as tie
 
 returns : tie.Need-returns
-returns c = read-refusal (rw (c .before .number .given .1) at (c .before .before .before .before .before .read-rows .ensures))
+returns c = read-refusal (rw (c .before .told .given .1) at (c .before .before .before .before .before .fill-told .ensures))
 
 returns-2 : tie.Need-returns-2
-returns-2 c = read-acceptance (rw (c .before .rows .given .1) at (c .before .before .before .before .before .read-rows .ensures))
+returns-2 c = read-acceptance (rw (c .before .told2 .given .1) at (c .before .before .before .before .before .fill-told .ensures))
 
 pub read-spec : {M : Type 1} → statement M
 read-spec =
     tie.close
     (tie.spec
+    (λ c κs. search needs)
     (λ c κs. search needs)
     (λ c. search needs)
     (λ c. search needs)
