@@ -8,30 +8,30 @@ use lib.ListN.{length, take, drop, getD}
 use lib.Seq.{take-length, length-take-le}
 use borrow.Author.Tests.{lt-ltb, le-ltb}
 use Rattle.spec.specs.Expr.{canonical}
-use Rattle.spec.specs.Reading.{tokens, rows-of}
-use Rattle.spec.specs.Calls.{Answer, refusal, over, filled, put-out, Read, Write, Evaluate}
+use Rattle.spec.specs.Reading.{tokens, rows-of, refused}
+use Rattle.spec.specs.Calls.{Answer, refusal, over, filled, put-out, reading, Read, Write, Evaluate}
 use Rattle.laws.specs.Demands.{meaning-of}
 use Rattle.laws.proofs.Steps.{all-bytes}
 use Rattle.laws.proofs.Theorems.{canonical-only}
-use Rattle.reader.specs.Passes.{WasRead, NotRead}
+use Rattle.reader.proofs.Told.{WasRead}
 use Rattle.evaluator.specs.Evaluated.{HasRead}
 use Rattle.bulk.specs.Answers.{Answered, AnsweredEvaluation}
 use Rattle.bulk.specs.declared.Answer.the-variants.{Accepted, Refused}
 use Rattle.bulk.specs.declared.Evaluation.the-variants.{Accepted as Result, Refused as Refusal}
 
 -- a stream that can't be read
-module _ {s t t′ : List ℕ} {w p : ℕ} (r : NotRead s t t′ w p) where
-  pub read-refusal : Answered (Read s t) (Refused w p) t′ []
+module _ (s t : List ℕ) {w p : ℕ} (r : (reading s t ≡ refused w p) × (1 ≤ w)) where
+  pub read-refusal : Answered (Read s t) (Refused w p) t []
   unfolding Read
-  read-refusal = record { is = rw (r .is, r .kept); numbered = r .numbered }
+  read-refusal = record { is = rw (r .0); numbered = r .1 }
 
-  pub write-refusal : (out : List ℕ) → Answered (Write s t out) (Refused w p) t′ out
+  pub write-refusal : (out : List ℕ) → Answered (Write s t out) (Refused w p) t out
   unfolding Write
-  write-refusal out = record { is = rw (r .is, r .kept); numbered = r .numbered }
+  write-refusal out = record { is = rw (r .0); numbered = r .1 }
 
-  pub evaluate-refusal : (work : ℕ) (out : List ℕ) (steps : ℕ) → AnsweredEvaluation (Evaluate s t work out steps) (Refusal w p) t′ out
+  pub evaluate-refusal : (work : ℕ) (out : List ℕ) (steps : ℕ) → AnsweredEvaluation (Evaluate s t work out steps) (Refusal w p) t out
   unfolding Evaluate
-  evaluate-refusal work out steps = record { is = rw (r .is, r .kept); numbered = r .numbered }
+  evaluate-refusal work out steps = record { is = rw (r .0); numbered = r .1 }
 
 -- all of some bytes copied to the start of others
 pub copied-over : (x out : List ℕ) → take (length x) x ++ drop (length x) out ≡ over x out

@@ -52,11 +52,12 @@ pub enum Part {
 pub fn read(stream: &[u8], table: &mut [u32]) -> Answer
     ensures { λ r. ⌜ Answered (Read (now (stream .entry)) (now (table .entry))) r (now (table .exit)) [] ⌝ }
 {
-    let told = reader::check(stream, table.len() / ROW_WIDTH);
-    reader::fill_told(stream, table, told);
-    match told {
+    match reader::check(stream, table.len() / ROW_WIDTH) {
         Checked::Wrong(number, place) => Answer::Refused { number, place },
-        Checked::Right { rows, length: _ } => Answer::Accepted { given: rows },
+        Checked::Right { rows, length: _ } => {
+            reader::fill(stream, table);
+            Answer::Accepted { given: rows }
+        }
     }
 }
 
@@ -65,11 +66,10 @@ pub fn write(stream: &[u8], table: &mut [u32], output: &mut [u8]) -> Answer
     ensures { λ r.
         ⌜ Answered (Write (now (stream .entry)) (now (table .entry)) (now (output .entry))) r (now (table .exit)) (now (output .exit)) ⌝ }
 {
-    let told = reader::check(stream, table.len() / ROW_WIDTH);
-    reader::fill_told(stream, table, told);
-    match told {
+    match reader::check(stream, table.len() / ROW_WIDTH) {
         Checked::Wrong(number, place) => Answer::Refused { number, place },
         Checked::Right { rows: _, length } => {
+            reader::fill(stream, table);
             if output.len() < length {
                 return Answer::Refused {
                     number: 18,
@@ -98,11 +98,10 @@ pub fn evaluate(
     ensures { λ r.
         ⌜ AnsweredEvaluation (Evaluate (now (stream .entry)) (now (table .entry)) (length (now (workspace .entry))) (now (output .entry)) steps) r (now (table .exit)) (now (output .exit)) ⌝ }
 {
-    let told = reader::check(stream, table.len() / ROW_WIDTH);
-    reader::fill_told(stream, table, told);
-    match told {
+    match reader::check(stream, table.len() / ROW_WIDTH) {
         Checked::Wrong(number, place) => Evaluation::Refused { number, place },
         Checked::Right { rows, length: _ } => {
+            reader::fill(stream, table);
             match evaluator::evaluate(stream, table, rows, workspace, steps) {
                 Result::Refused { number, place } => Evaluation::Refused { number, place },
                 Result::Is {

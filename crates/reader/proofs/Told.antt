@@ -1,11 +1,12 @@
--- What the first pass told of a stream. Document 01: "Read". Assumes nothing.
-use Prim.Native.Nat.{ℕ, _≤_, _<_}
+-- What the first pass told of a stream, and that the stream was read once the second has followed. Document 01: "Read". Assumes nothing.
+use Prim.Native.Nat.{ℕ, _*_, _/_, _≤_, _<_}
 use mathlib.Core.Path.{_≡_, refl, ap, _∙_}
 use mathlib.Core.List.{List}
 use native.Mathlib.Omega.{arith}
 use lib.ListN.{length, getD}
 use Rattle.spec.specs.Expr.{Exprs, canonical}
-use Rattle.spec.specs.Reading.{tokens, rows-of, Reading, refused, readable, read}
+use Rattle.spec.specs.Reading.{row-width, tokens, rows-of, Reading, refused, readable, read}
+use Rattle.spec.specs.Calls.{reading, filled}
 use Rattle.laws.specs.Demands.{meaning-of, CanRead}
 use Rattle.laws.proofs.Reading.{read-readable, read-refused, read-enough}
 use Rattle.laws.proofs.Tokens.{tokens-few}
@@ -44,3 +45,19 @@ told s room v bytes e = rw e (go (read s room) refl)
           fits = omega (arith, rows-room (r .well) (omega arith));
           sized = ap (λ (x : Exprs). length (canonical x)) (r .means);
         }
+
+-- a stream was read: its rows are counted, and stand in the table, and the length of its canonical bytes is told
+pub record WasRead (s table table′ : List ℕ) (rows size : ℕ) : Type 0 where
+  pub can : CanRead s
+  pub is : reading s table ≡ readable (rows-of (tokens 0 0 s)) (meaning-of s)
+  pub counted : rows ≡ length (rows-of (tokens 0 0 s))
+  pub sized : size ≡ length (canonical (meaning-of s))
+  pub filled-in : table′ ≡ filled (rows-of (tokens 0 0 s)) table
+
+-- if the first pass told so, the second may follow, and leaves it so
+module _ {s : List ℕ} (table : List ℕ) {rows size : ℕ} (right : ToldRight s (length table / row-width) rows size) where
+  pub can-fill : CanRead s × (row-width * length (rows-of (tokens 0 0 s)) ≤ length table)
+  can-fill = (right .can, omega (arith, right .counted, right .fits))
+
+  pub was-read : {table′ : List ℕ} → table′ ≡ filled (rows-of (tokens 0 0 s)) table → WasRead s table table′ rows size
+  was-read is = record { can = right .can; is = right .is; counted = right .counted; sized = right .sized; filled-in = is }

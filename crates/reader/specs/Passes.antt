@@ -1,13 +1,12 @@
 -- What this crate's functions answer and leave in the table, as `Reading` and `Calls` of the crate `spec` define it.
 -- Document 01: "Table", "Item". Assumes nothing.
-use Prim.Native.Nat.{ℕ, _+_, _*_, _≤_}
+use Prim.Native.Nat.{ℕ, _+_, _*_}
 use mathlib.Core.Path.{_≡_}
 use mathlib.Core.List.{List}
 use lib.ListN.{length, set, drop}
 use Rattle.spec.specs.Expr.{canonical}
-use Rattle.spec.specs.Reading.{tokens, right, check, rows-of, Reading, refused, readable, row-width}
-use Rattle.spec.specs.Calls.{filled, reading, Buffer, Part, part, no-part}
-use Rattle.laws.specs.Demands.{meaning-of, CanRead}
+use Rattle.spec.specs.Reading.{tokens, right, check, Reading, refused, readable, row-width}
+use Rattle.spec.specs.Calls.{Buffer, Part, part, no-part}
 use Rattle.reader.specs.declared.Checked.{Checked}
 use Rattle.reader.specs.declared.Checked.the-variants.{Right, Wrong}
 use Rattle.reader.specs.declared.Found.{Found}
@@ -24,24 +23,6 @@ row-started t r kind start = set (set t (row-width * r) kind) (row-width * r + 1
 
 abbrev pub row-ended : List ℕ → ℕ → ℕ → ℕ → List ℕ
 row-ended t r end next = set (set t (row-width * r + 2) end) (row-width * r + 3) next
-
--- a stream was read: its rows are counted, and stand in the table, and the length of its canonical bytes is told
-pub record WasRead (s table table′ : List ℕ) (rows size : ℕ) : Type 0 where
-  pub can : CanRead s
-  pub is : reading s table ≡ readable (rows-of (tokens 0 0 s)) (meaning-of s)
-  pub counted : rows ≡ length (rows-of (tokens 0 0 s))
-  pub sized : size ≡ length (canonical (meaning-of s))
-  pub filled-in : table′ ≡ filled (rows-of (tokens 0 0 s)) table
-
--- or it was refused, and the table is as it was; no refusal has acceptance's number
-pub record NotRead (s table table′ : List ℕ) (number place : ℕ) : Type 0 where
-  pub is : reading s table ≡ refused number place
-  pub numbered : 1 ≤ number
-  pub kept : table′ ≡ table
-
-abbrev pub ReadInto : List ℕ → List ℕ → List ℕ → Checked → Type 0
-ReadInto s table table′ (Right rows size) = WasRead s table table′ rows size
-ReadInto s table table′ (Wrong number place) = NotRead s table table′ number place
 
 -- d forms are open at place p of a stream, and what follows is right
 abbrev pub RightFrom : List ℕ → ℕ → ℕ → Type 0

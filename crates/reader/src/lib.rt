@@ -3,13 +3,13 @@
 use atoms::Kind;
 use atoms::Token;
 ghost use mathlib.Core.Path.{_≡_};
-ghost use Prim.Native.Nat.{_+_, _-_, _*_, _/_, _≤_, _<_};
+ghost use Prim.Native.Nat.{_+_, _-_, _*_, _≤_, _<_};
 ghost use lib.ListN.{length, drop, getD};
 ghost use Rattle.spec.specs.Reading.{tokens, ends, rows-of, row-width, read};
 ghost use Rattle.spec.specs.Calls.{filled, row-at, Buffer, item, item-read};
 ghost use Rattle.laws.specs.Demands.{meaning-of, CanRead};
 ghost use Rattle.atoms.specs.Tokens.{atom-head};
-ghost use Rattle.reader.specs.Passes.{checked, row-started, row-ended, ReadInto, RightFrom, found-part};
+ghost use Rattle.reader.specs.Passes.{checked, row-started, row-ended, RightFrom, found-part};
 
 // The bytes of the longest stream.
 pub const STREAM_LIMIT: usize = atoms::STREAM_LIMIT;
@@ -146,16 +146,6 @@ pub fn fill(s: &[u8], table: &mut [u32])
                 return;
             }
         }
-    }
-}
-
-// The second pass, if the first told that the stream is right; a refusal leaves the table as it was.
-pub fn fill_told(s: &[u8], table: &mut [u32], told: Checked)
-    requires { ⌜ told ≡ checked (read (now s) (length (now table) / row-width)) ⌝ }
-    ensures { λ _. ⌜ ReadInto (now (s .entry)) (now (table .entry)) (now (table .exit)) told ⌝ }
-{
-    if let Checked::Right { rows: _, length: _ } = told {
-        fill(s, table);
     }
 }
 
