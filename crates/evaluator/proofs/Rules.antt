@@ -1,5 +1,5 @@
--- Laws of the rules: which elements a form has, by its parts; what each rule refuses, in its order, and what it does, by the tests that code
--- makes; and where the arguments of code stand. Document 01: the rules of "Evaluation", refusals 11 to 15 and 19. Assumes nothing.
+-- Laws of what the rules look at: which elements a form has, by its parts; an element's kind and head; the place; and where the arguments of
+-- code stand. Document 01: the rules of "Evaluation", refusals 11 to 15 and 19. Assumes nothing.
 use Prim.Native.Nat.{ℕ, zero, suc, _+_, _≤_, _<_}
 use mathlib.Core.Path.{_≡_, refl, sym, ap, _∙_, subst}
 use mathlib.Core.List.{List, append-nil}
