@@ -31,12 +31,14 @@ pub enum Token {
     Closing,
     // An atom of that kind. `body` is where an array's bytes begin; any other atom is all body.
     Whole { kind: u32, body: usize, end: usize },
+    // A refusal's number and place.
     Bad(u32, usize),
 }
 
 // A length expression's number, held at `TOO_MANY`, and where the expression ends.
 enum Length {
     Is { value: usize, end: usize },
+    // A refusal's number and place.
     Wrong(u32, usize),
 }
 

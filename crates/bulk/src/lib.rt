@@ -8,7 +8,7 @@ ghost use mathlib.Core.List.{List, []};
 ghost use Prim.Native.Nat.{ℕ};
 ghost use lib.ListN.{length};
 ghost use denote.Ref.{RefT};
-ghost use Rattle.spec.specs.Reading.{read as reading};
+ghost use Rattle.spec.specs.Reading.{read};
 ghost use Rattle.spec.specs.Calls.{Read, Write, Evaluate, Item, Buffer as Chosen, item-read};
 ghost use Rattle.bulk.specs.Answers.{Answered, AnsweredEvaluation, asked, of-buffer, lent, PartItself};
 
@@ -147,7 +147,7 @@ pub fn item<'a>(stream: &'a [u8], result: &'a [u8], which: Buffer, k: usize) -> 
 
 // Where item k of a buffer is.
 fn place_of(buffer: &[u8], k: usize) -> Part
-    ensures { λ r. ⌜ ((b : Chosen) → of-buffer b r ≡ item-read b k (reading (now (buffer .entry)) (length (now (buffer .entry))))) ⌝ }
+    ensures { λ r. ⌜ ((b : Chosen) → of-buffer b r ≡ item-read b k (read (now (buffer .entry)) (length (now (buffer .entry))))) ⌝ }
 {
     match reader::locate(buffer, k) {
         Found::At(start, end) => Part::Of { start, end },

@@ -7,6 +7,7 @@ use mathlib.Core.List.{List, [], _∷_, _++_}
 use lib.ListN.{length, take, drop, getD}
 use lib.Seq.{slice}
 use Rattle.spec.specs.Expr.{array, Expr, atom, Exprs, none, more, only, deepest, bytes, canonical}
+use Rattle.spec.specs.Nodes.{core, ns, name-byte}
 use Rattle.writer.specs.Bytes.{with-head}
 use Rattle.evaluator.specs.Entries.{pack}
 use Rattle.evaluator.specs.declared.values.State.{State}
@@ -54,7 +55,7 @@ pub data Incomplete (st : State) (vs : Exprs) : ℕ → Type 0 where
 
 -- the bytes of an `ns` form, by its reference's and its id's
 abbrev pub ns-front : List ℕ
-ns-front = 0x01 ∷ 0x20 ∷ 0x06 ∷ []
+ns-front = 0x01 ∷ core ∷ name-byte ns ∷ []
 
 abbrev pub ns-bytes : List ℕ → List ℕ → List ℕ
 ns-bytes reference id = ns-front ++ with-head 4 reference ++ with-head 2 id ++ (0x02 ∷ [])

@@ -33,6 +33,7 @@ ghost use Rattle.evaluator.specs.declared.values.Out.the-variants.{Done}
 pub enum Left {
     Values(State),
     Defined { state: State, key: u32, place: u32 },
+    // A refusal's number and row.
     Stopped(u32, usize),
 }
 

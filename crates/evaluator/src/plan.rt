@@ -48,6 +48,7 @@ pub enum After {
 }
 
 pub enum Task {
+    // A refusal's number.
     Refuse(u32),
     // The expression stands for itself.
     Own,
