@@ -54,7 +54,7 @@ pub fn read(stream: &[u8], table: &mut [u32]) -> Answer
 {
     match reader::check(stream, table.len() / ROW_WIDTH) {
         Checked::Wrong(number, place) => Answer::Refused { number, place },
-        Checked::Right { rows, length: _ } => {
+        Checked::Right(rows, _) => {
             reader::fill(stream, table);
             Answer::Accepted { given: rows }
         }
@@ -68,7 +68,7 @@ pub fn write(stream: &[u8], table: &mut [u32], output: &mut [u8]) -> Answer
 {
     match reader::check(stream, table.len() / ROW_WIDTH) {
         Checked::Wrong(number, place) => Answer::Refused { number, place },
-        Checked::Right { rows: _, length } => {
+        Checked::Right(_, length) => {
             reader::fill(stream, table);
             if output.len() < length {
                 return Answer::Refused {
@@ -100,7 +100,7 @@ pub fn evaluate(
 {
     match reader::check(stream, table.len() / ROW_WIDTH) {
         Checked::Wrong(number, place) => Evaluation::Refused { number, place },
-        Checked::Right { rows, length: _ } => {
+        Checked::Right(rows, _) => {
             reader::fill(stream, table);
             match evaluator::evaluate(stream, table, rows, workspace, steps) {
                 Result::Refused { number, place } => Evaluation::Refused { number, place },

@@ -8,7 +8,7 @@ use lib.Dec.{leb}
 use borrow.Author.Tests.{leb-true, leb-false, lt-leb, ne-eqb}
 use native.Mathlib.Omega.{arith}
 use Rattle.spec.specs.Expr.{Expr, atom, form, Exprs, rows, rows-all}
-use Rattle.spec.specs.Reading.{Token, opening, closing, whole, bad, right, check, put, wrap, lists, Row, ends, rows-of, next-row, numbers}
+use Rattle.spec.specs.Reading.{Token, opening, closing, whole, bad, right, check, put, wrap, lists, Row, ends, rows-of, row-width, next-row, numbers}
 use Rattle.laws.specs.Sanity.{Inside, FirstFrom}
 use Rattle.laws.proofs.Basics.{by-test}
 use Rattle.laws.proofs.Tokens.{Right, at-end, opens, closes, stands, Laid}
@@ -169,18 +169,18 @@ module _ (other : Row) where
       (λ t. rw one-more (first-behind e r rs k (leb-false e (r .start) t) (next-row-first e rs)))
 
   -- number j of row i
-  pub numbers-at : (all rs : List Row) (i j : ℕ) → i < length rs → j < 4 → getD (numbers all rs) (4 * i + j) 0 ≡ getD (four all (getD rs i other)) j 0
+  pub numbers-at : (all rs : List Row) (i j : ℕ) → i < length rs → j < row-width → getD (numbers all rs) (row-width * i + j) 0 ≡ getD (four all (getD rs i other)) j 0
   unfolding numbers
   numbers-at all [] i j h k = absurd (omega arith)
   numbers-at all (r ∷ rs) zero j h k =
-      let place : 4 * 0 + j ≡ j = omega arith in rw place (List·getD-append (four all r) (numbers all rs) 0 j k)
+      let place : row-width * 0 + j ≡ j = omega arith in rw place (List·getD-append (four all r) (numbers all rs) 0 j k)
   numbers-at all (r ∷ rs) (suc i) j h k =
-      let place : 4 * suc i + j ≡ suc (suc (suc (suc (4 * i + j)))) = omega arith in rw place (numbers-at all rs i j (omega arith) k)
+      let place : row-width * suc i + j ≡ suc (suc (suc (suc (row-width * i + j)))) = omega arith in rw place (numbers-at all rs i j (omega arith) k)
 
-  pub numbers-fourth : (all rs : List Row) (i : ℕ) → i < length rs → getD (numbers all rs) (4 * i + 3) 0 ≡ next-row (getD rs i other .end) all
+  pub numbers-fourth : (all rs : List Row) (i : ℕ) → i < length rs → getD (numbers all rs) (row-width * i + 3) 0 ≡ next-row (getD rs i other .end) all
   numbers-fourth all rs i h = numbers-at all rs i 3 h (omega arith)
 
-pub numbers-length : (all rs : List Row) → length (numbers all rs) ≡ 4 * length rs
+pub numbers-length : (all rs : List Row) → length (numbers all rs) ≡ row-width * length rs
 unfolding numbers
 numbers-length all [] = refl
 numbers-length all (r ∷ rs) = let z = numbers-length all rs in omega arith

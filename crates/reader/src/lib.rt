@@ -19,7 +19,7 @@ pub const ROW_WIDTH: usize = 4;
 
 pub enum Checked {
     // How many rows the stream has, and the length of its canonical bytes.
-    Right { rows: usize, length: usize },
+    Right(usize, usize),
     // A refusal's number and place.
     Wrong(u32, usize),
 }
@@ -77,10 +77,7 @@ fn check_tokens(s: &[u8], room: usize) -> Checked
         }
     }
     if depth == 0 {
-        return Checked::Right {
-            rows,
-            length: at - saved,
-        };
+        return Checked::Right(rows, at - saved);
     }
     Checked::Wrong(2, at)
 }
@@ -231,6 +228,6 @@ pub fn locate(s: &[u8], k: usize) -> Found
 {
     match check(s, s.len()) {
         Checked::Wrong(_, _) => Found::Nothing,
-        Checked::Right { rows: _, length: _ } => find(s, k),
+        Checked::Right(_, _) => find(s, k),
     }
 }
