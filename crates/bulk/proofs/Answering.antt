@@ -41,12 +41,12 @@ copied-over x out = rw take-length
 module _ {s t t′ : List ℕ} {rows size : ℕ} (r : WasRead s t t′ rows size) where
   pub read-acceptance : Answered (Read s t) (Accepted rows) t′ []
   unfolding Read
-  read-acceptance = record { is = rw (r .is, r .filled-in, r .counted); numbered = tt }
+  read-acceptance = record { is = rw (r .right .is, r .filled-in, r .right .counted); numbered = tt }
 
   pub write-short : (out : List ℕ) → length out < size → Answered (Write s t out) (Refused 18 0) t′ out
   unfolding Write put-out
   write-short out l = record {
-    is = rw (r .is, r .filled-in, lt-ltb (length out) (length (canonical (meaning-of s))) (omega (arith, r .sized)));
+    is = rw (r .right .is, r .filled-in, lt-ltb (length out) (length (canonical (meaning-of s))) (omega (arith, r .right .sized)));
     numbered = omega arith;
   }
 
@@ -54,17 +54,17 @@ module _ {s t t′ : List ℕ} {rows size : ℕ} (r : WasRead s t t′ rows size
       → Answered (Write s t out) (Accepted size) t′ out′
   unfolding Write put-out
   write-acceptance out out′ l k = record {
-    is = rw (r .is, r .filled-in, k, le-ltb (length out) (length (canonical (meaning-of s))) (omega (arith, r .sized)), r .sized);
+    is = rw (r .right .is, r .filled-in, k, le-ltb (length out) (length (canonical (meaning-of s))) (omega (arith, r .right .sized)), r .right .sized);
     numbered = tt;
   }
 
   -- a stream that is as long as its canonical stream is copied
   pub copied-whole : ((i : ℕ) → getD s i 0 < 256) → size ≡ length s → (out : List ℕ) → take (length s) s ++ drop (length s) out ≡ over (canonical (meaning-of s)) out
   copied-whole bytes whole out =
-      copied-over s out ∙ ap (λ (x : List ℕ). over x out) (canonical-only s _ _ _ (all-bytes s bytes) (r .is) (omega (arith, r .sized)))
+      copied-over s out ∙ ap (λ (x : List ℕ). over x out) (canonical-only s _ _ _ (all-bytes s bytes) (r .right .is) (omega (arith, r .right .sized)))
 
   pub has-read : HasRead s t′ rows
-  has-read = record { before = t; rows = rows-of (tokens 0 0 s); means = meaning-of s; is = r .is; filled-in = r .filled-in; counted = r .counted }
+  has-read = record { before = t; rows = rows-of (tokens 0 0 s); means = meaning-of s; is = r .right .is; filled-in = r .filled-in; counted = r .right .counted }
 
   -- what the evaluation of its rows told: the definition's answer a is a refusal, or some bytes put out
   module _ (a : Answer) (out : List ℕ) where

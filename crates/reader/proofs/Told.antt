@@ -6,7 +6,7 @@ use native.Mathlib.Omega.{arith}
 use lib.ListN.{length, getD}
 use Rattle.spec.specs.Expr.{Exprs, canonical}
 use Rattle.spec.specs.Reading.{row-width, tokens, rows-of, Reading, refused, readable, read}
-use Rattle.spec.specs.Calls.{reading, filled}
+use Rattle.spec.specs.Calls.{filled}
 use Rattle.laws.specs.Demands.{meaning-of, CanRead}
 use Rattle.laws.proofs.Reading.{read-readable, read-refused, read-enough}
 use Rattle.laws.proofs.Tokens.{tokens-few}
@@ -46,12 +46,9 @@ told s room v bytes e = rw e (go (read s room) refl)
           sized = ap (λ (x : Exprs). length (canonical x)) (r .means);
         }
 
--- a stream was read: its rows are counted, and stand in the table, and the length of its canonical bytes is told
+-- a stream was read: the first pass told so, and the rows stand in the table
 pub record WasRead (s table table′ : List ℕ) (rows size : ℕ) : Type 0 where
-  pub can : CanRead s
-  pub is : reading s table ≡ readable (rows-of (tokens 0 0 s)) (meaning-of s)
-  pub counted : rows ≡ length (rows-of (tokens 0 0 s))
-  pub sized : size ≡ length (canonical (meaning-of s))
+  pub right : ToldRight s (length table / row-width) rows size
   pub filled-in : table′ ≡ filled (rows-of (tokens 0 0 s)) table
 
 -- if the first pass told so, the second may follow, and leaves it so
@@ -60,4 +57,4 @@ module _ {s : List ℕ} (table : List ℕ) {rows size : ℕ} (right : ToldRight 
   can-fill = (right .can, omega (arith, right .counted, right .fits))
 
   pub was-read : {table′ : List ℕ} → table′ ≡ filled (rows-of (tokens 0 0 s)) table → WasRead s table table′ rows size
-  was-read is = record { can = right .can; is = right .is; counted = right .counted; sized = right .sized; filled-in = is }
+  was-read is = record { right = right; filled-in = is }

@@ -44,7 +44,7 @@ ran : (c : tie.After-evaluate) (r : Result) → c .evaluate .result ≡ r → le
     Evaluated (a .stream .now) (a .table .now) (a .workspace .now) (c .evaluate .last .1 .1 .1 .0) (a .output .now) (a .steps) rows r
 ran c r e =
     let fill = c .before .before .before .before .before in
-    rw e at (c .evaluate .ensures _ (start fill .args .output .now) _ _ (read-in fill .is) (read-in fill .filled-in))
+    rw e at (c .evaluate .ensures _ (start fill .args .output .now) _ _ (read-in fill .right .is) (read-in fill .filled-in))
 
 -- the workspace afterwards
 abbrev work : tie.After-size → List ℕ

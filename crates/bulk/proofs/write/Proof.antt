@@ -46,7 +46,7 @@ returns-2 c =
     write-acceptance (read-in fill) _ _ (test .before .if1 .left) (copy .copy .ensures .1 ∙ whole)
 
 emit-requires : tie.Need-emit-requires
-emit-requires c κs = let read = read-in (c .before .before .before .before .before) in (read .can, omega (arith, read .sized, c .before .before .if1 .left))
+emit-requires c κs = let read = read-in (c .before .before .before .before .before) in (read .right .can, omega (arith, read .right .sized, c .before .before .if1 .left))
 
 returns-3 : tie.Need-returns-3
 returns-3 c = let a = c .before .before .before .before .before .before .before .args in write-refusal (a .stream .now) (a .table .now) (at-check (c .before .before .before) _ (c .before .number .given .1)) _
