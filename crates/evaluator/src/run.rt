@@ -3,231 +3,149 @@
 use crate::element;
 use crate::element::Left;
 use crate::element::Step;
-use crate::forms;
-use crate::plan::After;
-use crate::plan::Code;
-use crate::plan::Stands;
-use crate::rows;
-use crate::scope::Scope;
-use crate::values;
-use crate::values::Out;
-use crate::values::State;
+use rows::forms;
+use rows::forms::Form;
+use rows::table;
+use rules::here::Here;
+use rules::plan::After;
+use rules::plan::Callee;
+use workspace::made;
+use workspace::values::State;
 ghost use mathlib.Core.Path.{_≡_};
 ghost use Prim.Native.Nat.{ℕ};
+ghost use Rattle.spec.specs.Expr.{Exprs};
 ghost use Rattle.spec.specs.Nodes.{Nodes};
 ghost use Rattle.spec.specs.Runs.{hold};
-ghost use Rattle.spec.specs.Plan.{Place, Here};
+ghost use Rattle.spec.specs.Plan.{Here};
 ghost use Rattle.spec.specs.Evaluation.{run-code};
 ghost use Rattle.laws.specs.Holding.{in-list};
-ghost use Rattle.evaluator.specs.Entries.{entries};
-ghost use Rattle.evaluator.specs.Listed.{Ready, SomeReady, Met, stands-in, CanCall, Called};
-ghost use Rattle.evaluator.specs.declared.values.Out.the-variants.{Done};
+ghost use Rattle.rules.specs.Scope.{view};
+ghost use Rattle.evaluator.specs.Listed.{Ready, SomeReady, Met, returns-to, CanEnd, Ended, SomeCalling, Answered};
 
-// What list the elements of a form are in, by how it is finished.
-fn stands_in(after: After) -> Stands
-    ensures { λ r. ⌜ r ≡ stands-in after ⌝ }
-{
-    match after {
-        After::Form => Stands::Element,
-        After::Define { key: _ } => Stands::Inner,
-        After::Concat => Stands::Inner,
-        After::Call {
-            code: _,
-            visible: _,
-        } => Stands::Inner,
-    }
+// A form whose elements are evaluated: its row, where their values start, and what becomes of them.
+struct Open {
+    row: usize,
+    start: usize,
+    after: After,
 }
 
-// A list is over: the definitions made in it are given up.
-fn over(state: State, floor: usize) -> Out
-    ensures { λ r. ⌜ r ≡ Done (record { steps = state .steps; room = state .room; top = state .top; floor = floor; names = state .names }) ⌝ }
-{
-    Out::Done(State {
-        steps: state.steps,
-        room: state.room,
-        top: state.top,
-        floor,
-        names: state.names,
-    })
-}
-
-// Evaluates the expressions whose rows are from `first` up to `end`. What it defines is written past the scope's definitions, which stay.
+// Evaluates the elements of a form. What it defines is written past what the scope shows, which stays.
 pub fn list(
     s: &[u8],
     table: &[u32],
     w: &mut [u8],
-    names: &mut [u32; 64],
+    associations: &mut [u64; 64],
     args: &[u32; 64],
     keys: &mut [u32; 256],
-    places: &mut [u32; 256],
-    mut scope: Scope,
+    contents: &mut [u32; 256],
+    mut here: Here,
     mut state: State,
-    stands: Stands,
-    code: Code,
-    first: usize,
-    end: usize,
-) -> Out
-    requires { ⌜ SomeReady (now s) (now table) (now w) (now names) (now args) (entries (now keys) (now places) scope) state stands code first end ⌝ }
-    ensures { λ r. ⌜ ((bound codes : ℕ) (es : Nodes) (p : Place) (h : Here)
-        → Ready (now (s .entry)) (now (table .entry)) bound codes (now (w .entry)) (now (names .entry)) (now (args .entry)) (entries (now (keys .entry)) (now (places .entry)) scope) state stands code first end es p h
-        → Met (now (s .entry)) (now (table .entry)) (now (w .entry)) (now (w .exit)) (now (names .exit)) state (hold (state .steps) (state .room) (in-list (run-code codes) es p h)) r)
-        × (entries (now (keys .exit)) (now (places .exit)) scope ≡ entries (now (keys .entry)) (now (places .entry)) scope) ⌝ }
+    form: Form,
+) -> Left
+    requires { ⌜ SomeReady (now s) (now table) (now w) (now args) (view (now associations) (now keys) (now contents) (here .scope)) state here form ⌝ }
+    ensures { λ r. ⌜ ((bound codes : ℕ) (es : Nodes) (h : Here)
+        → Ready (now (s .entry)) (now (table .entry)) bound codes (now (w .entry)) (now (args .entry)) (view (now (associations .entry)) (now (keys .entry)) (now (contents .entry)) (here .scope)) state here form es h
+        → Met (now (w .entry)) (now (w .exit)) (here .scope) state (hold (state .steps) (state .room) (in-list (run-code codes) es h)) r)
+        × (view (now (associations .exit)) (now (keys .exit)) (now (contents .exit)) (here .scope) ≡ view (now (associations .entry)) (now (keys .entry)) (now (contents .entry)) (here .scope)) ⌝ }
 {
+    let outer = here.scope;
     let floor = state.floor;
-    let depth = code.depth;
-    let mut row = first;
+    let end = form.end;
+    let mut row = form.first;
     while row < end {
         let start = state.top;
-        let next = rows::next(table, row);
-        let left = match element::begin(
-            s,
-            table,
-            w,
-            names,
-            args,
-            keys,
-            places,
-            scope,
-            state,
-            stands,
-            code,
-            row,
-        ) {
+        let node = forms::at(table, row);
+        let left = match element::begin(s, table, w, associations, args, keys, contents, here, state, node) {
             Step::Leaves(done) => done,
             Step::Inside {
                 state: inner,
-                first: from,
+                list: part,
                 after,
             } => {
-                let out = list(
-                    s,
-                    table,
-                    w,
-                    names,
-                    args,
-                    keys,
-                    places,
-                    scope,
-                    inner,
-                    stands_in(after),
-                    code,
-                    from,
-                    next,
-                );
-                element::finish(w, out, after, start, row)
-            }
-            Step::Enter {
-                state: inner,
-                first: from,
-                code: body,
-                visible,
-            } => {
-                let out = list(
-                    s,
-                    table,
-                    w,
-                    names,
-                    args,
-                    keys,
-                    places,
-                    scope,
-                    inner,
-                    Stands::Inner,
-                    code,
-                    from,
-                    next,
-                );
-                call(
-                    s,
-                    table,
-                    w,
-                    names,
-                    keys,
-                    places,
-                    scope,
-                    visible,
-                    out,
-                    depth,
-                    body,
-                    start,
-                    row,
-                )
+                let there = here.entering(after.within());
+                let ended = list(s, table, w, associations, args, keys, contents, there, inner, part);
+                let open = Open { row, start, after };
+                finish(s, table, w, associations, keys, contents, here, ended, open)
             }
         };
         match left {
-            Left::Stopped(number, at) => {
-                return Out::Refused(number, at);
+            Left::Refused(number, at) => {
+                return Left::Refused(number, at);
             }
-            Left::Values(done) => {
+            Left::Done { state: done, scope } => {
                 state = done;
-                row = next;
+                here = here.showing(scope);
             }
-            Left::Defined {
-                state: done,
-                key,
-                place,
-            } => {
-                state = done;
-                scope = scope.add(keys, places, key, place);
-                row = next;
+        }
+        row = table::next(table, row);
+    }
+    Left::Done {
+        state: state.down_to(floor),
+        scope: here.scope.back_to(outer),
+    }
+}
+
+// What a form leaves whose elements were evaluated.
+fn finish(
+    s: &[u8],
+    table: &[u32],
+    w: &mut [u8],
+    associations: &mut [u64; 64],
+    keys: &mut [u32; 256],
+    contents: &mut [u32; 256],
+    here: Here,
+    ended: Left,
+    open: Open,
+) -> Left {
+    match ended {
+        Left::Refused(number, row) => Left::Refused(number, row),
+        Left::Done { state, scope } => {
+            let after = open.after;
+            match after {
+                After::Make(making) => {
+                    element::finish(w, keys, contents, scope, state, making, open.start, open.row)
+                }
+                After::Call(callee) => {
+                    let at = here.showing(scope);
+                    call(s, table, w, associations, keys, contents, at, state, callee, open)
+                }
             }
         }
     }
-    over(state, floor)
 }
 
-// Runs the code of the form at row `code`, if its arguments were evaluated: they stand from `start` up to the top.
+// Runs a code whose arguments stand from the open form's start up to the top. Its definitions are written over those that it doesn't see.
 fn call(
     s: &[u8],
     table: &[u32],
     w: &mut [u8],
-    names: &mut [u32; 64],
+    associations: &mut [u64; 64],
     keys: &[u32; 256],
-    places: &[u32; 256],
-    scope: Scope,
-    visible: usize,
-    out: Out,
-    depth: usize,
-    code: usize,
-    start: usize,
-    row: usize,
-) -> Left
-    requires { ⌜ CanCall (now s) (now table) (now w) (now names) (entries (now keys) (now places) scope) visible depth code start out ⌝ }
-    ensures { λ r. ⌜ Called (now (s .entry)) (now (table .entry)) (now (w .entry)) (now (w .exit)) (now (names .entry)) (now (names .exit)) (entries (now (keys .entry)) (now (places .entry)) scope) visible depth code start row r out ⌝ }
-{
-    match out {
-        Out::Refused(number, at) => Left::Stopped(number, at),
-        Out::Done(state) => {
-            if 32 <= depth {
-                return Left::Stopped(19, row);
-            }
-            let mut args = [0u32; 64];
-            // The code's definitions are written over those past the first `visible`.
-            let mut inner_keys = *keys;
-            let mut inner_places = *places;
-            let from = state.top;
-            let count = forms::spread(&w[start..from], start, &mut args);
-            let inner = Code {
-                depth: depth + 1,
-                count,
-                to: from,
-            };
-            let ran = list(
-                s,
-                table,
-                w,
-                names,
-                &args,
-                &mut inner_keys,
-                &mut inner_places,
-                scope.back_to(visible),
-                state,
-                Stands::Inner,
-                inner,
-                code + 2,
-                rows::next(table, code),
-            );
-            element::leaves(element::returned(s, table, w, ran, code, start, from, row))
+    contents: &[u32; 256],
+    here: Here,
+    state: State,
+    callee: Callee,
+    open: Open,
+) -> Left {
+    if 32 <= here.frame.depth {
+        return Left::Refused(19, open.row);
+    }
+    let mut args = [0u32; 64];
+    let mut inner_keys = *keys;
+    let mut inner_contents = *contents;
+    let start = open.start;
+    let top = state.top;
+    let count = made::spread(&w[start..top], start, &mut args);
+    let inside = here.called(callee.scope, count, top);
+    let body = callee.body;
+    match list(s, table, w, associations, &args, &mut inner_keys, &mut inner_contents, inside, state, body) {
+        Left::Refused(number, row) => Left::Refused(number, row),
+        Left::Done {
+            state: ran,
+            scope: _,
+        } => {
+            let out = element::returned(s, table, w, ran, body, start, top, open.row);
+            element::leaves(out, here.scope)
         }
     }
 }

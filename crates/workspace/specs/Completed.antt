@@ -7,12 +7,13 @@ use mathlib.Core.List.{List, [], _∷_, _++_}
 use lib.ListN.{length, take, drop, getD}
 use lib.Seq.{slice}
 use Rattle.spec.specs.Expr.{array, Expr, atom, Exprs, none, more, only, deepest, bytes, canonical}
-use Rattle.spec.specs.Nodes.{core, ns, name-byte}
-use Rattle.writer.specs.Bytes.{with-head}
-use Rattle.evaluator.specs.Entries.{pack}
-use Rattle.evaluator.specs.declared.values.State.{State}
-use Rattle.evaluator.specs.declared.values.Out.{Out}
-use Rattle.evaluator.specs.declared.values.Out.the-variants.{Done, Refused}
+use Rattle.spec.specs.Nodes.{leaf, branch, Nodes, empty, cons}
+use Rattle.rows.specs.Rows.{NodesAt}
+use Rattle.rows.specs.declared.forms.Form.{Form}
+use Rattle.workspace.specs.Packed.{pack}
+use Rattle.workspace.specs.declared.values.State.{State}
+use Rattle.workspace.specs.declared.values.Out.{Out}
+use Rattle.workspace.specs.declared.values.Out.the-variants.{Done, Refused}
 
 -- a state of a workspace
 pub record Fitting (w : List ℕ) (st : State) : Type 0 where
@@ -28,11 +29,15 @@ pub record Stand (w : List ℕ) (from to : ℕ) (vs : Exprs) : Type 0 where
 
 -- the finished values end at `top`, with so much room left
 abbrev pub with-top : State → ℕ → ℕ → State
-with-top st room top = record { steps = st .steps; room = room; top = top; floor = st .floor; names = st .names }
+with-top st room top = record { steps = st .steps; room = room; top = top; floor = st .floor }
+
+-- the definitions' values begin at `floor`
+abbrev pub with-floor : State → ℕ → State
+with-floor st floor = record { steps = st .steps; room = st .room; top = st .top; floor = floor }
 
 -- one step less
 abbrev pub stepped : State → State
-stepped st = record { steps = st .steps - 1; room = st .room; top = st .top; floor = st .floor; names = st .names }
+stepped st = record { steps = st .steps - 1; room = st .room; top = st .top; floor = st .floor }
 
 -- what is below one place and from another on is as it was
 pub record Untouched (w w′ : List ℕ) (below from : ℕ) : Type 0 where
@@ -53,12 +58,17 @@ pub data Incomplete (st : State) (vs : Exprs) : ℕ → Type 0 where
   too-deep : 64 < deepest vs → Incomplete st vs 6
   too-long : deepest vs ≤ 64 → st .room < length (canonical vs) → Incomplete st vs 17
 
--- the bytes of an `ns` form, by its reference's and its id's
-abbrev pub ns-front : List ℕ
-ns-front = 0x01 ∷ core ∷ name-byte ns ∷ []
+-- the elements of a form that are all atoms
+abbrev pub Atoms : Nodes → Type 0
+Atoms empty = Unit {0}
+Atoms (cons (leaf r a) es) = Atoms es
+Atoms (cons (branch r fs) es) = ⊥
 
-abbrev pub ns-bytes : List ℕ → List ℕ → List ℕ
-ns-bytes reference id = ns-front ++ with-head 4 reference ++ with-head 2 id ++ (0x02 ∷ [])
+-- some atoms are a form's elements
+pub record SomeAtoms (s t : List ℕ) (f : Form) : Type 0 where
+  pub nodes : Nodes
+  pub at : NodesAt s t (f .first) (f .end) nodes
+  pub atoms : Atoms nodes
 
 -- completing the values of the expression at a row
 abbrev pub Completed : List ℕ → List ℕ → State → ℕ → ℕ → Exprs → Out → Type 0
@@ -72,12 +82,11 @@ pub data Joined (w w′ : List ℕ) (st : State) (start row : ℕ) (a b : Expr) 
   no-arrays : ((bs cs : List ℕ) → a ≡ atom (array bs) → b ≡ atom (array cs) → ⊥) → Joined w w′ st start row a b (Refused 11 row)
 
 -- the values of a definition moved from the finished ones to the definitions'
-pub record Defined (w w′ : List ℕ) (st : State) (start : ℕ) (st′ : State) : Type 0 where
+pub record Stored (w w′ : List ℕ) (st : State) (start : ℕ) (st′ : State) : Type 0 where
   pub steps : st′ .steps ≡ st .steps
   pub room : st′ .room ≡ st .room
   pub top : st′ .top ≡ start
   pub floor : st′ .floor + (st .top - start) ≡ st .floor
-  pub names : st′ .names ≡ st .names
   pub bytes : slice (st′ .floor) (st .floor) w′ ≡ slice start (st .top) w
   pub others : Untouched w w′ start (st .floor)
 

@@ -5,11 +5,11 @@ use mathlib.Core.Path.{_≡_}
 use mathlib.Core.List.{List}
 use lib.ListN.{length, getD}
 use lib.Seq.{slice}
-use Rattle.spec.specs.Expr.{Atom, if-ref}
+use Rattle.spec.specs.Expr.{Atom}
 use Rattle.spec.specs.Reading.{atom-kind, row-width}
 use Rattle.spec.specs.Nodes.{Node, leaf, branch, Nodes, empty, cons}
 use Rattle.laws.specs.Grammar.{SpellsAtom}
-use Rattle.evaluator.specs.declared.rows.Parts.{Parts}
+use Rattle.rows.specs.declared.forms.Parts.{Parts}
 
 -- Rows
 
@@ -65,13 +65,3 @@ parts-of (cons h (cons a (cons b (cons c es)))) = record { count = 4; second = r
 -- a reference's marker and name in one number
 abbrev pub key-of : ℕ → ℕ → ℕ
 key-of m n = m * 256 + n
-
--- what is no reference's key
-abbrev pub no-key : ℕ
-no-key = 0xFFFFFFFF
-
--- the key of a form's head, if that is a reference
-abbrev pub head-key : Nodes → ℕ
-head-key empty = no-key
-head-key (cons (leaf r a) es) = if-ref a key-of no-key
-head-key (cons (branch r fs) es) = no-key

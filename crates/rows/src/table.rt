@@ -1,16 +1,11 @@
-// What a table's rows say of the expressions of a stream. Document 01: "Table".
-use atoms::Kind;
+// The numbers of a row, and what an atom's bytes tell. Document 01: "Table".
 use reader::ROW_WIDTH;
 ghost use mathlib.Core.Path.{_≡_};
 ghost use Prim.Native.Nat.{ℕ, _+_, _*_, _≤_, _<_};
 ghost use lib.ListN.{length};
 ghost use Rattle.spec.specs.Expr.{int, ref};
 ghost use Rattle.spec.specs.Reading.{row-width};
-ghost use Rattle.spec.specs.Nodes.{Node, branch, Nodes, elements};
-ghost use Rattle.evaluator.specs.Stands.{cell, LeafAt, NodeAt, parts-of, key-of, head-key};
-
-// What is no reference's key.
-pub const NO_KEY: u32 = 0xFFFFFFFF;
+ghost use Rattle.rows.specs.Rows.{cell, LeafAt, key-of};
 
 // Number j of a row.
 fn number(table: &[u32], row: usize, j: usize) -> u32
@@ -71,61 +66,4 @@ pub fn key(s: &[u8], table: &[u32], row: usize) -> u32
     }
     let full = (to - from - 3) as u32;
     (127 + full * 255 + (s[to - 2] as u32)) * 256 + name
-}
-
-// The key of the reference that is a form's head, if the row is a form's and it has such a head.
-pub fn head(s: &[u8], table: &[u32], row: usize) -> u32
-    requires { ⌜ ((e : Node) × NodeAt (now s) (now table) row e) ⌝ }
-    ensures { λ r. ⌜ ((e : Node) → NodeAt (now (s .entry)) (now (table .entry)) row e → r ≡ head-key (elements e)) ⌝ }
-{
-    if kind(table, row) != Kind::FORM {
-        return NO_KEY;
-    }
-    if next(table, row) <= row + 1 {
-        return NO_KEY;
-    }
-    if kind(table, row + 1) != Kind::REFERENCE {
-        return NO_KEY;
-    }
-    key(s, table, row + 1)
-}
-
-// How many elements a form has, 4 standing for more, and the rows of its second and third.
-pub struct Parts {
-    pub count: usize,
-    pub second: usize,
-    pub third: usize,
-}
-
-fn found(count: usize, second: usize, third: usize) -> Parts
-    ensures { λ r. ⌜ r ≡ record { count = count; second = second; third = third } ⌝ }
-{
-    Parts {
-        count,
-        second,
-        third,
-    }
-}
-
-pub fn parts_of(s: &[u8], table: &[u32], row: usize) -> Parts
-    requires { ⌜ ((q : ℕ) × (es : Nodes) × NodeAt (now s) (now table) row (branch q es)) ⌝ }
-    ensures { λ r. ⌜ ((q : ℕ) (es : Nodes) → NodeAt (now (s .entry)) (now (table .entry)) row (branch q es) → r ≡ parts-of es) ⌝ }
-{
-    let past = next(table, row);
-    let first = row + 1;
-    if past <= first {
-        return found(0, 0, 0);
-    }
-    let second = next(table, first);
-    if past <= second {
-        return found(1, 0, 0);
-    }
-    let third = next(table, second);
-    if past <= third {
-        return found(2, second, 0);
-    }
-    if past <= next(table, third) {
-        return found(3, second, third);
-    }
-    found(4, second, third)
 }

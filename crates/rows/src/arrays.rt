@@ -1,6 +1,6 @@
 // Where an array's bytes begin. Its length was read before, and however long that is written, it is not read whole again.
 // Document 01: "generic array".
-use crate::rows::start;
+use crate::table::start;
 ghost use mathlib.Core.Path.{_≡_};
 ghost use mathlib.Core.List.{List};
 ghost use Prim.Native.Nat.{ℕ, _-_, _≤_};
@@ -8,8 +8,8 @@ ghost use lib.ListN.{length, take, drop};
 ghost use Rattle.spec.specs.Expr.{array};
 ghost use Rattle.spec.specs.Reading.{taken, natural, length-expr};
 ghost use Rattle.atoms.specs.Tokens.{around};
-ghost use Rattle.evaluator.specs.Stands.{cell, LeafAt};
-ghost use Rattle.evaluator.specs.Lengths.{EndsAt};
+ghost use Rattle.rows.specs.Rows.{cell, LeafAt};
+ghost use Rattle.rows.specs.Lengths.{EndsAt};
 
 // The number of the bytes from `from` up to `to`. It is not above 65,536, so the last three bytes tell.
 fn short_number(s: &[u8], from: usize, to: usize) -> usize

@@ -8,8 +8,8 @@ use Rattle.spec.specs.Expr.{if_then_else_}
 use Rattle.atoms.specs.Tokens.{token-at, shown}
 use Rattle.atoms.specs.declared.Token.{Token}
 use Rattle.atoms.specs.declared.Token.the-variants.{Opening, Closing, Whole, Bad}
-use Rattle.evaluator.specs.declared.forms.Bytes.{Bytes}
-use Rattle.evaluator.specs.declared.forms.Bytes.the-variants.{Array, Other}
+use Rattle.workspace.specs.declared.made.Bytes.{Bytes}
+use Rattle.workspace.specs.declared.made.Bytes.the-variants.{Array, Other}
 
 -- the array that a token is
 abbrev pub array-of : Token → Bytes

@@ -1,6 +1,6 @@
 // Values made of others: forms, the join of two arrays; and where arguments stand. Document 01: "The value is the form of the values.", refusal 6.
 use crate::moves;
-use crate::scope;
+use crate::packed;
 use crate::values;
 use crate::values::Out;
 use crate::values::State;
@@ -14,9 +14,9 @@ ghost use lib.Seq.{slice};
 ghost use lib.Dec.{leb};
 ghost use Rattle.spec.specs.Expr.{array, Expr, atom, form, Exprs, more, only, size, deepest, canonical};
 ghost use Rattle.laws.proofs.Fits.{FitsAll};
-ghost use Rattle.evaluator.specs.Entries.{pack};
-ghost use Rattle.evaluator.specs.Joins.{array-at};
-ghost use Rattle.evaluator.specs.Completed.{Fitting, Stand, Completed, Joined, ArgumentsAt};
+ghost use Rattle.workspace.specs.Packed.{pack};
+ghost use Rattle.workspace.specs.Joins.{array-at};
+ghost use Rattle.workspace.specs.Completed.{Fitting, Stand, Completed, Joined, ArgumentsAt};
 
 // Whether values have at most 63 forms one inside another.
 fn shallow(values: &[u8]) -> bool
@@ -153,7 +153,7 @@ fn put_place(args: &mut [u32], n: usize, from: usize, to: usize)
     ensures { λ _. ⌜ now (args .exit) ≡ set (now (args .entry)) n (pack from to) ⌝ }
 {
     if n < 64 {
-        args[n] = scope::pack(from, to);
+        args[n] = packed::pack(from, to);
     }
 }
 

@@ -3,6 +3,18 @@ ghost use mathlib.Core.Path.{_≡_};
 ghost use mathlib.Core.Bool.{not};
 ghost use Prim.Native.Nat.{_/_, _%_};
 ghost use Rattle.spec.specs.Nodes.{plain, is, word};
+ghost use Rattle.rows.specs.Forms.{meant};
+
+// What a reference is as a head: one of the function names, or plain.
+pub enum Word {
+    Ns,
+    Define,
+    Concat,
+    Subst,
+    Arg,
+    Rest,
+    Plain,
+}
 
 // Each name as the key of its reference: the marker times 256, plus the name's byte.
 pub struct Core;
@@ -30,19 +42,18 @@ impl Core {
 
     pub const REST: u32 = 0x200D;
 
-    // Bytes of references.
-    pub const MARKER_BYTE: u8 = Core::MARKER as u8;
-
-    pub const NS_BYTE: u8 = (Core::NS % 256) as u8;
-
-    // Whether a key is no function name's, so that its reference stands for itself where nothing defines it.
-    pub fn is_plain(key: u32) -> bool
-        ensures { λ r. ⌜ r ≡ is (word (key / 256) (key % 256)) plain ⌝ }
+    // The word of a key.
+    pub fn word(key: u32) -> Word
+        ensures { λ r. ⌜ meant r ≡ word (key / 256) (key % 256) ⌝ }
     {
         match key {
-            Core::NS => false,
-            Core::DEFINE..=Core::REST => false,
-            _ => true,
+            Core::NS => Word::Ns,
+            Core::DEFINE => Word::Define,
+            Core::CONCAT => Word::Concat,
+            Core::SUBST => Word::Subst,
+            Core::ARG => Word::Arg,
+            Core::REST => Word::Rest,
+            _ => Word::Plain,
         }
     }
 
@@ -50,6 +61,9 @@ impl Core {
     pub fn is_function(key: u32) -> bool
         ensures { λ r. ⌜ r ≡ not (is (word (key / 256) (key % 256)) plain) ⌝ }
     {
-        !Core::is_plain(key)
+        match Core::word(key) {
+            Word::Plain => false,
+            _ => true,
+        }
     }
 }

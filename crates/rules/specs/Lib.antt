@@ -1,0 +1,4 @@
+pub mod Scope
+pub mod Associations
+pub mod Settings
+pub mod Planned

@@ -1,0 +1,79 @@
+-- What the planner answers, against `Plan` of the crate `spec`. Document 01: the rules of "Evaluation". Assumes nothing.
+use Prim.Native.Nat.{ℕ, _+_, _-_, _≤_, _<_}
+use mathlib.Core.Path.{_≡_}
+use mathlib.Core.List.{List}
+use mathlib.Core.Bool.{false}
+use lib.ListN.{length, drop}
+use Rattle.spec.specs.Expr.{Atom, ref, atom, form, Exprs, only}
+use Rattle.spec.specs.Nodes.{rest, Node, Nodes, empty, cons, unnumbered-all, elements, headed-by}
+use Rattle.spec.specs.Plan.{function, Scope as Definitions, Namespace, Within, element, inner, Here as Known, Finish, as-form, as-definition, as-concat, as-call, Plan, refuse, leave, associate, define-function, inside, plan}
+use Rattle.laws.specs.Holding.{skip}
+use Rattle.laws.proofs.Fits.{Fits}
+use Rattle.rows.specs.Rows.{LeafAt, NodesAt, row-of, key-of}
+use Rattle.rows.specs.Forms.{IsNode}
+use Rattle.rows.specs.declared.forms.Form.{Form}
+use Rattle.rows.specs.declared.forms.Node.{Node as Ranged}
+use Rattle.workspace.specs.Completed.{Stand, Atoms}
+use Rattle.workspace.specs.declared.values.State.{State}
+use Rattle.rules.specs.Scope.{function-bit, Entry, View, view}
+use Rattle.rules.specs.Associations.{AssociationAt}
+use Rattle.rules.specs.Settings.{CodeAt, Shows, Setting}
+use Rattle.rules.specs.declared.scope.Scope.{Scope}
+use Rattle.rules.specs.declared.here.Here.{Here}
+use Rattle.rules.specs.declared.plan.Making.{Making}
+use Rattle.rules.specs.declared.plan.Making.the-variants.{Form as Wrap, Define, Concat}
+use Rattle.rules.specs.declared.plan.Callee.{Callee}
+use Rattle.rules.specs.declared.plan.After.{After}
+use Rattle.rules.specs.declared.plan.After.the-variants.{Make, Call}
+use Rattle.rules.specs.declared.plan.Task.{Task}
+use Rattle.rules.specs.declared.plan.Task.the-variants.{Refuse, Own, Again, Ns, Function, Inside}
+
+-- the elements of a define: its head, its reference, and a value that is no `rest` form
+pub data OneMore : Nodes → Type 0 where
+  one-more : (h a v : Node) → headed-by rest v ≡ false → OneMore (cons h (cons a (cons v empty)))
+
+-- the elements of a concat: its head, and two operands that are no `rest` forms
+pub data TwoMore : Nodes → Type 0 where
+  two-more : (h a b : Node) → headed-by rest a ≡ false → headed-by rest b ≡ false → TwoMore (cons h (cons a (cons b empty)))
+
+-- the code that is called, and the definitions that it sees: some of those that are visible, with all associations
+pub record Called (s t w : List ℕ) (floor : ℕ) (v : View) (sc : Scope) (c : Callee) (body : Nodes) (behind : Definitions) : Type 0 where
+  pub at : NodesAt s t (c .body .first) (c .body .end) body
+  pub fewer : c .scope .defined ≤ sc .defined
+  pub same : c .scope .associated ≡ sc .associated
+  pub shows : Shows s t w floor (drop (sc .defined - c .scope .defined) (v .definitions)) behind
+
+-- what becomes of the values of a form's elements es
+pub data Finishes (s t w : List ℕ) (floor : ℕ) (v : View) (sc : Scope) (es : Nodes) : After → ℕ → Within → Finish → Type 0 where
+  form-finishes : Finishes s t w floor v sc es (Make Wrap) 0 element as-form
+  define-finishes : (m n : ℕ) → Fits (ref m n) → length (v .definitions) < 256 → OneMore es
+      → Finishes s t w floor v sc es (Make (Define (key-of m n))) 2 inner (as-definition m n)
+  concat-finishes : TwoMore es → Finishes s t w floor v sc es (Make Concat) 1 inner as-concat
+  call-finishes : (c : Callee) (body : Nodes) (behind : Definitions) → Called s t w floor v sc c body behind
+      → Finishes s t w floor v sc es (Call c) 1 inner (as-call body behind)
+
+-- the answer for an expression
+pub data Planned (s t w : List ℕ) (floor : ℕ) (v : View) (sc : Scope) (e : Node) : Task → Plan → Type 0 where
+  refuses : (n : ℕ) → Planned s t w floor v sc e (Refuse n) (refuse n)
+  owns : (a : Atom) → LeafAt s t (row-of e) a → Planned s t w floor v sc e Own (leave (only (atom a)))
+  repeats : (from to : ℕ) (vs : Exprs) → Stand w from to vs → Planned s t w floor v sc e (Again from to) (leave vs)
+  associates : (f : Form) (es : Nodes) (x : ℕ) (k : Namespace) → f .row ≡ row-of e → NodesAt s t (f .first) (f .end) es → Atoms es → AssociationAt s x k
+      → length (v .associations) < 64 → Planned s t w floor v sc e (Ns f x) (associate (only (form (unnumbered-all es))) k)
+  defines : (m n code : ℕ) (body : Nodes) → Fits (ref m n) → length (v .definitions) < 256 → CodeAt s t code body
+      → Planned s t w floor v sc e (Function (key-of m n + function-bit) code) (define-function (record { marker = m; name = n; content = function body }))
+  goes-inside : (f : Form) (k : ℕ) (p : Within) (g : Finish) (after : After) → NodesAt s t (f .first) (f .end) (skip k (elements e))
+      → Finishes s t w floor v sc (elements e) after k p g → Planned s t w floor v sc e (Inside f after) (inside k p g)
+
+-- some expression is evaluated there
+pub record Planning (s t args : List ℕ) (v : View) (at : Here) (node : Ranged) : Type 0 where
+  pub work : List ℕ
+  pub state : State
+  pub expression : Node
+  pub here : Known
+  pub is : IsNode s t node expression
+  pub setting : Setting s t work args state v at (row-of expression) here
+
+-- an answer is right for the expression e by a rule, wherever it is evaluated
+abbrev pub Answers : List ℕ → List ℕ → List ℕ → View → Here → Node → (Known → Plan) → Task → Type 0
+Answers s t args v at e rule task =
+    (w : List ℕ) (st : State) (h : Known) → Setting s t w args st v at (row-of e) h → Planned s t w (st .floor) v (at .scope) e task (rule h)

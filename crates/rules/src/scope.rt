@@ -1,0 +1,146 @@
+// What is visible at a place: by value, how many definitions and how many associations are; their entries stand in lent arrays.
+// Document 01: "a list of definitions that are visible at each place".
+use crate::associations;
+use workspace::packed;
+ghost use mathlib.Core.Path.{_≡_};
+ghost use mathlib.Core.List.{List};
+ghost use Prim.Native.Nat.{ℕ, _+_, _≤_, _<_};
+ghost use lib.ListN.{length, set};
+ghost use lib.Dec.{eqb};
+ghost use Rattle.spec.specs.Expr.{some};
+ghost use Rattle.spec.specs.Plan.{Namespace};
+ghost use Rattle.rules.specs.Scope.{function-bit, definitions-in, associations-in, find};
+ghost use Rattle.rules.specs.Associations.{Linked};
+
+// Of each definition, `keys` has its key, and `contents` where its value stands or the row of its code; `associations` has each association. The
+// latest is the last.
+pub struct Scope {
+    pub defined: usize,
+    pub associated: usize,
+}
+
+pub enum Found {
+    Value { from: usize, to: usize },
+    Function { code: usize, visible: usize },
+    Nothing,
+}
+
+// Added to a function's key.
+pub const FUNCTION: u32 = 0x1000000;
+
+// Stores a number in a lent array.
+fn put(array: &mut [u32], n: usize, number: u32)
+    requires { ⌜ n < length (now array) ⌝ }
+    ensures { λ _. ⌜ now (array .exit) ≡ set (now (array .entry)) n number ⌝ }
+{
+    array[n] = number;
+}
+
+// The row of a function's code.
+fn code_row(content: u32) -> usize
+    ensures { λ r. ⌜ r ≡ content ⌝ }
+{
+    content as usize
+}
+
+impl Scope {
+    pub fn new() -> Self
+        ensures { λ r. ⌜ r ≡ record { defined = 0; associated = 0 } ⌝ }
+    {
+        Self {
+            defined: 0,
+            associated: 0,
+        }
+    }
+
+    // One more definition, written past those that are visible.
+    pub fn add(self, keys: &mut [u32; 256], contents: &mut [u32; 256], key: u32, content: u32) -> Self
+        requires { ⌜ self .defined < 256 ⌝ }
+        ensures { λ r. ⌜ (now (keys .exit) ≡ set (now (keys .entry)) (self .defined) key) × (now (contents .exit) ≡ set (now (contents .entry)) (self .defined) content)
+            × (r ≡ record { defined = self .defined + 1; associated = self .associated }) ⌝ }
+    {
+        let n = self.defined;
+        put(keys, n, key);
+        put(contents, n, content);
+        Self {
+            defined: n + 1,
+            associated: self.associated,
+        }
+    }
+
+    // One more association, written past those that are visible.
+    pub fn associate(self, associations: &mut [u64; 64], association: u64) -> Self
+        requires { ⌜ self .associated < 64 ⌝ }
+        ensures { λ r. ⌜ (now (associations .exit) ≡ set (now (associations .entry)) (self .associated) association)
+            × (r ≡ record { defined = self .defined; associated = self .associated + 1 }) ⌝ }
+    {
+        let n = self.associated;
+        associations[n] = association;
+        Self {
+            defined: self.defined,
+            associated: n + 1,
+        }
+    }
+
+    // The latest definition of a reference's key.
+    pub fn look_up(self, keys: &[u32; 256], contents: &[u32; 256], key: u32) -> Found
+        requires { ⌜ (self .defined ≤ 256) × (key < function-bit) ⌝ }
+        ensures { λ r. ⌜ r ≡ find key (definitions-in (now (keys .entry)) (now (contents .entry)) self) ⌝ }
+    {
+        let mut i = self.defined;
+        while 0 < i {
+            i -= 1;
+            let k = keys[i];
+            if k == key {
+                let part = contents[i];
+                return Found::Value {
+                    from: packed::packed_from(part),
+                    to: packed::packed_to(part),
+                };
+            }
+            if k == key + FUNCTION {
+                return Found::Function {
+                    code: code_row(contents[i]),
+                    visible: i,
+                };
+            }
+        }
+        Found::Nothing
+    }
+
+    // Whether a marker is associated.
+    pub fn has_marker(self, associations: &[u64; 64], marker: u32) -> bool
+        requires { ⌜ self .associated ≤ 64 ⌝ }
+        ensures { λ r. ⌜ ((s : List ℕ) (ks : List Namespace) → Linked s (associations-in (now (associations .entry)) self) ks → r ≡ some (λ k. eqb (k .marker) marker) ks) ⌝ }
+    {
+        let mut i = self.associated;
+        while 0 < i {
+            i -= 1;
+            if associations::marker_of(associations[i]) == marker as u64 {
+                return true;
+            }
+        }
+        false
+    }
+
+    // The first so many definitions, and the same associations: what a function sees.
+    pub fn up_to(self, defined: usize) -> Self
+        ensures { λ r. ⌜ r ≡ record { defined = defined; associated = self .associated } ⌝ }
+    {
+        Self {
+            defined,
+            associated: self.associated,
+        }
+    }
+
+    // What is visible where a list has ended: what was visible before it, in the list around it.
+    pub fn back_to(self, outer: Scope) -> Self
+        requires { ⌜ (outer .defined ≤ self .defined) × (outer .associated ≤ self .associated) ⌝ }
+        ensures { λ r. ⌜ r ≡ outer ⌝ }
+    {
+        Self {
+            defined: outer.defined,
+            associated: outer.associated,
+        }
+    }
+}

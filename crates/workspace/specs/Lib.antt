@@ -1,0 +1,3 @@
+pub mod Packed
+pub mod Completed
+pub mod Joins
