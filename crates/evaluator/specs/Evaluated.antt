@@ -8,9 +8,9 @@ use Rattle.spec.specs.Reading.{Row, readable}
 use Rattle.spec.specs.Runs.{done, stopped, cut, steps-in}
 use Rattle.spec.specs.Evaluation.{run, result}
 use Rattle.spec.specs.Calls.{Evaluate, filled, reading, refusal, put-out}
-use Rattle.evaluator.specs.declared.values.State.{State}
-use Rattle.evaluator.specs.declared.values.Out.{Out}
-use Rattle.evaluator.specs.declared.values.Out.the-variants.{Done, Refused as Stopped}
+use Rattle.workspace.specs.declared.values.State.{State}
+use Rattle.evaluator.specs.declared.element.Left.{Left}
+use Rattle.evaluator.specs.declared.element.Left.the-variants.{Done, Refused as Stopped}
 use Rattle.evaluator.specs.declared.Result.{Result}
 use Rattle.evaluator.specs.declared.Result.the-variants.{Is, Refused}
 
@@ -33,8 +33,8 @@ pub record ResultStands (steps : ℕ) (w w′ : List ℕ) (es : Exprs) (st : Sta
   pub taken : steps - st .steps ≡ steps-in (run es .events)
 
 -- or it is refused, at one of the rows
-abbrev pub Ended : ℕ → List ℕ → List ℕ → List Row → Exprs → Out → Type 0
-Ended steps w w′ rs es (Done st) = ResultStands steps w w′ es st
+abbrev pub Ended : ℕ → List ℕ → List ℕ → List Row → Exprs → Left → Type 0
+Ended steps w w′ rs es (Done st sc) = ResultStands steps w w′ es st
 Ended steps w w′ rs es (Stopped n r) = (1 ≤ n) × (r < length rs) × (cut steps (length w) (run es .events) (run es .end) ≡ stopped n r)
 
 -- a refusal; or the bytes that are to be put out stand at the workspace's start

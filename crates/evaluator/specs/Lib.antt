@@ -1,10 +1,3 @@
-pub mod Stands
-pub mod Lengths
-pub mod Entries
-pub mod Named
-pub mod Completed
-pub mod Joins
-pub mod Planned
 pub mod Listed
 pub mod Performed
 pub mod Evaluated

@@ -1,156 +1,139 @@
 -- What the evaluator's functions know and answer, against `Evaluation` of the crate `spec`: the run held to the steps and the workspace that
 -- are left. Document 01: "Evaluation", "Steps" and "Workspace". Assumes nothing.
-use Prim.Native.Nat.{ℕ, _+_, _-_, _≤_, _<_}
+use Prim.Native.Nat.{ℕ, _+_, _≤_, _<_}
 use mathlib.Core.Path.{_≡_}
 use mathlib.Core.List.{List}
-use lib.ListN.{length, drop}
-use Rattle.spec.specs.Expr.{if_then_else_, ref, Expr, form, Exprs, none, more, only}
+use Rattle.spec.specs.Expr.{ref, Expr, Exprs, more, only}
 use Rattle.spec.specs.Nodes.{Node, Nodes, elements}
-use Rattle.spec.specs.Runs.{Held, kept, ceased, hold}
-use Rattle.spec.specs.Plan.{Definition, Scope as Definitions, Place, Here, Finish, as-form, as-definition, as-concat, as-call, inside, plan}
-use Rattle.spec.specs.Evaluation.{Left, standing, add-definition, Call, one-value, finish, run-code}
+use Rattle.spec.specs.Runs.{Held, reached, ceased, hold}
+use Rattle.spec.specs.Plan.{Scope as Definitions, Within, Here, Finish, as-form, as-definition, as-concat, as-call, inside, plan}
+use Rattle.spec.specs.Evaluation.{Left, finish, run-code}
 use Rattle.laws.specs.Holding.{skip}
 use Rattle.laws.proofs.Fits.{Fits}
 use Rattle.laws.proofs.Singles.{Single, SingleScope}
 use Rattle.laws.proofs.Values.{Sound, FitsNode, FitsNodes, SoundScope, SoundHere}
-use Rattle.evaluator.specs.Stands.{next, NodeAt, NodesAt, key-of}
-use Rattle.evaluator.specs.Entries.{Entry}
-use Rattle.evaluator.specs.Named.{Named}
-use Rattle.evaluator.specs.Completed.{Fitting, Stand, Untouched, with-top, stepped, Completed}
-use Rattle.evaluator.specs.Planned.{CodeAt, EntryAt, Shows, Finishes, Setting}
-use Rattle.evaluator.specs.declared.values.State.{State}
-use Rattle.evaluator.specs.declared.values.Out.{Out}
-use Rattle.evaluator.specs.declared.values.Out.the-variants.{Done, Refused}
-use Rattle.evaluator.specs.declared.plan.Stands.{Stands}
-use Rattle.evaluator.specs.declared.plan.Stands.the-variants.{Element, Inner}
-use Rattle.evaluator.specs.declared.plan.Code.{Code}
-use Rattle.evaluator.specs.declared.plan.After.{After}
-use Rattle.evaluator.specs.declared.plan.After.the-variants.{Form, Define, Concat, Call as Enters}
+use Rattle.rows.specs.Rows.{NodesAt, row-of, key-of}
+use Rattle.rows.specs.Forms.{IsNode}
+use Rattle.rows.specs.declared.forms.Form.{Form}
+use Rattle.rows.specs.declared.forms.Node.{Node as Ranged}
+use Rattle.workspace.specs.Completed.{Fitting, Stand, Untouched, with-top, stepped}
+use Rattle.workspace.specs.declared.values.State.{State}
+use Rattle.workspace.specs.declared.values.Out.{Out}
+use Rattle.workspace.specs.declared.values.Out.the-variants.{Done, Refused}
+use Rattle.rules.specs.Scope.{View}
+use Rattle.rules.specs.Settings.{Sees, Setting}
+use Rattle.rules.specs.Planned.{Called, Finishes}
+use Rattle.rules.specs.declared.scope.Scope.{Scope}
+use Rattle.rules.specs.declared.here.Here.{Here as Seen}
+use Rattle.rules.specs.declared.plan.Making.{Making}
+use Rattle.rules.specs.declared.plan.Making.the-variants.{Form as Wrap, Define, Concat}
+use Rattle.rules.specs.declared.plan.Callee.{Callee}
+use Rattle.rules.specs.declared.plan.After.{After}
+use Rattle.rules.specs.declared.plan.After.the-variants.{Make, Call}
 use Rattle.evaluator.specs.declared.element.Left.{Left as Answer}
-use Rattle.evaluator.specs.declared.element.Left.the-variants.{Values, Defined, Stopped}
+use Rattle.evaluator.specs.declared.element.Left.the-variants.{Done as Ended, Refused as Stopped}
 use Rattle.evaluator.specs.declared.element.Step.{Step}
-use Rattle.evaluator.specs.declared.element.Step.the-variants.{Leaves, Inside, Enter}
+use Rattle.evaluator.specs.declared.element.Step.the-variants.{Leaves, Inside}
+use Rattle.evaluator.specs.declared.run.Open.{Open}
 
--- What is known
+-- Lists
 
--- the nodes es stand from a row up to `end`, and are evaluated in place p under h, in a stream of so many rows, where so many codes more may be
--- entered
-pub record Ready (s t : List ℕ) (bound codes : ℕ) (w names args : List ℕ) (sc : List Entry) (st : State) (stands : Stands) (code : Code) (row end : ℕ) (es : Nodes) (p : Place) (h : Here) : Type 0 where
-  pub nodes : NodesAt s t row end es
-  pub setting : Setting s t w names args (st .floor) (st .top) sc (st .names) stands code row (standing p h)
+-- the nodes es are a form's elements, and are evaluated under h, in a stream of so many rows, where so many codes more may be entered
+pub record Ready (s t : List ℕ) (bound codes : ℕ) (w args : List ℕ) (v : View) (st : State) (at : Seen) (f : Form) (es : Nodes) (h : Here) : Type 0 where
+  pub nodes : NodesAt s t (f .first) (f .end) es
+  pub setting : Setting s t w args st v at (f .first) h
   pub fitting : Fitting w st
   pub fit : FitsNodes bound es
   pub sound : SoundHere bound h
   pub single : SingleScope (h .scope)
-  pub entered : code .depth + codes ≡ 32
+  pub entered : at .frame .depth + codes ≡ 32
 
 -- some nodes do
-pub record SomeReady (s t w names args : List ℕ) (sc : List Entry) (st : State) (stands : Stands) (code : Code) (row end : ℕ) : Type 0 where
+pub record SomeReady (s t w args : List ℕ) (v : View) (st : State) (at : Seen) (f : Form) : Type 0 where
   pub bound : ℕ
   pub codes : ℕ
   pub nodes : Nodes
-  pub place : Place
   pub here : Here
-  pub ready : Ready s t bound codes w names args sc st stands code row end nodes place here
+  pub ready : Ready s t bound codes w args v st at f nodes here
 
--- What is answered
-
--- a run that was held to a state's steps and room: it is done, and its values stand from the state's top on
-pub record Over (s t w w′ names′ : List ℕ) (st : State) (held : Held Left) (st′ : State) : Type 0 where
+-- a list that was held to a state's steps and room: it is done, its values stand from the state's top on, and its definitions are given up
+pub record Over (w w′ : List ℕ) (st : State) (held : Held Left) (st′ : State) : Type 0 where
   pub left : Left
-  pub is : held ≡ kept left (st′ .steps) (st′ .room)
+  pub is : held ≡ reached left (st′ .steps) (st′ .room)
   pub stand : Stand w′ (st .top) (st′ .top) (left .values)
   pub others : Untouched w w′ (st .top) (st .floor)
   pub floor : st′ .floor ≡ st .floor
   pub paid : st′ .top + st′ .room ≤ st′ .floor
-  pub namespaces : Named s t names′ (left .here .namespaces)
-  pub counted : st′ .names ≡ length (left .here .namespaces)
-  pub most : st′ .names ≤ 64
 
-abbrev pub Met : List ℕ → List ℕ → List ℕ → List ℕ → List ℕ → State → Held Left → Out → Type 0
-Met s t w w′ names′ st held (Done st′) = Over s t w w′ names′ st held st′
-Met s t w w′ names′ st held (Refused n r) = held ≡ ceased n r
+-- what is visible then is what was visible before it
+abbrev pub Met : List ℕ → List ℕ → Scope → State → Held Left → Answer → Type 0
+Met w w′ sc st held (Ended st′ sc′) = Over w w′ st held st′ × (sc′ ≡ sc)
+Met w w′ sc st held (Stopped n r) = held ≡ ceased n r
 
 -- One expression
 
--- it left values, and the scope is as it was
-pub record LeftValues (s t w w′ names′ : List ℕ) (st : State) (h : Here) (held : Held Left) (st′ : State) : Type 0 where
-  pub over : Over s t w w′ names′ st held st′
-  pub scope : over .left .here .scope ≡ h .scope
-
--- it left a definition, of which this is the entry
-pub record LeftDefinition (s t w w′ names′ : List ℕ) (sc : List Entry) (st : State) (h : Here) (held : Held Left) (st′ : State) (key place : ℕ) : Type 0 where
-  pub definition : Definition
-  pub is : held ≡ kept (record { values = none; here = add-definition definition h }) (st′ .steps) (st′ .room)
-  pub entry : EntryAt s t w′ (st′ .floor) (record { key = key; place = place }) (definition .marker) (definition .name) (definition .content)
-  pub few : length sc < 256
+-- its values stand from the state's top on, and what is visible to what follows is what the definition says
+pub record LeftAt (s t w w′ : List ℕ) (v′ : View) (st : State) (held : Held Left) (st′ : State) : Type 0 where
+  pub left : Left
+  pub is : held ≡ reached left (st′ .steps) (st′ .room)
+  pub stand : Stand w′ (st .top) (st′ .top) (left .values)
   pub others : Untouched w w′ (st .top) (st .floor)
-  pub top : st′ .top ≡ st .top
-  pub floor : st′ .floor ≤ st .floor
+  pub lower : st′ .floor ≤ st .floor
   pub paid : st′ .top + st′ .room ≤ st′ .floor
-  pub namespaces : Named s t names′ (h .namespaces)
-  pub counted : st′ .names ≡ st .names
+  pub sees : Sees s t w′ (st′ .floor) v′ (left .here)
 
-abbrev pub LeftBy : List ℕ → List ℕ → List ℕ → List ℕ → List ℕ → List Entry → State → Here → Held Left → Answer → Type 0
-LeftBy s t w w′ names′ sc st h held (Values st′) = LeftValues s t w w′ names′ st h held st′
-LeftBy s t w w′ names′ sc st h held (Defined st′ key place) = LeftDefinition s t w w′ names′ sc st h held st′ key place
-LeftBy s t w w′ names′ sc st h held (Stopped n r) = held ≡ ceased n r
+-- a scope that shows as much, or more
+pub record Extends (sc sc′ : Scope) : Type 0 where
+  pub defined : sc .defined ≤ sc′ .defined
+  pub associated : sc .associated ≤ sc′ .associated
 
--- what is inside it is evaluated first; the workspace and the namespaces are as they were
-pub record GoesInside (s t w w′ names names′ : List ℕ) (sc : List Entry) (st st′ : State) (row first : ℕ) (e : Node) (h : Here) (after : After) : Type 0 where
+-- `see` is what a scope shows of the arrays as they are then
+abbrev pub LeftBy : List ℕ → List ℕ → List ℕ → List ℕ → (Scope → View) → Scope → State → Held Left → Answer → Type 0
+LeftBy s t w w′ see sc st held (Ended st′ sc′) = LeftAt s t w w′ (see sc′) st held st′ × Extends sc sc′
+LeftBy s t w w′ see sc st held (Stopped n r) = held ≡ ceased n r
+
+-- what is inside it is evaluated first; the workspace is as it was
+pub record GoesInside (s t w w′ : List ℕ) (v : View) (sc : Scope) (st st′ : State) (f : Form) (e : Node) (h : Here) (after : After) : Type 0 where
   pub skipped : ℕ
-  pub place : Place
+  pub within : Within
   pub finish : Finish
   pub some-steps : 0 < st .steps
   pub state : st′ ≡ stepped st
-  pub plan-is : plan e h ≡ inside skipped place finish
-  pub nodes : NodesAt s t first (next t row) (skip skipped (elements e))
-  pub finishes : Finishes s t w (st .floor) sc (elements e) after skipped place finish
+  pub plan-is : plan e h ≡ inside skipped within finish
+  pub nodes : NodesAt s t (f .first) (f .end) (skip skipped (elements e))
+  pub finishes : Finishes s t w (st .floor) v sc (elements e) after skipped within finish
   pub same : w′ ≡ w
-  pub same-names : names′ ≡ names
-
--- what list the elements of a form are in, by how it is finished
-abbrev pub stands-in : After → Stands
-stands-in Form = Element
-stands-in (Define key) = Inner
-stands-in Concat = Inner
-stands-in (Enters code visible) = Inner
-
--- finished without running code
-abbrev pub NoCall : After → Type 0
-NoCall Form = Unit {0}
-NoCall (Define key) = Unit {0}
-NoCall Concat = Unit {0}
-NoCall (Enters code visible) = ⊥
 
 -- after the step of an expression, held as a whole to `held`
-abbrev pub Begun : List ℕ → List ℕ → List ℕ → List ℕ → List ℕ → List ℕ → List Entry → State → ℕ → Node → Here → Held Left → Step → Type 0
-Begun s t w w′ names names′ sc st row e h held (Leaves left) = LeftBy s t w w′ names′ sc st h held left
-Begun s t w w′ names names′ sc st row e h held (Inside st′ first after) =
-    GoesInside s t w w′ names names′ sc st st′ row first e h after × NoCall after
-Begun s t w w′ names names′ sc st row e h held (Enter st′ first code visible) =
-    GoesInside s t w w′ names names′ sc st st′ row first e h (Enters code visible)
+abbrev pub Begun : List ℕ → List ℕ → List ℕ → List ℕ → View → (Scope → View) → Scope → State → Node → Here → Held Left → Step → Type 0
+Begun s t w w′ v see sc st e h held (Leaves left) = LeftBy s t w w′ see sc st held left
+Begun s t w w′ v see sc st e h held (Inside st′ f after) = GoesInside s t w w′ v sc st st′ f e h after
 
--- One expression at a row, with what is known of it
-pub record Beginning (s t : List ℕ) (bound : ℕ) (w names args : List ℕ) (sc : List Entry) (st : State) (stands : Stands) (code : Code) (row : ℕ) (e : Node) (h : Here) : Type 0 where
-  pub node : NodeAt s t row e
-  pub setting : Setting s t w names args (st .floor) (st .top) sc (st .names) stands code row h
+-- the code's node is an expression that is evaluated under h
+pub record Beginning (s t : List ℕ) (bound : ℕ) (w args : List ℕ) (v : View) (st : State) (at : Seen) (node : Ranged) (e : Node) (h : Here) : Type 0 where
+  pub is : IsNode s t node e
+  pub setting : Setting s t w args st v at (row-of e) h
   pub fitting : Fitting w st
   pub fit : FitsNode bound e
   pub sound : SoundHere bound h
 
-pub record SomeBeginning (s t w names args : List ℕ) (sc : List Entry) (st : State) (stands : Stands) (code : Code) (row : ℕ) : Type 0 where
+pub record SomeBeginning (s t w args : List ℕ) (v : View) (st : State) (at : Seen) (node : Ranged) : Type 0 where
   pub bound : ℕ
-  pub node : Node
+  pub expression : Node
   pub here : Here
-  pub begins : Beginning s t bound w names args sc st stands code row node here
+  pub begins : Beginning s t bound w args v st at node expression here
+
+-- what was completed, or refused; nothing more is visible
+abbrev pub as-left : Scope → Out → Answer
+as-left sc (Done st) = Ended st sc
+as-left sc (Refused n r) = Stopped n r
 
 -- Finishing
 
--- how a form is finished, by the code
-pub data FinishedBy (sc : List Entry) : After → Finish → Type 0 where
-  by-form : FinishedBy sc Form as-form
-  by-define : (m n : ℕ) → Fits (ref m n) → length sc < 256 → FinishedBy sc (Define (key-of m n)) (as-definition m n)
+-- what is made of a list's values, by the code
+pub data FinishedBy (sc : Scope) : Making → Finish → Type 0 where
+  by-form : FinishedBy sc Wrap as-form
+  by-define : (m n : ℕ) → Fits (ref m n) → sc .defined < 256 → FinishedBy sc (Define (key-of m n)) (as-definition m n)
   by-concat : FinishedBy sc Concat as-concat
 
 -- the values of what is inside are as many as the rule made sure of
@@ -167,77 +150,67 @@ pub record Finishing (w : List ℕ) (st : State) (start : ℕ) (f : Finish) (vs 
   pub sound : Sound vs
   pub finishable : Finishable f vs
 
--- if the inside was evaluated, there are values to finish
-abbrev pub CanFinish : List ℕ → ℕ → After → Out → Type 0
-CanFinish w start after (Done st) = (sc : List Entry) × (f : Finish) × (vs : Exprs) × FinishedBy sc after f × Finishing w st start f vs
-CanFinish w start after (Refused n r) = Unit {0}
-
--- what the form at a row leaves then; a refusal inside is its answer
-abbrev pub Finished : List ℕ → List ℕ → ℕ → ℕ → After → Answer → Out → Type 0
-Finished w w′ start row after left (Refused n r) = left ≡ Stopped n r
-Finished w w′ start row after left (Done st) =
-    (s t names : List ℕ) (sc : List Entry) (run : Call) (h : Here) (f : Finish) (vs : Exprs) → FinishedBy sc after f → Finishing w st start f vs
-    → Named s t names (h .namespaces) → st .names ≡ length (h .namespaces) → st .names ≤ 64
-    → LeftBy s t w w′ names sc (with-top st (st .room) start) h (hold (st .steps) (st .room) (finish run row h f vs)) left
+pub record SomeFinishing (w : List ℕ) (sc : Scope) (st : State) (making : Making) (start : ℕ) : Type 0 where
+  pub finish : Finish
+  pub values : Exprs
+  pub by : FinishedBy sc making finish
+  pub finishing : Finishing w st start finish values
 
 -- Calls
 
--- if the code was run, its values stand from `from` up to the top
+-- the code was run, and its values stand from `from` up to the top
 pub record Ran (w : List ℕ) (st : State) (start from : ℕ) (vs : Exprs) : Type 0 where
   pub fitting : Fitting w st
   pub order : start ≤ from
   pub stand : Stand w from (st .top) vs
   pub sound : Sound vs
 
-abbrev pub CanReturn : List ℕ → ℕ → ℕ → Out → Type 0
-CanReturn w start from (Done st) = (vs : Exprs) × Ran w st start from vs
-CanReturn w start from (Refused n r) = Unit {0}
-
--- the call's value
-abbrev pub Returned : List ℕ → List ℕ → List ℕ → List ℕ → ℕ → ℕ → ℕ → ℕ → Out → Out → Type 0
-Returned s t w w′ code start from row answer (Refused n r) = answer ≡ Refused n r
-Returned s t w w′ code start from row answer (Done st) =
-    (vs : Exprs) (body : Nodes) → Ran w st start from vs → CodeAt s t code body
-    → Completed w w′ st start row (if one-value body then vs else only (form vs)) answer
-
 -- the arguments vs stand from `start` up to the top, and the code may run
-pub record Calling (s t : List ℕ) (bound codes : ℕ) (w names : List ℕ) (sc : List Entry) (visible : ℕ) (st : State) (depth code start : ℕ) (body : Nodes) (behind : Definitions) (h : Here) (vs : Exprs) : Type 0 where
-  pub at : CodeAt s t code body
-  pub visible-in : visible ≤ length sc
-  pub few : length sc ≤ 256
-  pub shows : Shows s t w (st .floor) (drop (length sc - visible) sc) behind
+pub record Calling (s t : List ℕ) (bound codes : ℕ) (w : List ℕ) (v : View) (st : State) (at : Seen) (c : Callee) (start : ℕ) (body : Nodes) (behind : Definitions) (h : Here) (vs : Exprs) : Type 0 where
+  pub called : Called s t w (st .floor) v (at .scope) c body behind
+  pub sees : Sees s t w (st .floor) v h
   pub fitting : Fitting w st
   pub stand : Stand w start (st .top) vs
   pub sound : Sound vs
   pub fit : FitsNodes bound body
   pub scope-sound : SoundScope bound behind
   pub single : SingleScope behind
-  pub namespaces : Named s t names (h .namespaces)
-  pub counted : st .names ≡ length (h .namespaces)
-  pub most : st .names ≤ 64
-  pub entered : depth + codes ≡ 32
+  pub entered : at .frame .depth + codes ≡ 32
 
-pub record SomeCalling (s t w names : List ℕ) (sc : List Entry) (visible : ℕ) (st : State) (depth code start : ℕ) : Type 0 where
+pub record SomeCalling (s t w : List ℕ) (v : View) (st : State) (at : Seen) (c : Callee) (start : ℕ) : Type 0 where
   pub bound : ℕ
   pub codes : ℕ
   pub body : Nodes
   pub behind : Definitions
   pub here : Here
   pub values : Exprs
-  pub calls : Calling s t bound codes w names sc visible st depth code start body behind here values
+  pub calls : Calling s t bound codes w v st at c start body behind here values
 
-abbrev pub CanCall : List ℕ → List ℕ → List ℕ → List ℕ → List Entry → ℕ → ℕ → ℕ → ℕ → Out → Type 0
-CanCall s t w names sc visible depth code start (Done st) = SomeCalling s t w names sc visible st depth code start
-CanCall s t w names sc visible depth code start (Refused n r) = Unit {0}
+-- A form whose elements were evaluated
 
-abbrev pub Called : List ℕ → List ℕ → List ℕ → List ℕ → List ℕ → List ℕ → List Entry → ℕ → ℕ → ℕ → ℕ → ℕ → Answer → Out → Type 0
-Called s t w w′ names names′ sc visible depth code start row left (Refused n r) = left ≡ Stopped n r
-Called s t w w′ names names′ sc visible depth code start row left (Done st) =
-    (bound codes : ℕ) (body : Nodes) (behind : Definitions) (h : Here) (vs : Exprs) (es : List Entry)
-    → Calling s t bound codes w names sc visible st depth code start body behind h vs
-    → LeftBy s t w w′ names′ es (with-top st (st .room) start) h (hold (st .steps) (st .room) (finish (run-code codes) row h (as-call body behind) vs)) left
+-- their values stand from `start` up to the top, and are made into others, or are the arguments of a code
+pub data Ending (s t : List ℕ) (bound codes : ℕ) (w : List ℕ) (v : View) (st : State) (at : Seen) (start : ℕ) (h : Here) (vs : Exprs) : After → Finish → Type 0 where
+  ends-made : (making : Making) (f : Finish) → FinishedBy (at .scope) making f → Finishing w st start f vs → Sees s t w (st .floor) v h
+      → Ending s t bound codes w v st at start h vs (Make making) f
+  ends-called : (c : Callee) (body : Nodes) (behind : Definitions) → Calling s t bound codes w v st at c start body behind h vs
+      → Ending s t bound codes w v st at start h vs (Call c) (as-call body behind)
 
--- what was completed, or refused
-abbrev pub as-left : Out → Answer
-as-left (Done st) = Values st
-as-left (Refused n r) = Stopped n r
+pub record SomeEnding (s t w : List ℕ) (v : View) (st : State) (at : Seen) (open : Open) : Type 0 where
+  pub bound : ℕ
+  pub codes : ℕ
+  pub here : Here
+  pub values : Exprs
+  pub finish : Finish
+  pub ends : Ending s t bound codes w v st at (open .start) here values (open .after) finish
+
+-- if they were, there is something to finish, and what is visible is what was
+abbrev pub CanEnd : List ℕ → List ℕ → List ℕ → View → Seen → Open → Answer → Type 0
+CanEnd s t w v at open (Ended st sc) = SomeEnding s t w v st at open × (sc ≡ at .scope)
+CanEnd s t w v at open (Stopped n r) = Unit {0}
+
+-- what the form leaves; a refusal inside is its answer
+abbrev pub EndedBy : List ℕ → List ℕ → List ℕ → List ℕ → View → (Scope → View) → Seen → Open → Answer → Answer → Type 0
+EndedBy s t w w′ v see at open left (Ended st sc) =
+    (bound codes : ℕ) (h : Here) (vs : Exprs) (f : Finish) → Ending s t bound codes w v st at (open .start) h vs (open .after) f
+    → LeftBy s t w w′ see (at .scope) (with-top st (st .room) (open .start)) (hold (st .steps) (st .room) (finish (run-code codes) (open .row) h f vs)) left
+EndedBy s t w w′ v see at open left (Stopped n r) = left ≡ Stopped n r

@@ -1,23 +1,16 @@
 // The evaluator: a stream whose rows are in a table, evaluated in a workspace. Document 01: "Evaluate", refusals 9 and 10.
-mod arrays;
-mod compare;
-mod core;
 mod element;
-mod forms;
-mod moves;
-mod namespaces;
-mod plan;
-mod rows;
 mod run;
-mod scope;
-mod values;
 
-use crate::core::Core;
-use crate::plan::Code;
-use crate::plan::Stands;
-use crate::scope::Scope;
-use crate::values::Out;
-use crate::values::State;
+use crate::element::Left;
+use rows::compare;
+use rows::forms;
+use rows::forms::Form;
+use rows::forms::Node;
+use rows::table;
+use rows::words::Core;
+use rules::here::Here;
+use workspace::values::State;
 ghost use mathlib.Core.Path.{_≡_};
 ghost use mathlib.Core.List.{List};
 ghost use Prim.Native.Nat.{ℕ, min, _≤_};
@@ -51,7 +44,15 @@ fn is_versioned(s: &[u8], table: &[u32], rows: usize) -> bool
     if rows == 0 {
         return false;
     }
-    rows::head(s, table, 0) == Core::VERSION
+    match forms::at(table, 0) {
+        Node::Leaf { row: _ } => false,
+        Node::Branch(form) => {
+            if !form.is_named(table) {
+                return false;
+            }
+            table::key(s, table, form.first) == Core::VERSION
+        }
+    }
 }
 
 // Whether the stream begins with the version form of version 1.0, byte for byte.
@@ -75,44 +76,40 @@ fn work_size(work: usize) -> usize
 }
 
 // Evaluates the whole stream in a workspace.
-fn evaluate_all(s: &[u8], table: &[u32], rows: usize, w: &mut [u8], steps: u64) -> Out
+fn evaluate_all(s: &[u8], table: &[u32], rows: usize, w: &mut [u8], steps: u64) -> Left
     requires { ⌜ HasRead (now s) (now table) rows ⌝ }
     requires { ⌜ length (now w) ≤ 65536 ⌝ }
     ensures { λ r. ⌜ ((t : List ℕ) (rs : List Row) (es : Exprs) → reading (now (s .entry)) t ≡ readable rs es → now (table .entry) ≡ filled rs t
         → Ended steps (now (w .entry)) (now (w .exit)) rs es r) ⌝ }
 {
-    let mut names = [0u32; 64];
+    let mut associations = [0u64; 64];
     let args = [0u32; 64];
     let none = [0u32; 256];
     let mut keys = none;
-    let mut places = none;
+    let mut contents = none;
     let room = w.len();
     let state = State {
         steps,
         room,
         top: 0,
         floor: room,
-        names: 0,
     };
-    let code = Code {
-        depth: 0,
-        count: 0,
-        to: 0,
+    let all = Form {
+        row: 0,
+        first: 0,
+        end: rows,
     };
     run::list(
         s,
         table,
         w,
-        &mut names,
+        &mut associations,
         &args,
         &mut keys,
-        &mut places,
-        Scope::new(),
+        &mut contents,
+        Here::start(),
         state,
-        Stands::Top,
-        code,
-        0,
-        rows,
+        all,
     )
 }
 
@@ -130,8 +127,8 @@ pub fn evaluate(s: &[u8], table: &[u32], rows: usize, work: &mut [u8], steps: u6
     }
     let size = work_size(work.len());
     match evaluate_all(s, table, rows, &mut work[..size], steps) {
-        Out::Refused(number, row) => refused(number, rows::start(table, row)),
-        Out::Done(state) => Result::Is {
+        Left::Refused(number, row) => refused(number, table::start(table, row)),
+        Left::Done { state, scope: _ } => Result::Is {
             length: state.top,
             steps: steps - state.steps,
         },

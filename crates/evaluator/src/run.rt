@@ -16,11 +16,12 @@ ghost use Prim.Native.Nat.{ℕ};
 ghost use Rattle.spec.specs.Expr.{Exprs};
 ghost use Rattle.spec.specs.Nodes.{Nodes};
 ghost use Rattle.spec.specs.Runs.{hold};
-ghost use Rattle.spec.specs.Plan.{Here};
-ghost use Rattle.spec.specs.Evaluation.{run-code};
+ghost use Rattle.spec.specs.Plan.{Scope as Definitions, Here, as-call};
+ghost use Rattle.spec.specs.Evaluation.{finish, run-code};
 ghost use Rattle.laws.specs.Holding.{in-list};
+ghost use Rattle.workspace.specs.Completed.{with-top};
 ghost use Rattle.rules.specs.Scope.{view};
-ghost use Rattle.evaluator.specs.Listed.{Ready, SomeReady, Met, returns-to, CanEnd, Ended, SomeCalling, Answered};
+ghost use Rattle.evaluator.specs.Listed.{Ready, SomeReady, Met, LeftBy, Calling, SomeCalling, CanEnd, EndedBy};
 
 // A form whose elements are evaluated: its row, where their values start, and what becomes of them.
 struct Open {
@@ -96,7 +97,12 @@ fn finish(
     here: Here,
     ended: Left,
     open: Open,
-) -> Left {
+) -> Left
+    requires { ⌜ CanEnd (now s) (now table) (now w) (view (now associations) (now keys) (now contents) (here .scope)) here open ended ⌝ }
+    ensures { λ r. ⌜ EndedBy (now (s .entry)) (now (table .entry)) (now (w .entry)) (now (w .exit)) (view (now (associations .entry)) (now (keys .entry)) (now (contents .entry)) (here .scope))
+        (view (now (associations .exit)) (now (keys .exit)) (now (contents .exit))) here open r ended
+        × (view (now (associations .exit)) (now (keys .exit)) (now (contents .exit)) (here .scope) ≡ view (now (associations .entry)) (now (keys .entry)) (now (contents .entry)) (here .scope)) ⌝ }
+{
     match ended {
         Left::Refused(number, row) => Left::Refused(number, row),
         Left::Done { state, scope } => {
@@ -126,7 +132,14 @@ fn call(
     state: State,
     callee: Callee,
     open: Open,
-) -> Left {
+) -> Left
+    requires { ⌜ SomeCalling (now s) (now table) (now w) (view (now associations) (now keys) (now contents) (here .scope)) state here callee (open .start) ⌝ }
+    ensures { λ r. ⌜ ((bound codes : ℕ) (body : Nodes) (behind : Definitions) (h : Here) (vs : Exprs)
+        → Calling (now (s .entry)) (now (table .entry)) bound codes (now (w .entry)) (view (now (associations .entry)) (now (keys .entry)) (now (contents .entry)) (here .scope)) state here callee (open .start) body behind h vs
+        → LeftBy (now (s .entry)) (now (table .entry)) (now (w .entry)) (now (w .exit)) (view (now (associations .exit)) (now (keys .entry)) (now (contents .entry))) (here .scope)
+        (with-top state (state .room) (open .start)) (hold (state .steps) (state .room) (finish (run-code codes) (open .row) h (as-call body behind) vs)) r)
+        × (view (now (associations .exit)) (now (keys .entry)) (now (contents .entry)) (here .scope) ≡ view (now (associations .entry)) (now (keys .entry)) (now (contents .entry)) (here .scope)) ⌝ }
+{
     if 32 <= here.frame.depth {
         return Left::Refused(19, open.row);
     }
