@@ -1,6 +1,6 @@
 -- An invariant of evaluation. If the stream's expressions fit, so do those of the result, none has over 64 forms one inside another, and their
 -- canonical bytes have been charged; every row that the run names is a row of the stream, and it stops only with the numbers of the rules.
--- Document 01: "a value with over 64 forms one inside another", "Workspace". Assumes nothing.
+-- Document 01: "a value with over 64 forms one inside another", "Workspace", "Its value is itself". Assumes nothing.
 use Prim.Native.Nat.{ℕ, zero, suc, _+_, _≤_, _<_}
 use mathlib.Core.Path.{_≡_, refl, ap}
 use mathlib.Core.List.{List, [], _∷_, _++_}
