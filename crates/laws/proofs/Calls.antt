@@ -19,7 +19,7 @@ use Rattle.laws.proofs.Basics.{impossible, by-test}
 use Rattle.laws.proofs.Fits.{FitsAll}
 use Rattle.laws.proofs.Rows.{rows-room, numbers-length}
 use Rattle.laws.proofs.Reading.{read-refused, read-readable, meant}
-use Rattle.laws.proofs.Runs.{Within, cut-done, StoppedBy, by-steps, by-work, by-rule, cut-stopped}
+use Rattle.laws.proofs.Runs.{Enough, cut-done, StoppedBy, by-steps, by-work, by-rule, cut-stopped}
 use Rattle.laws.proofs.Values.{Sound, not-rule, run-fits, run-proper}
 
 -- put-out
@@ -84,10 +84,10 @@ module _ {s t o : List ℕ} {W : List Row → Exprs → ℕ → ℕ → Type 0} 
       record { tables = filled-length s t rs es e; outputs = over-length bs o room; refused = λ z. absurd (z refl) }
 
   -- no more bytes are given than the output has
-  pub answers-within : {a : Answer} → Answers s t o W A a → a .given ≤ length o
-  answers-within (not-read v p e) = omega arith
-  answers-within (refuses rs es e w) = omega arith
-  answers-within (accepts rs es e w room) = room
+  pub answers-fit : {a : Answer} → Answers s t o W A a → a .given ≤ length o
+  answers-fit (not-read v p e) = omega arith
+  answers-fit (refuses rs es e w) = omega arith
+  answers-fit (accepts rs es e w room) = room
 
   pub answers-table : {a : Answer} → Answers s t o W A a → (rs : List Row) (es : Exprs) → reading s t ≡ readable rs es → a .table ≡ filled rs t
   answers-table (not-read v p e) rs es q = impossible (cc)
@@ -256,7 +256,7 @@ pub record Ran (s : List ℕ) (l : Lent) : Type 0 where
   pub left : List Exprs
   pub reads : reading s (l .table) ≡ readable rows meaning
   pub begun : Begun s meaning
-  pub within : Within (l .steps) (min (l .work) 65536) (run meaning .events) (run meaning .end) left
+  pub enough : Enough (l .steps) (min (l .work) 65536) (run meaning .events) (run meaning .end) left
   pub is : evaluation s l
       ≡ acceptance (length (canonical (result left))) (steps-in (run meaning .events)) (filled rows (l .table)) (over (canonical (result left)) (l .output))
 
@@ -277,7 +277,7 @@ evaluate-ran s l b h = go (evaluation-answers s l) refl h
       left = ls;
       reads = e;
       begun = begun;
-      within = cut-done (run es .events) (run es .end) (l .steps) (min (l .work) 65536) ls c;
+      enough = cut-done (run es .events) (run es .end) (l .steps) (min (l .work) 65536) ls c;
       is = q;
     }
 
@@ -296,12 +296,12 @@ module _ (s : List ℕ) (l : Lent) (stream : Bytes s) (accepted : evaluation s l
   ran-means = read-readable s (length (l .table) / row-width) (ran .rows) (ran .meaning) (ran .reads) .means
 
   pub ran-ends : run (meaning-of s) .end ≡ done (ran .left)
-  ran-ends = rw (← ran-means) (ran .within .ends)
+  ran-ends = rw (← ran-means) (ran .enough .ends)
 
   pub left-values : result (ran .left) ≡ values-of s
   left-values = rw ran-ends
 
   pub left-fits : Sound (values-of s) × (length (canonical (values-of s)) ≤ 65536)
   left-fits =
-      let f = run-fits (ran .meaning) (ran .left) (reading-fits s (l .table) (ran .rows) (ran .meaning) stream (ran .reads)) (ran .within .ends) in
-      rw (← left-values) (f .0, omega (arith, f .1, ran .within .work))
+      let f = run-fits (ran .meaning) (ran .left) (reading-fits s (l .table) (ran .rows) (ran .meaning) stream (ran .reads)) (ran .enough .ends) in
+      rw (← left-values) (f .0, omega (arith, f .1, ran .enough .work))

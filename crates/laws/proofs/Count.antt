@@ -78,4 +78,4 @@ stopped-short s l rs es b e begun r c =
 
 -- an accepted evaluation takes all the steps that the rules take
 pub ran-all-steps : (s : List ℕ) (l : Lent) (r : Ran s l) → steps-in (run (r .meaning) .events) ≡ length (all-steps s l)
-ran-all-steps s l r = sym (begun-steps s l (r .rows) (r .meaning) (r .reads) (r .begun) ∙ r .within .all)
+ran-all-steps s l r = sym (begun-steps s l (r .rows) (r .meaning) (r .reads) (r .begun) ∙ r .enough .all)

@@ -10,27 +10,27 @@ use borrow.Author.Tests.{lt-ltb, le-ltb, ne-eqb}
 use native.Mathlib.Omega.{arith}
 use Rattle.spec.specs.Expr.{if_then_else_, Exprs, none, append, deepest, canonical}
 use Rattle.spec.specs.Nodes.{Node, Nodes, empty, cons, number-all, markers}
-use Rattle.spec.specs.Runs.{Event, step, charge, End, done, stopped, Run, give, stop, before, follow, bind, Held, kept, ceased, hold-events, hold, steps-in}
-use Rattle.spec.specs.Plan.{Place, top, element, inner, Here}
-use Rattle.spec.specs.Evaluation.{Left, standing, complete, Call, in-order, eval, eval-all, run-code, top-level, start, run, result}
-use Rattle.laws.specs.Holding.{and-hold, beyond, NotTop, together, in-list, skip}
+use Rattle.spec.specs.Runs.{Event, step, charge, End, done, stopped, Run, give, stop, before, follow, bind, Held, reached, ceased, hold-events, hold, steps-in}
+use Rattle.spec.specs.Plan.{Within, top, element, inner, Here}
+use Rattle.spec.specs.Evaluation.{Left, entering, complete, Call, in-order, eval, eval-all, run-code, top-level, start, run, result}
+use Rattle.laws.specs.Holding.{and-hold, beyond, onward, NotTop, together, in-list, skip}
 use Rattle.laws.specs.Sanity.{RowsBelow, Proper}
 use Rattle.laws.proofs.Basics.{impossible, by-test}
 use Rattle.laws.proofs.Runs.{bind-same, bind-assoc, charges, Holds, ends, lacks-step, lacks-work, holds}
-use Rattle.laws.proofs.Singles.{eval-place}
+use Rattle.laws.proofs.Singles.{eval-within}
 
 -- and-hold
 
 module _ {A B : Type 0} where
   -- the same, if what follows is the same
-  pub and-hold-same : (x : Held A) {f g : A → ℕ → ℕ → Held B} → ((a : A) (s w : ℕ) → x ≡ kept a s w → f a s w ≡ g a s w)
+  pub and-hold-same : (x : Held A) {f g : A → ℕ → ℕ → Held B} → ((a : A) (s w : ℕ) → x ≡ reached a s w → f a s w ≡ g a s w)
       → and-hold x f ≡ and-hold x g
-  and-hold-same (kept a s w) h = h a s w refl
+  and-hold-same (reached a s w) h = h a s w refl
   and-hold-same (ceased v r) h = refl
 
   pub and-hold-twice : {C : Type 0} (x : Held A) (f : A → ℕ → ℕ → Held B) (g : B → ℕ → ℕ → Held C)
       → and-hold (and-hold x f) g ≡ and-hold x (λ a s w. and-hold (f a s w) g)
-  and-hold-twice (kept a s w) f g = refl
+  and-hold-twice (reached a s w) f g = refl
   and-hold-twice (ceased v r) f g = refl
 
   and-hold-if : (b : Bool) (v r : ℕ) (x : Held A) {y : Held B} (f : A → ℕ → ℕ → Held B) → y ≡ and-hold x f
@@ -56,7 +56,7 @@ module _ {A B : Type 0} where
 -- hold, by a run's beginning
 
 module _ {A : Type 0} (s w : ℕ) where
-  pub hold-give : (a : A) → hold s w (give a) ≡ kept a s w
+  pub hold-give : (a : A) → hold s w (give a) ≡ reached a s w
   unfolding hold-events
   hold-give a = refl
 
@@ -85,18 +85,18 @@ module _ (s w r : ℕ) (vs : Exprs) (h : Here) where
   hold-complete-none d l = rw (le-ltb 64 (deepest vs) d, lt-ltb w (length (canonical vs)) l)
 
   pub hold-complete : deepest vs ≤ 64 → length (canonical vs) ≤ w
-      → hold s w (complete r vs h) ≡ kept (record { values = vs; here = h }) s (w - length (canonical vs))
+      → hold s w (complete r vs h) ≡ reached (record { values = vs; here = h }) s (w - length (canonical vs))
   unfolding hold-events
   hold-complete d l = rw (le-ltb 64 (deepest vs) d, le-ltb w (length (canonical vs)) l)
 
 -- hold, by its answer
 
 module _ {A : Type 0} where
-  pub hold-kept : (s w : ℕ) (run : Run A) (a : A) (s′ w′ : ℕ) → hold s w run ≡ kept a s′ w′
+  pub hold-reached : (s w : ℕ) (run : Run A) (a : A) (s′ w′ : ℕ) → hold s w run ≡ reached a s′ w′
       → (run .end ≡ done a) × (s′ + steps-in (run .events) ≡ s) × (w′ + charges (run .events) ≡ w)
-  hold-kept s w run a s′ w′ = go (run .end) (holds (run .events) (run .end) s w)
+  hold-reached s w run a s′ w′ = go (run .end) (holds (run .events) (run .end) s w)
     where
-      go : (e : End A) {x : Held A} → Holds s w (run .events) e x → x ≡ kept a s′ w′
+      go : (e : End A) {x : Held A} → Holds s w (run .events) e x → x ≡ reached a s′ w′
           → (e ≡ done a) × (s′ + steps-in (run .events) ≡ s) × (w′ + charges (run .events) ≡ w)
       go (done b) (ends n m p q l) h = let t : n ≡ s′ = cc in let u : m ≡ w′ = cc in (cc, omega arith, omega arith)
       go (stopped v r) (ends n m p q l) h = impossible (cc)
@@ -124,32 +124,27 @@ module _ {A : Type 0} where
 
 -- Lists of nodes
 
-beyond-same : (e : Node) (p : Place) → NotTop p → beyond e p ≡ p
-beyond-same e element t = refl
-beyond-same e inner t = refl
-
-standing-same : (p : Place) (h : Here) → h .place ≡ p → standing p h ≡ h
-standing-same p h q = rw (← q)
-
--- what is left, as standing in a place
-abbrev settled : Place → Left → Left
-settled p left = record { values = left .values; here = standing p (left .here) }
+onward-same : (e : Node) (h : Here) → NotTop (h .within) → onward e h ≡ h
+onward-same e h t = go (h .within) refl t
+  where
+    go : (p : Within) → h .within ≡ p → NotTop p → entering (beyond e p) h ≡ h
+    go element q t = rw (← q)
+    go inner q t = rw (← q)
 
 module _ (call : Call) where
-  pub hold-list-empty : (p : Place) (h : Here) (s w : ℕ) → hold s w (in-list call empty p h) ≡ kept (record { values = none; here = h }) s w
+  pub hold-list-empty : (h : Here) (s w : ℕ) → hold s w (in-list call empty h) ≡ reached (record { values = none; here = h }) s w
   unfolding in-list hold-events
-  hold-list-empty p h s w = refl
+  hold-list-empty h s w = refl
 
   -- the first of a list, then the others
-  pub hold-list : (e : Node) (es : Nodes) (p : Place) (h : Here) (s w : ℕ) → hold s w (in-list call (cons e es) p h)
-      ≡ and-hold (hold s w (eval call e (standing p h))) (λ one s′ w′.
-      and-hold (hold s′ w′ (in-list call es (beyond e p) (one .here))) (λ others s″ w″. kept (together one others) s″ w″))
+  pub hold-list : (e : Node) (es : Nodes) (h : Here) (s w : ℕ) → hold s w (in-list call (cons e es) h)
+      ≡ and-hold (hold s w (eval call e h)) (λ one s′ w′.
+      and-hold (hold s′ w′ (in-list call es (onward e (one .here)))) (λ others s″ w″. reached (together one others) s″ w″))
   unfolding in-list hold-events
-  hold-list e es p h s w =
-      let ev : Run Left = eval call e (standing p h) in
-      let ls : Left → Run Left = λ one. in-list call es (beyond e p) (one .here) in
-      rw (hold-bind s w ev (λ one. bind (ls one) λ others. give (together one others)))
-      (and-hold-same (hold s w ev) λ one s′ w′ q. hold-bind s′ w′ (ls one) (λ others. give (together one others)))
+  hold-list e es h s w =
+      let ls : Left → Run Left = λ one. in-list call es (onward e (one .here)) in
+      rw (hold-bind s w (eval call e h) (λ one. bind (ls one) λ others. give (together one others)))
+      (and-hold-same (hold s w (eval call e h)) λ one s′ w′ q. hold-bind s′ w′ (ls one) (λ others. give (together one others)))
 
   drop-skip : (k : ℕ) (es : Nodes) → drop k (eval-all call es) ≡ eval-all call (skip k es)
   unfolding eval skip
@@ -157,28 +152,20 @@ module _ (call : Call) where
   drop-skip (suc k) empty = refl
   drop-skip (suc k) (cons e es) = drop-skip k es
 
-  -- `in-order` is `in-list`, but for the place that what follows would stand in
-  in-order-list : (p : Place) → NotTop p → (es : Nodes) (h : Here)
-      → in-order (eval-all call es) (standing p h) ≡ bind (in-list call es p h) (λ left. give (settled p left))
+  -- `in-order` is `in-list`, but at the top level
+  in-order-list : (es : Nodes) (h : Here) → NotTop (h .within) → in-order (eval-all call es) h ≡ in-list call es h
   unfolding in-order in-list eval
-  in-order-list p inside empty h = refl
-  in-order-list p inside (cons e es) h =
-      let ev : Run Left = eval call e (standing p h) in
-      rw (beyond-same e p inside, bind-assoc ev (λ one. bind (in-list call es p (one .here)) λ others. give (together one others)) (λ left. give (settled p left)))
-      (bind-same ev λ one q.
-      let list = in-list call es p (one .here) in
-      let others : in-order (eval-all call es) (one .here) ≡ bind list (λ left. give (settled p left)) =
-      rw (standing-same p (one .here) (eval-place call e (standing p h) one q)) at (in-order-list p inside es (one .here)) in
-      rw others (bind-assoc list _ _ ∙ sym (bind-assoc list _ _)))
+  in-order-list empty h t = refl
+  in-order-list (cons e es) h t = bind-same (eval call e h) λ one q.
+      let inside : NotTop (one .here .within) = rw (eval-within call e h one q) t in
+      rw (onward-same e (one .here) inside, in-order-list es (one .here) inside)
 
   -- the elements of a form, without the first so many, then what follows from their values
-  pub hold-inside : {B : Type 0} (p : Place) → NotTop p → (k : ℕ) (es : Nodes) (h : Here) (f : Exprs → Run B) (s w : ℕ)
-      → hold s w (bind (in-order (drop k (eval-all call es)) (standing p h)) (λ left. f (left .values)))
-      ≡ and-hold (hold s w (in-list call (skip k es) p h)) (λ left s′ w′. hold s′ w′ (f (left .values)))
+  pub hold-inside : {B : Type 0} (p : Within) → NotTop p → (k : ℕ) (es : Nodes) (h : Here) (f : Exprs → Run B) (s w : ℕ)
+      → hold s w (bind (in-order (drop k (eval-all call es)) (entering p h)) (λ left. f (left .values)))
+      ≡ and-hold (hold s w (in-list call (skip k es) (entering p h))) (λ left s′ w′. hold s′ w′ (f (left .values)))
   hold-inside p t k es h f s w =
-      let list = in-list call (skip k es) p h in
-      rw (drop-skip k es, in-order-list p t (skip k es) h, bind-assoc list (λ left. give (settled p left)) (λ left. f (left .values)))
-      (hold-bind s w list (λ left. f (left .values)))
+      rw (drop-skip k es, in-order-list (skip k es) (entering p h) t) (hold-bind s w (in-list call (skip k es) (entering p h)) (λ left. f (left .values)))
 
 -- 19: "more than [..] 32 codes in progress"
 pub hold-code-none : {B : Type 0} (r : ℕ) (code : Nodes) (h : Here) (f : Left → Run B) (s w : ℕ)
@@ -187,32 +174,37 @@ unfolding run-code hold-events
 hold-code-none r code h f s w = refl
 
 -- the code of a call, then what follows from its values
-pub hold-code : {B : Type 0} (k r : ℕ) (code : Nodes) (h : Here) → h .place ≡ inner → (f : Exprs → Run B) (s w : ℕ)
+pub hold-code : {B : Type 0} (k r : ℕ) (code : Nodes) (h : Here) → h .within ≡ inner → (f : Exprs → Run B) (s w : ℕ)
     → hold s w (bind (run-code (suc k) r code h) (λ left. f (left .values)))
-    ≡ and-hold (hold s w (in-list (run-code k) code inner h)) (λ left s′ w′. hold s′ w′ (f (left .values)))
-unfolding run-code skip
-hold-code k r code h q f s w = rw (standing-same inner h q) at (hold-inside (run-code k) inner tt 0 code h f s w)
+    ≡ and-hold (hold s w (in-list (run-code k) code h)) (λ left s′ w′. hold s′ w′ (f (left .values)))
+unfolding run-code
+hold-code k r code h q f s w =
+    rw (in-order-list (run-code k) code h (rw q tt)) (hold-bind s w (in-list (run-code k) code h) (λ left. f (left .values)))
 
 -- the top level, and its values
 top-level-list : (es : Nodes) (earlier : List ℕ) (h : Here)
-    → bind (top-level earlier es h) (λ ls. give (result ls)) ≡ bind (in-list (run-code 32) es (top earlier) h) (λ left. give (left .values))
+    → bind (top-level earlier es h) (λ ls. give (result ls)) ≡ bind (in-list (run-code 32) es (entering (top earlier) h)) (λ left. give (left .values))
 unfolding top-level result in-list
 top-level-list empty earlier h = refl
 top-level-list (cons e es) earlier h =
-    let ev : Run Left = eval (run-code 32) e (standing (top earlier) h) in
+    let ev : Run Left = eval (run-code 32) e (entering (top earlier) h) in
     bind-assoc ev _ _
     ∙ bind-same ev (λ one q.
     let level = top-level (markers e ++ earlier) es (one .here) in
-    let list = in-list (run-code 32) es (top (markers e ++ earlier)) (one .here) in
+    let list = in-list (run-code 32) es (onward e (one .here)) in
     let next : Exprs → Run Exprs = λ vs. give (append (one .values) vs) in
+    let same : bind level (λ ls. give (result ls)) ≡ bind list (λ left. give (left .values)) =
+    top-level-list es (markers e ++ earlier) (one .here)
+    ∙ ap (λ (p : Within). bind (in-list (run-code 32) es (entering (beyond e p) (one .here))) (λ left. give (left .values)))
+    (sym (eval-within (run-code 32) e (entering (top earlier) h) one q)) in
     bind-assoc level _ _
     ∙ sym (bind-assoc level (λ ls. give (result ls)) next)
-    ∙ ap (λ (run : Run Exprs). bind run next) (top-level-list es (markers e ++ earlier) (one .here))
+    ∙ ap (λ (run : Run Exprs). bind run next) same
     ∙ bind-assoc list _ _
     ∙ sym (bind-assoc list _ _))
     ∙ sym (bind-assoc ev _ _)
 
 pub hold-run : (es : Exprs) (s w : ℕ) → hold s w (bind (run es) (λ ls. give (result ls)))
-    ≡ and-hold (hold s w (in-list (run-code 32) (number-all 0 es) (top []) start)) (λ left s′ w′. kept (left .values) s′ w′)
+    ≡ and-hold (hold s w (in-list (run-code 32) (number-all 0 es) start)) (λ left s′ w′. reached (left .values) s′ w′)
 unfolding run hold-events
-hold-run es s w = rw (top-level-list (number-all 0 es) [] start) (hold-bind s w (in-list (run-code 32) (number-all 0 es) (top []) start) _)
+hold-run es s w = rw (top-level-list (number-all 0 es) [] start) (hold-bind s w (in-list (run-code 32) (number-all 0 es) start) _)

@@ -8,7 +8,7 @@ use Rattle.spec.specs.Expr.{Exprs, none, more, append, first, rows}
 use Rattle.spec.specs.Nodes.{number, number-all, markers}
 use Rattle.spec.specs.Runs.{done}
 use Rattle.spec.specs.Plan.{top, Here}
-use Rattle.spec.specs.Evaluation.{standing, eval, run-code, top-level, run, result}
+use Rattle.spec.specs.Evaluation.{entering, eval, run-code, top-level, run, result}
 use Rattle.laws.proofs.Runs.{bind-end, bind-done}
 
 top-level-first : (q : ℕ) (es : Exprs) (r : ℕ) (earlier : List ℕ) (h : Here) (ls : List Exprs)
@@ -17,7 +17,7 @@ unfolding top-level number first
 top-level-first zero es r earlier h ls e = refl
 top-level-first (suc q) none r earlier h ls e = let nothing : [] ≡ ls = cc in rw (← nothing)
 top-level-first (suc q) (more x es) r earlier h ls e =
-    let here = standing (top earlier) h in
+    let here = entering (top earlier) h in
     let a = bind-done (eval (run-code 32) (number r x) here) _ ls e in
     let b = bind-done (top-level (markers (number r x) ++ earlier) (number-all (r + rows x) es) (a .0 .here)) _ ls (a .2) in
     let split : a .0 .values ∷ b .0 ≡ ls = cc in

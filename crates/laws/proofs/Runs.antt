@@ -9,7 +9,7 @@ use lib.Dec.{ltb}
 use borrow.Author.Tests.{ltb-true, ltb-false, ne-eqb}
 use native.Mathlib.Omega.{arith}
 use Rattle.spec.specs.Expr.{if_then_else_}
-use Rattle.spec.specs.Runs.{Event, step, charge, End, done, stopped, Run, follow, bind, Held, kept, ceased, hold-events, forget, cut, steps-in}
+use Rattle.spec.specs.Runs.{Event, step, charge, End, done, stopped, Run, follow, bind, Held, reached, ceased, hold-events, forget, cut, steps-in}
 use Rattle.laws.specs.Demands.{step-rows}
 use Rattle.laws.proofs.Basics.{impossible}
 
@@ -64,7 +64,7 @@ full-row w (charge r n ∷ es) = if ltb w n then r else full-row (w - n) es
 module _ {A : Type 0} where
   -- a run's own end, with what is left of its bounds
   abbrev pub ended : End A → ℕ → ℕ → Held A
-  ended (done a) n w = kept a n w
+  ended (done a) n w = reached a n w
   ended (stopped v r) n w = ceased v r
 
   -- how a run is held: it comes to its own end, or it lacks a step, or workspace
@@ -104,8 +104,8 @@ module _ {A : Type 0} where
     no-steps : (r : ℕ) → x ≡ stopped 16 r → SameEnd x y
     no-work : (r : ℕ) → x ≡ stopped 17 r → SameEnd x y
 
-  -- an accepted run: it is the run's own end, within the steps and the workspace, and all its steps are taken
-  pub record Within (n w : ℕ) (es : List Event) (e : End A) (a : A) : Type 0 where
+  -- a run whose bounds are enough: it comes to its own end, within the steps and the workspace, and all its steps are taken
+  pub record Enough (n w : ℕ) (es : List Event) (e : End A) (a : A) : Type 0 where
     pub ends : e ≡ done a
     pub steps : steps-in es ≤ n
     pub work : charges es ≤ w
@@ -128,10 +128,10 @@ module _ {A : Type 0} where
         go (lacks-step r p l q) y = no-steps r refl
         go (lacks-work r p l q) y = no-work r refl
 
-    pub cut-done : (n w : ℕ) (a : A) → cut n w es e ≡ done a → Within n w es e a
+    pub cut-done : (n w : ℕ) (a : A) → cut n w es e ≡ done a → Enough n w es e a
     cut-done n w a = go (holds es e n w)
       where
-        go : {x : Held A} → Holds n w es e x → forget x ≡ done a → Within n w es e a
+        go : {x : Held A} → Holds n w es e x → forget x ≡ done a → Enough n w es e a
         go (ends i j p q l) h = record { ends = sym (ended-end e i j) ∙ h; steps = omega arith; work = omega arith; all = l }
         go (lacks-step r p l q) h = impossible (cc)
         go (lacks-work r p l q) h = impossible (cc)

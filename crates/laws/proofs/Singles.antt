@@ -1,4 +1,4 @@
--- What evaluation leaves of where it happens: in which places the namespaces and the definitions stay the same. And an invariant: a
+-- What evaluation leaves of where it happens: in which lists the namespaces and the definitions stay the same. And an invariant: a
 -- definition that is no function has one value.
 -- Document 01: "The definition is visible to what follows in the same list [..] and ends with that list." Assumes nothing.
 use Prim.Native.Nat.{ℕ, zero, suc, _≤_, _<_}
@@ -12,12 +12,12 @@ use borrow.Author.Tests.{ltb-false, not-true}
 use Rattle.spec.specs.Expr.{if_then_else_, nil, array, int, ref, Expr, atom, form, Exprs, none, more, only, append, size, first, without, deepest, canonical}
 use Rattle.spec.specs.Nodes.{Word, rest, is, Node, leaf, branch, Nodes, empty, cons, elements, tail, headed-by}
 use Rattle.spec.specs.Runs.{charge, done, Run, give, stop, before}
-use Rattle.spec.specs.Plan.{Defined, value, function, Definition, Scope, Found, latest, nothing, look-up, Namespace, Place, element, inner, given, Here, as-form, as-concat, as-call, Plan, associate, inside, plan}
-use Rattle.spec.specs.Evaluation.{Left, standing, add-namespace, add-definition, complete, join, one-value, Call, Meaning, in-order, perform, eval, eval-all, run-code}
-use Rattle.laws.specs.Holding.{NotTop, beyond, together, in-list}
+use Rattle.spec.specs.Plan.{Defined, value, function, Definition, Scope, Found, latest, nothing, look-up, Namespace, Within, element, inner, passed, Here, as-form, as-concat, as-call, Plan, associate, inside, plan}
+use Rattle.spec.specs.Evaluation.{Left, entering, add-namespace, add-definition, complete, join, one-value, Call, Meaning, in-order, perform, eval, eval-all, run-code}
+use Rattle.laws.specs.Holding.{beyond, onward, NotTop, together, in-list}
 use Rattle.laws.proofs.Basics.{impossible, by-test}
 use Rattle.laws.proofs.Runs.{bind-done}
-use Rattle.laws.proofs.Walk.{Rule, refuses, own, defined, argument, others, associates, defines, names, joins, forms, calls, calls-subst, rule}
+use Rattle.laws.proofs.Walk.{Rule, refuses, own, defined, argument, others, associates, defines-function, defines-value, joins, forms, calls, calls-subst, rule}
 
 -- What is so of each definition that is visible
 
@@ -53,23 +53,23 @@ argument-single n none l = absurd (omega arith)
 argument-single zero (more v vs) l = record { value = v; is = refl }
 argument-single (suc n) (more v vs) l = argument-single n vs (omega arith)
 
-abbrev NotInner : Place → Type 0
+abbrev NotInner : Within → Type 0
 NotInner p = p ≡ inner → ⊥
 
 -- the definitions that a call's code sees
-pub call-single : (e : Node) (h : Here) (k : ℕ) (p : Place) (code : Nodes) (scope : Scope) → plan e h ≡ inside k p (as-call code scope)
+pub call-single : (e : Node) (h : Here) (k : ℕ) (p : Within) (code : Nodes) (scope : Scope) → plan e h ≡ inside k p (as-call code scope)
     → SingleScope (h .scope) → SingleScope scope
 call-single e h k p code scope q s = go (rw q at (rule h e))
   where
-    go : {w : Word} {e : Node} {k : ℕ} {p : Place} {code : Nodes} {scope : Scope} → Rule h w e (inside k p (as-call code scope)) → SingleScope scope
+    go : {w : Word} {e : Node} {k : ℕ} {p : Within} {code : Nodes} {scope : Scope} → Rule h w e (inside k p (as-call code scope)) → SingleScope scope
     go (calls {m = m} {n} t) = rw t at (look-up-each SingleDefined m n (h .scope) s) .1
     go (calls-subst t) = s
 
 -- 19: "more than [..] 64 namespaces"
-pub plan-counted : (e : Node) (h : Here) (m n : ℕ) (id : List ℕ) → plan e h ≡ associate m n id → length (h .namespaces) < 64
-plan-counted e h m n id q = go (rw q at (rule h e))
+pub plan-counted : (e : Node) (h : Here) (vs : Exprs) (k : Namespace) → plan e h ≡ associate vs k → length (h .namespaces) < 64
+plan-counted e h vs k q = go (rw q at (rule h e))
   where
-    go : {w : Word} {e : Node} {m n : ℕ} {id : List ℕ} → Rule h w e (associate m n id) → length (h .namespaces) < 64
+    go : {w : Word} {e : Node} {vs : Exprs} {k : Namespace} → Rule h w e (associate vs k) → length (h .namespaces) < 64
     go (associates may) = may .few
 
 -- Evaluation
@@ -100,33 +100,33 @@ join-done r bs (more (form es) vs) h left e = impossible (cc)
 
 -- where the code of a call is evaluated
 abbrev in-code : Here → Scope → Exprs → Here
-in-code h scope vs = record { place = inner; scope = scope; namespaces = h .namespaces; arguments = given vs }
+in-code h scope vs = record { within = inner; scope = scope; namespaces = h .namespaces; arguments = passed vs }
 
 -- a form's elements are evaluated, then what is made of them: a form, a joined array, a call's value
 module _ (call : Call) (r : ℕ) (ms : List Meaning) (h : Here) (left : Left) where
   form-done : perform call r ms h (inside 0 element as-form) .end ≡ done left
       → (vs : Exprs) × (left ≡ record { values = only (form vs); here = h })
-  form-done e = let a = bind-done (in-order ms (standing element h)) _ left e in (a .0 .values, complete-done r _ h left (a .2))
+  form-done e = let a = bind-done (in-order ms (entering element h)) _ left e in (a .0 .values, complete-done r _ h left (a .2))
 
   concat-done : perform call r ms h (inside 1 inner as-concat) .end ≡ done left
       → (bs : List ℕ) × (left ≡ record { values = only (atom (array bs)); here = h })
-  concat-done e = let a = bind-done (in-order (drop 1 ms) (standing inner h)) _ left e in join-done r [] (a .0 .values) h left (a .2)
+  concat-done e = let a = bind-done (in-order (drop 1 ms) (entering inner h)) _ left e in join-done r [] (a .0 .values) h left (a .2)
 
   call-done : (code : Nodes) (scope : Scope) → perform call r ms h (inside 1 inner (as-call code scope)) .end ≡ done left
       → (vs : Exprs) × (l : Left) × (call r code (in-code h scope vs) .end ≡ done l)
       × (left ≡ record { values = if one-value code then l .values else only (form (l .values)); here = h })
   call-done code scope e =
-      let a = bind-done (in-order (drop 1 ms) (standing inner h)) _ left e in
+      let a = bind-done (in-order (drop 1 ms) (entering inner h)) _ left e in
       let b = bind-done (call r code (in-code h scope (a .0 .values))) _ left (a .2) in
       (a .0 .values, b .0, b .1, complete-done r _ h left (b .2))
 
 -- where what follows an expression is evaluated
 data Moves (call : Call) (h : Here) : Here → Type 0 where
   stays : Moves call h h
-  adds-namespace : {n : Namespace} → (NotTop (h .place) → ⊥) → Moves call h (add-namespace n h)
-  adds-function : {m n : ℕ} {code : Nodes} → NotInner (h .place) → Moves call h (add-definition (record { marker = m; name = n; content = function code }) h)
-  adds-value : {m n : ℕ} (v : Node) → headed-by rest v ≡ false → NotInner (h .place) → (a : Left)
-      → in-order (eval-all call (cons v empty)) (standing inner h) .end ≡ done a
+  adds-namespace : {n : Namespace} → (NotTop (h .within) → ⊥) → Moves call h (add-namespace n h)
+  adds-function : {m n : ℕ} {code : Nodes} → NotInner (h .within) → Moves call h (add-definition (record { marker = m; name = n; content = function code }) h)
+  adds-value : {m n : ℕ} (v : Node) → headed-by rest v ≡ false → NotInner (h .within) → (a : Left)
+      → in-order (eval-all call (cons v empty)) (entering inner h) .end ≡ done a
       → Moves call h (add-definition (record { marker = m; name = n; content = value (a .values) }) h)
 
 module _ (call : Call) where
@@ -138,16 +138,16 @@ module _ (call : Call) where
   perform-moves r h (defined t) left e = rw (complete-done r _ h left e) stays
   perform-moves r h (argument t l) left e = rw (complete-done r _ h left e) stays
   perform-moves r h (others t l) left e = rw (complete-done r _ h left e) stays
-  perform-moves r h (associates may) left e = rw (complete-done r _ _ left e) (adds-namespace (λ t. rw (may .place) at t))
-  perform-moves r h (defines {m = m} {n} {v = v} may t) left e =
+  perform-moves r h (associates may) left e = rw (complete-done r _ _ left e) (adds-namespace (λ t. rw (may .within) at t))
+  perform-moves r h (defines-function {m = m} {n} {v = v} may t) left e =
       let d : Definition = record { marker = m; name = n; content = function (tail (elements v)) } in
       let k : left ≡ record { values = none; here = add-definition d h } = cc in
-      rw k (adds-function (may .place))
-  perform-moves r h (names {m = m} {n} {v = v} may t) left e =
-      let a = bind-done (in-order (eval-all call (cons v empty)) (standing inner h)) _ left e in
+      rw k (adds-function (may .within))
+  perform-moves r h (defines-value {m = m} {n} {v = v} may t) left e =
+      let a = bind-done (in-order (eval-all call (cons v empty)) (entering inner h)) _ left e in
       let d : Definition = record { marker = m; name = n; content = value (a .0 .values) } in
       let k : left ≡ record { values = none; here = add-definition d h } = cc (a .2) in
-      rw k (adds-value v (may .no-rest) (may .place) (a .0) (a .1))
+      rw k (adds-value v (may .no-rest) (may .within) (a .0) (a .1))
   perform-moves r h (joins {x = x} {a} {b} t u) left e = rw (concat-done call r (eval-all call (cons x (cons a (cons b empty)))) h left e .1) stays
   perform-moves r h (forms {es = es}) left e = rw (form-done call r (eval-all call es) h left e .1) stays
   perform-moves r h (calls {q = q} {m} {n} {es} t) left e = rw (call-done call r (eval-all call (cons (leaf q (ref m n)) es)) h left _ _ e .3) stays
@@ -158,25 +158,25 @@ module _ (call : Call) where
   eval-moves (leaf r a) h left e = perform-moves r h (rule h (leaf r a)) left e
   eval-moves (branch r es) h left e = perform-moves r h (rule h (branch r es)) left e
 
-  pub eval-place : (e : Node) (h : Here) (left : Left) → eval call e h .end ≡ done left → left .here .place ≡ h .place
-  eval-place e h left q = go (eval-moves e h left q)
+  pub eval-within : (e : Node) (h : Here) (left : Left) → eval call e h .end ≡ done left → left .here .within ≡ h .within
+  eval-within e h left q = go (eval-moves e h left q)
     where
-      go : {g : Here} → Moves call h g → g .place ≡ h .place
+      go : {g : Here} → Moves call h g → g .within ≡ h .within
       go stays = refl
       go (adds-namespace t) = refl
       go (adds-function t) = refl
       go (adds-value v r t a w) = refl
 
--- what evaluation in a place leaves as it was: the arguments; the namespaces, but at the top level; the definitions, where none is allowed
-pub record Stays (p : Place) (h g : Here) : Type 0 where
+-- what evaluation leaves as it was: the arguments; the namespaces, but at the top level; the definitions, where none is allowed
+pub record Stays (h g : Here) : Type 0 where
   pub arguments : g .arguments ≡ h .arguments
-  pub namespaces : NotTop p → g .namespaces ≡ h .namespaces
-  pub scope : p ≡ inner → g .scope ≡ h .scope
+  pub namespaces : NotTop (h .within) → g .namespaces ≡ h .namespaces
+  pub scope : h .within ≡ inner → g .scope ≡ h .scope
 
-pub eval-stays : (call : Call) (e : Node) (h : Here) (left : Left) → eval call e h .end ≡ done left → Stays (h .place) h (left .here)
+pub eval-stays : (call : Call) (e : Node) (h : Here) (left : Left) → eval call e h .end ≡ done left → Stays h (left .here)
 eval-stays call e h left q = go (eval-moves call e h left q)
   where
-    go : {g : Here} → Moves call h g → Stays (h .place) h g
+    go : {g : Here} → Moves call h g → Stays h g
     go stays = record { arguments = refl; namespaces = λ t. refl; scope = λ q. refl }
     go (adds-namespace t) = record { arguments = refl; namespaces = λ u. absurd (t u); scope = λ q. refl }
     go (adds-function t) = record { arguments = refl; namespaces = λ u. refl; scope = λ q. absurd (t q) }
@@ -184,71 +184,70 @@ eval-stays call e h left q = go (eval-moves call e h left q)
 
 -- Lists of nodes
 
+beyond-inside : (e : Node) (p : Within) → NotTop p → NotTop (beyond e p)
+beyond-inside e element t = t
+beyond-inside e inner t = t
+
+beyond-inner : (e : Node) (p : Within) → p ≡ inner → beyond e p ≡ inner
+beyond-inner e p q = rw q
+
 -- what the first of a list leaves, and what the others do
-pub record Split (call : Call) (e : Node) (es : Nodes) (p : Place) (h : Here) (left : Left) : Type 0 where
+pub record Split (call : Call) (e : Node) (es : Nodes) (h : Here) (left : Left) : Type 0 where
   pub one : Left
   pub others : Left
-  pub evaluates : eval call e (standing p h) .end ≡ done one
-  pub continues : in-list call es (beyond e p) (one .here) .end ≡ done others
+  pub evaluates : eval call e h .end ≡ done one
+  pub continues : in-list call es (onward e (one .here)) .end ≡ done others
   pub is : left ≡ together one others
 
 module _ (call : Call) where
-  in-list-none : (p : Place) (h : Here) (left : Left) → in-list call empty p h .end ≡ done left → left ≡ record { values = none; here = h }
+  in-list-none : (h : Here) (left : Left) → in-list call empty h .end ≡ done left → left ≡ record { values = none; here = h }
   unfolding in-list
-  in-list-none p h left q = cc
+  in-list-none h left q = cc
 
-  in-list-split : (e : Node) (es : Nodes) (p : Place) (h : Here) (left : Left) → in-list call (cons e es) p h .end ≡ done left
-      → Split call e es p h left
+  in-list-split : (e : Node) (es : Nodes) (h : Here) (left : Left) → in-list call (cons e es) h .end ≡ done left → Split call e es h left
   unfolding in-list
-  in-list-split e es p h left q =
-      let a = bind-done (eval call e (standing p h)) _ left q in
-      let b = bind-done (in-list call es (beyond e p) (a .0 .here)) _ left (a .2) in
+  in-list-split e es h left q =
+      let a = bind-done (eval call e h) _ left q in
+      let b = bind-done (in-list call es (onward e (a .0 .here))) _ left (a .2) in
       record { one = a .0; others = b .0; evaluates = a .1; continues = b .1; is = cc (b .2) }
 
-  beyond-inside : (e : Node) (p : Place) → NotTop p → NotTop (beyond e p)
-  beyond-inside e element t = t
-  beyond-inside e inner t = t
-
-  beyond-inner : (e : Node) (p : Place) → p ≡ inner → beyond e p ≡ inner
-  beyond-inner e p q = rw q
-
-  pub in-list-stays : (es : Nodes) (p : Place) (h : Here) (left : Left) → in-list call es p h .end ≡ done left → Stays p h (left .here)
-  in-list-stays empty p h left q =
-      rw (in-list-none p h left q) (record { arguments = refl; namespaces = λ t. refl; scope = λ t. refl })
-  in-list-stays (cons e es) p h left q =
-      let s = in-list-split e es p h left q in
-      let a = eval-stays call e (standing p h) (s .one) (s .evaluates) in
-      let b = in-list-stays es (beyond e p) (s .one .here) (s .others) (s .continues) in
+  pub in-list-stays : (es : Nodes) (h : Here) (left : Left) → in-list call es h .end ≡ done left → Stays h (left .here)
+  in-list-stays empty h left q = rw (in-list-none h left q) (record { arguments = refl; namespaces = λ t. refl; scope = λ t. refl })
+  in-list-stays (cons e es) h left q =
+      let s = in-list-split e es h left q in
+      let w = eval-within call e h (s .one) (s .evaluates) in
+      let a = eval-stays call e h (s .one) (s .evaluates) in
+      let b = in-list-stays es (onward e (s .one .here)) (s .others) (s .continues) in
       rw (s .is) (record {
         arguments = b .arguments ∙ a .arguments;
-        namespaces = λ t. b .namespaces (beyond-inside e p t) ∙ a .namespaces t;
-        scope = λ t. b .scope (beyond-inner e p t) ∙ a .scope t;
+        namespaces = λ t. b .namespaces (rw w (beyond-inside e (h .within) t)) ∙ a .namespaces t;
+        scope = λ t. b .scope (rw w (beyond-inner e (h .within) t)) ∙ a .scope t;
       })
 
 -- One value
 
 -- a call whose code is to give one value gives one
 abbrev SingleCall : Call → Type 0
-SingleCall call = (r : ℕ) (code : Nodes) (h : Here) (left : Left) → one-value code ≡ true → h .place ≡ inner → SingleScope (h .scope)
+SingleCall call = (r : ℕ) (code : Nodes) (h : Here) (left : Left) → one-value code ≡ true → h .within ≡ inner → SingleScope (h .scope)
     → call r code h .end ≡ done left → Single (left .values)
 
 module _ (call : Call) (call-single : SingleCall call) where
-  call-value : (r : ℕ) (code : Nodes) (h : Here) (left : Left) → h .place ≡ inner → SingleScope (h .scope) → call r code h .end ≡ done left
+  call-value : (r : ℕ) (code : Nodes) (h : Here) (left : Left) → h .within ≡ inner → SingleScope (h .scope) → call r code h .end ≡ done left
       → Single (if one-value code then left .values else only (form (left .values)))
   call-value r code h left i s e =
       by-test Single (one-value code) (λ q. call-single r code h left q i s e) (λ q. record { value = form (left .values); is = refl })
 
   perform-single : (r : ℕ) (ms : List Meaning) (h : Here) {w : Word} {e : Node} {p : Plan} → Rule h w e p → is w rest ≡ false → (left : Left)
-      → h .place ≡ inner → SingleScope (h .scope) → perform call r ms h p .end ≡ done left → Single (left .values)
+      → h .within ≡ inner → SingleScope (h .scope) → perform call r ms h p .end ≡ done left → Single (left .values)
   perform-single r ms h (refuses n) k left i s e = impossible (cc)
   perform-single r ms h (own {a = a}) k left i s e = rw (complete-done r _ h left e) (record { value = atom a; is = refl })
   perform-single r ms h (defined {m = m} {n} t) k left i s e =
       rw (complete-done r _ h left e) (rw t at (look-up-each SingleDefined m n (h .scope) s) .0)
   perform-single r ms h (argument {n = n} {vs = vs} t l) k left i s e = rw (complete-done r _ h left e) (argument-single n vs l)
   perform-single r ms h (others t l) k left i s e = impossible (cc)
-  perform-single r ms h (associates may) k left i s e = impossible (cc (may .place))
-  perform-single r ms h (defines may t) k left i s e = absurd (may .place i)
-  perform-single r ms h (names may t) k left i s e = absurd (may .place i)
+  perform-single r ms h (associates may) k left i s e = impossible (cc (may .within))
+  perform-single r ms h (defines-function may t) k left i s e = absurd (may .within i)
+  perform-single r ms h (defines-value may t) k left i s e = absurd (may .within i)
   perform-single r ms h (joins t u) k left i s e =
       let a = concat-done call r ms h left e in rw (a .1) (record { value = atom (array (a .0)); is = refl })
   perform-single r ms h forms k left i s e = let a = form-done call r ms h left e in rw (a .1) (record { value = form (a .0); is = refl })
@@ -258,14 +257,14 @@ module _ (call : Call) (call-single : SingleCall call) where
   perform-single r ms h (calls-subst t) k left i s e = let a = call-done call r ms h left _ _ e in rw (a .3) (call-value r _ _ (a .1) refl s (a .2))
 
   -- an expression that is no `rest` form, where no definition is allowed, leaves one value
-  eval-single : (e : Node) (h : Here) (left : Left) → headed-by rest e ≡ false → h .place ≡ inner → SingleScope (h .scope)
+  eval-single : (e : Node) (h : Here) (left : Left) → headed-by rest e ≡ false → h .within ≡ inner → SingleScope (h .scope)
       → eval call e h .end ≡ done left → Single (left .values)
   unfolding eval
   eval-single (leaf r a) h left q i s e = perform-single r [] h (rule h (leaf r a)) q left i s e
   eval-single (branch r es) h left q i s e = perform-single r (eval-all call es) h (rule h (branch r es)) q left i s e
 
   -- the only one of a list
-  one-single : (e : Node) (h : Here) (left : Left) → headed-by rest e ≡ false → h .place ≡ inner → SingleScope (h .scope)
+  one-single : (e : Node) (h : Here) (left : Left) → headed-by rest e ≡ false → h .within ≡ inner → SingleScope (h .scope)
       → in-order (eval-all call (cons e empty)) h .end ≡ done left → Single (left .values)
   unfolding eval in-order
   one-single e h left q i s t =
@@ -281,7 +280,7 @@ module _ (call : Call) (call-single : SingleCall call) where
       go stays = s
       go (adds-namespace t) = s
       go (adds-function t) = (tt, s)
-      go (adds-value v r t a w) = (one-single v (standing inner h) a r refl s w, s)
+      go (adds-value v r t a w) = (one-single v (entering inner h) a r refl s w, s)
 
 run-code-single : (k : ℕ) → SingleCall (run-code k)
 unfolding run-code
@@ -301,18 +300,19 @@ module _ (k : ℕ) where
       → SingleScope (left .here .scope)
   eval-scope e h left s t = eval-scope-if (run-code k) (run-code-single k) e h left s t
 
-  pub in-list-single : (e : Node) (h : Here) (left : Left) → headed-by rest e ≡ false → SingleScope (h .scope)
-      → in-list (run-code k) (cons e empty) inner h .end ≡ done left → Single (left .values)
-  in-list-single e h left q s t =
-      let a = in-list-split (run-code k) e empty inner h left t in
-      let b = in-list-none (run-code k) inner (a .one .here) (a .others) (a .continues) in
-      rw (a .is, b, append-none (a .one .values)) (eval-single (run-code k) (run-code-single k) e (standing inner h) (a .one) q refl s (a .evaluates))
+  pub in-list-single : (e : Node) (h : Here) (left : Left) → headed-by rest e ≡ false → h .within ≡ inner → SingleScope (h .scope)
+      → in-list (run-code k) (cons e empty) h .end ≡ done left → Single (left .values)
+  in-list-single e h left q i s t =
+      let a = in-list-split (run-code k) e empty h left t in
+      let b = in-list-none (run-code k) (onward e (a .one .here)) (a .others) (a .continues) in
+      rw (a .is, b, append-none (a .one .values)) (eval-single (run-code k) (run-code-single k) e h (a .one) q i s (a .evaluates))
 
-  pub in-list-pair : (e f : Node) (h : Here) (left : Left) → headed-by rest e ≡ false → headed-by rest f ≡ false → SingleScope (h .scope)
-      → in-list (run-code k) (cons e (cons f empty)) inner h .end ≡ done left
+  pub in-list-pair : (e f : Node) (h : Here) (left : Left) → headed-by rest e ≡ false → headed-by rest f ≡ false → h .within ≡ inner
+      → SingleScope (h .scope) → in-list (run-code k) (cons e (cons f empty)) h .end ≡ done left
       → (x : Expr) × (y : Expr) × (left .values ≡ more x (only y))
-  in-list-pair e f h left q t s u =
-      let a = in-list-split (run-code k) e (cons f empty) inner h left u in
-      let x = eval-single (run-code k) (run-code-single k) e (standing inner h) (a .one) q refl s (a .evaluates) in
-      let y = in-list-single f (a .one .here) (a .others) t (eval-scope e (standing inner h) (a .one) s (a .evaluates)) (a .continues) in
+  in-list-pair e f h left q t i s u =
+      let a = in-list-split (run-code k) e (cons f empty) h left u in
+      let x = eval-single (run-code k) (run-code-single k) e h (a .one) q i s (a .evaluates) in
+      let w = beyond-inner e (a .one .here .within) (eval-within (run-code k) e h (a .one) (a .evaluates) ∙ i) in
+      let y = in-list-single f (onward e (a .one .here)) (a .others) t w (eval-scope e h (a .one) s (a .evaluates)) (a .continues) in
       pair (left .values) (a .one .values) (a .others .values) x y (ap (λ (l : Left). l .values) (a .is))

@@ -26,7 +26,7 @@ use Rattle.laws.proofs.Items.{spelled-rows, item-spelled, item-past}
 use Rattle.laws.proofs.Runs.{cut-more, cut-done}
 use Rattle.laws.proofs.Values.{not-rule, run-fits, run-proper}
 use Rattle.laws.proofs.Prefix.{run-first, result-split}
-use Rattle.laws.proofs.Calls.{put-out-bytes, rows-fit, filled-length, read-cases, not-read, refuses, accepts, answers-kept, answers-within, answers-table, answers-counted, answers-place, write-answers, write-out, write-room, Written, written, bounded, Way, way, evaluation-answered, Why, no-version, other-version, stops, too-long, Evaluates, evaluation-answers, reading-fits, CutNumber, for-steps, for-work, for-rule, cut-refused, ran, ran-means, ran-ends, left-values, left-fits}
+use Rattle.laws.proofs.Calls.{put-out-bytes, rows-fit, filled-length, read-cases, not-read, refuses, accepts, answers-kept, answers-fit, answers-table, answers-counted, answers-place, write-answers, write-out, write-room, Written, written, bounded, Way, way, evaluation-answered, Why, no-version, other-version, stops, too-long, Evaluates, evaluation-answers, reading-fits, CutNumber, for-steps, for-work, for-rule, cut-refused, ran, ran-means, ran-ends, left-values, left-fits}
 use Rattle.laws.proofs.Retry.{refusals-alike, put-out-alike, end-alike, same-end-alike, reads-same, evaluations-alike}
 use Rattle.laws.proofs.Count.{stepped, steps-stepped, way-enough, OutOfSteps, way-short, stopped-short, ran-all-steps}
 
@@ -65,10 +65,10 @@ pub read-fits : (s t : List ℕ) → row-width * Read s t .given ≤ length t
 read-fits s t = read-cases (λ (a : Answer). row-width * a .given ≤ length t) s t (λ v p e. omega arith) (rows-fit s t)
 
 pub write-fits : (s t o : List ℕ) → Write s t o .given ≤ length o
-write-fits s t o = answers-within (write-answers s t o)
+write-fits s t o = answers-fit (write-answers s t o)
 
 pub evaluation-fits : (s : List ℕ) (l : Lent) → evaluation s l .given ≤ length (l .output)
-evaluation-fits s l = answers-within (evaluation-answers s l)
+evaluation-fits s l = answers-fit (evaluation-answers s l)
 
 pub evaluation-keeps : (s : List ℕ) (l : Lent) → Kept (l .table) (l .output) (evaluation s l)
 evaluation-keeps s l = answers-kept (evaluation-answers s l)
@@ -230,8 +230,8 @@ output-enough s l b long = go (evaluation-answers s l)
     why rs es e other-version z = omega arith
     why rs es e (stops v r begun c) z = cut-so (cut-refused es (reading-fits s (l .table) rs es b e) (l .steps) (min (l .work) 65536) v r c) z
     why rs es e (too-long ls c h) z =
-        let within = cut-done (run es .events) (run es .end) (l .steps) (min (l .work) 65536) ls c in
-        omega (arith, run-fits es ls (reading-fits s (l .table) rs es b e) (within .ends) .1, within .work)
+        let enough = cut-done (run es .events) (run es .end) (l .steps) (min (l .work) 65536) ls c in
+        omega (arith, run-fits es ls (reading-fits s (l .table) rs es b e) (enough .ends) .1, enough .work)
 
     go : {a : Answer} → Evaluates s l a → a .number ≡ 18 → ⊥
     go (not-read v p e) z = omega (arith, read-refused s (length (l .table) / row-width) v p b e .1)
@@ -285,7 +285,7 @@ count s l b = record {
     taken h = ap (λ (a : Answer). a .steps) (ran s l b h .is)
 
     go : Dec (evaluation s l .number ≡ 0) → evaluation s l .steps ≤ l .steps
-    go (yes h) = omega (arith, taken h, ran s l b h .within .steps)
+    go (yes h) = omega (arith, taken h, ran s l b h .enough .steps)
     go (no h) = omega (arith, answers-counted (evaluation-answers s l) h)
 
 -- "and the refusal for steps comes exactly when document 01's rules would next take a step beyond them", at the expression that would take it:

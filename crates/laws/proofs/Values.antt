@@ -1,25 +1,25 @@
 -- An invariant of evaluation. If the stream's expressions fit, so do those of the result, none has over 64 forms one inside another, and their
 -- canonical bytes have been charged; every row that the run names is a row of the stream, and it stops only with the numbers of the rules.
--- Document 01: "a value with over 64 forms one inside another", "Workspace". Assumes nothing.
+-- Document 01: "a value with over 64 forms one inside another", "Workspace", "Its value is itself". Assumes nothing.
 use Prim.Native.Nat.{ℕ, zero, suc, _+_, _≤_, _<_}
-use mathlib.Core.Path.{_≡_, refl}
+use mathlib.Core.Path.{_≡_, refl, ap}
 use mathlib.Core.List.{List, [], _∷_, _++_}
 use mathlib.Core.Bool.{false}
 use native.Mathlib.Omega.{arith}
 use lib.ListN.{length, drop, length-append}
 use Rattle.spec.specs.Expr.{if_then_else_, Atom, nil, array, int, ref, Expr, atom, form, Exprs, none, more, only, append, first, without, rows, rows-all, depth, deepest, canonical}
-use Rattle.spec.specs.Nodes.{Word, Node, leaf, branch, Nodes, empty, cons, number, number-all, elements, tail, markers}
+use Rattle.spec.specs.Nodes.{Word, Node, leaf, branch, Nodes, empty, cons, number, number-all, unnumbered, unnumbered-all, elements, tail, markers}
 use Rattle.spec.specs.Runs.{Event, step, charge, End, done, stopped, Run, stop, give, before, follow, bind}
-use Rattle.spec.specs.Plan.{Defined, value, function, Scope, Place, top, Arguments, outside, given, Here, Finish, as-form, as-definition, as-concat, as-call, Plan, refuse, leave, associate, define-function, inside, plan}
-use Rattle.spec.specs.Evaluation.{Left, complete, join, Call, one-value, finish, Meaning, in-order, ns-form, perform, eval, eval-all, run-code, top-level, standing, start, run, result}
+use Rattle.spec.specs.Plan.{Defined, value, function, Scope, Within, top, Arguments, outside, passed, Here, Finish, as-form, as-definition, as-concat, as-call, Plan, refuse, leave, associate, define-function, inside, plan}
+use Rattle.spec.specs.Evaluation.{Left, entering, complete, join, one-value, Call, finish, Meaning, in-order, perform, eval, eval-all, run-code, top-level, start, run, result}
 use Rattle.laws.specs.Demands.{Bytes}
-use Rattle.laws.specs.Holding.{beyond, in-list}
+use Rattle.laws.specs.Holding.{onward, in-list}
 use Rattle.laws.specs.Sanity.{RowsBelow, rule-number, RuleNumber, Proper}
 use Rattle.laws.proofs.Basics.{impossible, by-test}
 use Rattle.laws.proofs.Fits.{bytes-append, Fits, FitsExpr, FitsAll}
 use Rattle.laws.proofs.Canonical.{canonical-append}
 use Rattle.laws.proofs.Runs.{charges, charges-append}
-use Rattle.laws.proofs.Walk.{Rule, refuses, own, defined, argument, others, associates, defines, names, joins, forms, calls, calls-subst, rule}
+use Rattle.laws.proofs.Walk.{Rule, refuses, own, defined, argument, others, associates, defines-function, defines-value, joins, forms, calls, calls-subst, rule}
 use Rattle.laws.proofs.Singles.{EachDefined, look-up-each, complete-cases}
 
 -- values that fit and have at most 64 forms one inside another
@@ -65,6 +65,18 @@ not-rule n p q = impossible (cc)
 abbrev Ends : {A : Type 0} → (ℕ → ℕ → Type 0) → (A → Type 0) → End A → Type 0
 Ends S P (done a) = P a
 Ends S P (stopped w r) = S w r
+
+-- "Its value is itself": without its row numbers, an expression is as it was before it had them
+mutual
+  unfolding number unnumbered
+
+  pub unnumbered-number : (r : ℕ) (e : Expr) → unnumbered (number r e) ≡ e
+  unnumbered-number r (atom a) = refl
+  unnumbered-number r (form es) = ap form (unnumbered-number-all (r + 1) es)
+
+  pub unnumbered-number-all : (r : ℕ) (es : Exprs) → unnumbered-all (number-all r es) ≡ es
+  unnumbered-number-all r none = refl
+  unnumbered-number-all r (more e es) = rw (unnumbered-number r e, unnumbered-number-all (r + rows e) es)
 
 -- What is so in a stream of so many rows
 module _ (bound : ℕ) where
@@ -124,6 +136,17 @@ module _ (bound : ℕ) where
     number-all-fits r none h f = tt
     number-all-fits r (more e es) h f = (number-fits r e (omega arith) (f .0), number-all-fits (r + rows e) es (omega arith) (f .1))
 
+  mutual
+    unfolding unnumbered
+
+    unnumbered-fits : (e : Node) → FitsNode e → FitsExpr (unnumbered e)
+    unnumbered-fits (leaf r a) f = f .1
+    unnumbered-fits (branch r es) f = unnumbered-all-fits es (f .1)
+
+    pub unnumbered-all-fits : (es : Nodes) → FitsNodes es → FitsAll (unnumbered-all es)
+    unnumbered-all-fits empty f = tt
+    unnumbered-all-fits (cons e es) f = (unnumbered-fits e (f .0), unnumbered-all-fits es (f .1))
+
   tail-fits : (es : Nodes) → FitsNodes es → FitsNodes (tail es)
   tail-fits empty f = tt
   tail-fits (cons e es) f = f .1
@@ -143,7 +166,7 @@ module _ (bound : ℕ) where
 
   abbrev SoundArguments : Arguments → Type 0
   SoundArguments outside = Unit {0}
-  SoundArguments (given vs) = Sound vs
+  SoundArguments (passed vs) = Sound vs
 
   abbrev pub SoundHere : Here → Type 0
   SoundHere h = SoundScope (h .scope) × SoundArguments (h .arguments)
@@ -159,7 +182,7 @@ module _ (bound : ℕ) where
   abbrev SoundPlan : Plan → Type 0
   SoundPlan (refuse w) = RuleNumber w
   SoundPlan (leave vs) = Sound vs
-  SoundPlan (associate m n id) = FitsAll (ns-form m n id)
+  SoundPlan (associate vs k) = FitsAll vs
   SoundPlan (define-function d) = SoundDefined (d .content)
   SoundPlan (inside k p f) = SoundFinish f
 
@@ -169,9 +192,9 @@ module _ (bound : ℕ) where
   rule-sound h (defined {m = m} {n} t) f s = rw t at (look-up-each SoundDefined m n (h .scope) (s .0)) .0
   rule-sound h (argument {n = n} {vs = vs} t l) f s = first-sound 1 (without n vs) (without-sound n vs (rw t at (s .1)))
   rule-sound h (others {n = n} {vs = vs} t l) f s = without-sound n vs (rw t at (s .1))
-  rule-sound h (associates may) f s = (((omega arith, omega arith, omega arith), (f .1 .1 .0 .1, (f .1 .1 .1 .0 .1, tt))), tt)
-  rule-sound h (defines {v = v} may t) f s = tail-fits (elements v) (elements-fit v (f .1 .1 .1 .0))
-  rule-sound h (names may t) f s = tt
+  rule-sound h (associates {es = es} may) f s = (unnumbered-all-fits es (f .1), tt)
+  rule-sound h (defines-function {v = v} may t) f s = tail-fits (elements v) (elements-fit v (f .1 .1 .1 .0))
+  rule-sound h (defines-value may t) f s = tt
   rule-sound h (joins t u) f s = tt
   rule-sound h forms f s = tt
   rule-sound h (calls {m = m} {n} t) f s = rw t at (look-up-each SoundDefined m n (h .scope) (s .0))
@@ -181,7 +204,7 @@ module _ (bound : ℕ) where
   plan-sound e h f s = rule-sound h (rule h e) f s
 
   -- a call's code, and the definitions that it sees
-  pub call-sound : (e : Node) (h : Here) (k : ℕ) (p : Place) (code : Nodes) (scope : Scope) → plan e h ≡ inside k p (as-call code scope)
+  pub call-sound : (e : Node) (h : Here) (k : ℕ) (p : Within) (code : Nodes) (scope : Scope) → plan e h ≡ inside k p (as-call code scope)
       → FitsNode e → SoundHere h → FitsNodes code × SoundScope scope
   call-sound e h k p code scope q f s = rw q at (plan-sound e h f s)
 
@@ -263,10 +286,10 @@ module _ (bound : ℕ) where
     unfolding canonical
     perform-sound r ms h (refuse w) q v m s = stop-goes v q
     perform-sound r ms h (leave vs) q v m s = complete-sound r vs h q (v .0) s
-    perform-sound r ms h (associate k n id) q v m s = complete-sound r (ns-form k n id) _ q v s
+    perform-sound r ms h (associate vs k) q v m s = complete-sound r vs _ q v s
     perform-sound r ms h (define-function d) q v m s = give-goes (none-sound, ((v, s .0), s .1), omega arith)
     perform-sound r ms h (inside k p f) q v m s =
-        after-goes (in-order-sound (drop k ms) (standing p h) (drop-sound k ms m) s) λ left l. finish-sound r h f (left .values) q v (l .0) s
+        after-goes (in-order-sound (drop k ms) (entering p h) (drop-sound k ms m) s) λ left l. finish-sound r h f (left .values) q v (l .0) s
 
     mutual
       unfolding eval
@@ -288,17 +311,17 @@ module _ (bound : ℕ) where
       in-order-sound (eval-all (run-code k) code) h (eval-all-sound (run-code k) (run-code-sound k) code f) s
 
   module _ (k : ℕ) where
-    in-list-sound : (es : Nodes) (p : Place) (h : Here) → FitsNodes es → SoundHere h → Goes SoundLeft (in-list (run-code k) es p h)
+    in-list-sound : (es : Nodes) (h : Here) → FitsNodes es → SoundHere h → Goes SoundLeft (in-list (run-code k) es h)
     unfolding in-list canonical
-    in-list-sound empty p h f s = give-goes (none-sound, s, omega arith)
-    in-list-sound (cons e es) p h f s =
-        bind-goes (eval-sound (run-code k) (run-code-sound k) e (f .0) (standing p h) s)
-        λ left l. bind-goes (in-list-sound es (beyond e p) (left .here) (f .1) (l .1))
+    in-list-sound empty h f s = give-goes (none-sound, s, omega arith)
+    in-list-sound (cons e es) h f s =
+        bind-goes (eval-sound (run-code k) (run-code-sound k) e (f .0) h s)
+        λ left l. bind-goes (in-list-sound es (onward e (left .here)) (f .1) (l .1))
         λ later m. give-goes (append-sound (left .values) (later .values) (l .0) (m .0), m .1, both-paid _ _ (left .values) (later .values) (l .2) (m .2))
 
-    pub in-list-left : (es : Nodes) (p : Place) (h : Here) (left : Left) → FitsNodes es → SoundHere h → in-list (run-code k) es p h .end ≡ done left
+    pub in-list-left : (es : Nodes) (h : Here) (left : Left) → FitsNodes es → SoundHere h → in-list (run-code k) es h .end ≡ done left
         → Sound (left .values) × SoundHere (left .here)
-    in-list-left es p h left f s q = let l = rw q at (in-list-sound es p h f s .holds) in (l .0, l .1)
+    in-list-left es h left f s q = let l = rw q at (in-list-sound es h f s .holds) in (l .0, l .1)
 
   -- the result of the top level, too
   abbrev SoundResult : List Event → List Exprs → Type 0
@@ -308,7 +331,7 @@ module _ (bound : ℕ) where
   unfolding top-level result canonical
   top-level-sound earlier empty h f s = give-goes (none-sound, omega arith)
   top-level-sound earlier (cons e es) h f s =
-      bind-goes (eval-sound (run-code 32) (run-code-sound 32) e (f .0) (standing (top earlier) h) s)
+      bind-goes (eval-sound (run-code 32) (run-code-sound 32) e (f .0) (entering (top earlier) h) s)
       λ left l. bind-goes (top-level-sound (markers e ++ earlier) es (left .here) (f .1) (l .1))
       λ ls k. give-goes (append-sound (left .values) (result ls) (l .0) (k .0), both-paid _ _ (left .values) (result ls) (l .2) (k .1))
 

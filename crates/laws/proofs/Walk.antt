@@ -7,9 +7,9 @@ use mathlib.Core.Bool.{Bool, true, false, _||_}
 use lib.ListN.{length}
 use lib.Dec.{eqb, ltb, leb}
 use borrow.Author.Tests.{ltb-true, ltb-false, leb-true, leb-false, eqb-false, not-false}
-use Rattle.spec.specs.Expr.{if_then_else_, same, some, Atom, nil, array, int, ref, atom, Exprs, only, size, first, without}
-use Rattle.spec.specs.Nodes.{core, Word, ns, define, concat, subst, arg, rest, plain, is, word, Node, leaf, branch, Nodes, empty, cons, elements, tail, head-word, headed-by}
-use Rattle.spec.specs.Plan.{value, function, Scope, Found, latest, nothing, look-up, Place, top, element, inner, Arguments, outside, given, Here, as-form, as-definition, as-concat, as-call, Plan, refuse, leave, associate, define-function, inside, expect-one, expect-two, expect-ref, expect-array, expect-int, plan-ns, plan-define, plan-definition, plan-arg, plan-rest, plan-head, plan-other, plan-form, plan-reference, plan-atom, plan}
+use Rattle.spec.specs.Expr.{if_then_else_, same, some, Atom, nil, array, int, ref, atom, form, Exprs, only, size, first, without}
+use Rattle.spec.specs.Nodes.{core, Word, ns, define, concat, subst, arg, rest, plain, is, word, Node, leaf, branch, Nodes, empty, cons, unnumbered-all, elements, tail, head-word, headed-by}
+use Rattle.spec.specs.Plan.{value, function, Scope, Found, latest, nothing, look-up, Within, top, element, inner, Arguments, outside, passed, Here, as-form, as-definition, as-concat, as-call, Plan, refuse, leave, associate, define-function, inside, expect-one, expect-two, expect-ref, expect-array, expect-int, clash, plan-ns, plan-definition, plan-define, plan-arg, plan-rest, plan-head, plan-other, plan-form, plan-reference, plan-atom, plan}
 use Rattle.laws.specs.Sanity.{RuleNumber}
 use Rattle.laws.proofs.Basics.{impossible, by-test, both-false}
 
@@ -23,7 +23,7 @@ three r x a b = branch r (cons x (cons a (cons b empty)))
 -- an `ns` form with this marker and id passes its tests
 pub record MayAssociate (h : Here) (m : ℕ) (id : List ℕ) : Type 0 where
   pub earlier : List ℕ
-  pub place : h .place ≡ top earlier
+  pub within : h .within ≡ top earlier
   pub not-empty : 1 ≤ length id
   pub not-long : length id ≤ 64
   pub marker : m ≡ core → ⊥
@@ -33,7 +33,7 @@ pub record MayAssociate (h : Here) (m : ℕ) (id : List ℕ) : Type 0 where
 
 -- a `define` form with this marker and value does
 pub record MayDefine (h : Here) (m : ℕ) (v : Node) : Type 0 where
-  pub place : h .place ≡ inner → ⊥
+  pub within : h .within ≡ inner → ⊥
   pub no-rest : headed-by rest v ≡ false
   pub marker : m ≡ core → ⊥
   pub associated : some (λ k. eqb (k .marker) m) (h .namespaces) ≡ true
@@ -45,15 +45,14 @@ pub data Rule (h : Here) : Word → Node → Plan → Type 0 where
   -- an atom that is no reference, or a reference with no definition
   own : {r : ℕ} {a : Atom} → Rule h plain (leaf r a) (leave (only (atom a)))
   defined : {r m n : ℕ} {vs : Exprs} {behind : Scope} → look-up m n (h .scope) ≡ latest (value vs) behind → Rule h plain (leaf r (ref m n)) (leave vs)
-  argument : {r q n : ℕ} {x : Node} {vs : Exprs} → h .arguments ≡ given vs → n < size vs
+  argument : {r q n : ℕ} {x : Node} {vs : Exprs} → h .arguments ≡ passed vs → n < size vs
       → Rule h arg (two r x (leaf q (int n))) (leave (first 1 (without n vs)))
-  others : {r q n : ℕ} {x : Node} {vs : Exprs} → h .arguments ≡ given vs → n ≤ size vs → Rule h rest (two r x (leaf q (int n))) (leave (without n vs))
-  associates : {r q k m n : ℕ} {x : Node} {id : List ℕ} → MayAssociate h m id
-      → Rule h ns (three r x (leaf q (ref m n)) (leaf k (array id))) (associate m n id)
-  -- a function, and a value
-  defines : {r q m n : ℕ} {x v : Node} → MayDefine h m v → headed-by subst v ≡ true
+  others : {r q n : ℕ} {x : Node} {vs : Exprs} → h .arguments ≡ passed vs → n ≤ size vs → Rule h rest (two r x (leaf q (int n))) (leave (without n vs))
+  associates : {r m : ℕ} {es : Nodes} {id : List ℕ} → MayAssociate h m id
+      → Rule h ns (branch r es) (associate (only (form (unnumbered-all es))) (record { marker = m; id = id }))
+  defines-function : {r q m n : ℕ} {x v : Node} → MayDefine h m v → headed-by subst v ≡ true
       → Rule h define (three r x (leaf q (ref m n)) v) (define-function (record { marker = m; name = n; content = function (tail (elements v)) }))
-  names : {r q m n : ℕ} {x v : Node} → MayDefine h m v → headed-by subst v ≡ false
+  defines-value : {r q m n : ℕ} {x v : Node} → MayDefine h m v → headed-by subst v ≡ false
       → Rule h define (three r x (leaf q (ref m n)) v) (inside 2 inner (as-definition m n))
   joins : {r : ℕ} {x a b : Node} → headed-by rest a ≡ false → headed-by rest b ≡ false → Rule h concat (three r x a b) (inside 1 inner as-concat)
   forms : {r : ℕ} {es : Nodes} → Rule h plain (branch r es) (inside 0 element as-form)
@@ -64,62 +63,59 @@ pub data Rule (h : Here) : Word → Node → Plan → Type 0 where
       → Rule h plain (branch r (cons (branch q fs) es)) (inside 1 inner (as-call (tail fs) (h .scope)))
 
 module _ (h : Here) where
-  -- 11, or the elements that are expected; `at` puts one in its place
-  module _ (w : Word) where
-    expect-one-rule : (r : ℕ) (es : Nodes) {f : Node → Plan} → ((x a : Node) → Rule h w (two r x a) (f a)) → Rule h w (branch r es) (expect-one es f)
-    expect-one-rule r empty s = refuses refl
-    expect-one-rule r (cons x empty) s = refuses refl
-    expect-one-rule r (cons x (cons a empty)) s = s x a
-    expect-one-rule r (cons x (cons a (cons b es))) s = refuses refl
+  -- 11, or the elements that are expected
+  module _ (w : Word) {e : Node} where
+    expect-one-rule : (es : Nodes) {f : Node → Plan} → ((x a : Node) → es ≡ cons x (cons a empty) → Rule h w e (f a)) → Rule h w e (expect-one es f)
+    expect-one-rule empty s = refuses refl
+    expect-one-rule (cons x empty) s = refuses refl
+    expect-one-rule (cons x (cons a empty)) s = s x a refl
+    expect-one-rule (cons x (cons a (cons b es))) s = refuses refl
 
-    expect-two-rule : (r : ℕ) (es : Nodes) {f : Node → Node → Plan} → ((x a b : Node) → Rule h w (three r x a b) (f a b))
-        → Rule h w (branch r es) (expect-two es f)
-    expect-two-rule r empty s = refuses refl
-    expect-two-rule r (cons x empty) s = refuses refl
-    expect-two-rule r (cons x (cons a empty)) s = refuses refl
-    expect-two-rule r (cons x (cons a (cons b empty))) s = s x a b
-    expect-two-rule r (cons x (cons a (cons b (cons c es)))) s = refuses refl
+    expect-two-rule : (es : Nodes) {f : Node → Node → Plan} → ((x a b : Node) → es ≡ cons x (cons a (cons b empty)) → Rule h w e (f a b))
+        → Rule h w e (expect-two es f)
+    expect-two-rule empty s = refuses refl
+    expect-two-rule (cons x empty) s = refuses refl
+    expect-two-rule (cons x (cons a empty)) s = refuses refl
+    expect-two-rule (cons x (cons a (cons b empty))) s = s x a b refl
+    expect-two-rule (cons x (cons a (cons b (cons c es)))) s = refuses refl
 
-    expect-ref-rule : (at : Node → Node) (a : Node) {f : ℕ → ℕ → Plan} → ((q m n : ℕ) → Rule h w (at (leaf q (ref m n))) (f m n))
-        → Rule h w (at a) (expect-ref a f)
-    expect-ref-rule at (leaf q nil) s = refuses refl
-    expect-ref-rule at (leaf q (array bs)) s = refuses refl
-    expect-ref-rule at (leaf q (int v)) s = refuses refl
-    expect-ref-rule at (leaf q (ref m n)) s = s q m n
-    expect-ref-rule at (branch q es) s = refuses refl
+    expect-ref-rule : (a : Node) {f : ℕ → ℕ → Plan} → ((q m n : ℕ) → a ≡ leaf q (ref m n) → Rule h w e (f m n)) → Rule h w e (expect-ref a f)
+    expect-ref-rule (leaf q nil) s = refuses refl
+    expect-ref-rule (leaf q (array bs)) s = refuses refl
+    expect-ref-rule (leaf q (int v)) s = refuses refl
+    expect-ref-rule (leaf q (ref m n)) s = s q m n refl
+    expect-ref-rule (branch q es) s = refuses refl
 
-    expect-array-rule : (at : Node → Node) (a : Node) {f : List ℕ → Plan} → ((q : ℕ) (bs : List ℕ) → Rule h w (at (leaf q (array bs))) (f bs))
-        → Rule h w (at a) (expect-array a f)
-    expect-array-rule at (leaf q nil) s = refuses refl
-    expect-array-rule at (leaf q (array bs)) s = s q bs
-    expect-array-rule at (leaf q (int v)) s = refuses refl
-    expect-array-rule at (leaf q (ref m n)) s = refuses refl
-    expect-array-rule at (branch q es) s = refuses refl
+    expect-array-rule : (a : Node) {f : List ℕ → Plan} → ((bs : List ℕ) → Rule h w e (f bs)) → Rule h w e (expect-array a f)
+    expect-array-rule (leaf q nil) s = refuses refl
+    expect-array-rule (leaf q (array bs)) s = s bs
+    expect-array-rule (leaf q (int v)) s = refuses refl
+    expect-array-rule (leaf q (ref m n)) s = refuses refl
+    expect-array-rule (branch q es) s = refuses refl
 
-    expect-int-rule : (at : Node → Node) (a : Node) {f : ℕ → Plan} → ((q n : ℕ) → Rule h w (at (leaf q (int n))) (f n)) → Rule h w (at a) (expect-int a f)
-    expect-int-rule at (leaf q nil) s = refuses refl
-    expect-int-rule at (leaf q (array bs)) s = refuses refl
-    expect-int-rule at (leaf q (int n)) s = s q n
-    expect-int-rule at (leaf q (ref m n)) s = refuses refl
-    expect-int-rule at (branch q es) s = refuses refl
+    expect-int-rule : (a : Node) {f : ℕ → Plan} → ((q n : ℕ) → a ≡ leaf q (int n) → Rule h w e (f n)) → Rule h w e (expect-int a f)
+    expect-int-rule (leaf q nil) s = refuses refl
+    expect-int-rule (leaf q (array bs)) s = refuses refl
+    expect-int-rule (leaf q (int n)) s = s q n refl
+    expect-int-rule (leaf q (ref m n)) s = refuses refl
+    expect-int-rule (branch q es) s = refuses refl
 
     -- a refusal where the test holds
-    unless : {e : Node} (v : ℕ) (b : Bool) {p : Plan} → RuleNumber v → (b ≡ false → Rule h w e p) → Rule h w e (if b then refuse v else p)
-    unless {e} v b n s = by-test (Rule h w e) b (λ t. refuses n) s
+    unless : (v : ℕ) (b : Bool) {p : Plan} → RuleNumber v → (b ≡ false → Rule h w e p) → Rule h w e (if b then refuse v else p)
+    unless v b n s = by-test (Rule h w e) b (λ t. refuses n) s
 
-  ns-rule : (r : ℕ) (es : Nodes) (p : Place) → h .place ≡ p → Rule h ns (branch r es) (plan-ns p es h)
+  ns-rule : (r : ℕ) (es : Nodes) (p : Within) → h .within ≡ p → Rule h ns (branch r es) (plan-ns p es h)
   ns-rule r es element t = refuses refl
   ns-rule r es inner t = refuses refl
   ns-rule r es (top earlier) t =
-      expect-two-rule ns r es λ x a b. expect-ref-rule ns (λ c. three r x c b) a λ q m n.
-      expect-array-rule ns (λ c. three r x (leaf q (ref m n)) c) b λ k id.
-      unless ns 11 _ refl λ size. unless ns 14 _ refl λ fresh. unless ns 19 _ refl λ few.
+      expect-two-rule ns es λ x a b t′. expect-ref-rule ns a λ q m n u. expect-array-rule ns b λ id.
+      unless ns 11 _ refl λ size. unless ns 14 (clash m id earlier (h .namespaces)) refl λ fresh. unless ns 19 _ refl λ few.
       let long = both-false (ltb (length id) 1) (ltb 64 (length id)) size in
       let new = both-false (eqb m core || some (eqb m) earlier) _ fresh in
       let unborne = both-false (eqb m core) _ (new .0) in
-      associates (record {
+      associates {id = id} (record {
         earlier = earlier;
-        place = t;
+        within = t;
         not-empty = ltb-false (length id) 1 (long .0);
         not-long = ltb-false 64 (length id) (long .1);
         marker = eqb-false m core (unborne .0);
@@ -128,21 +124,21 @@ module _ (h : Here) where
         few = leb-false 64 (length (h .namespaces)) few;
       })
 
-  definition-rule : (r : ℕ) (es : Nodes) → (h .place ≡ inner → ⊥) → Rule h define (branch r es) (plan-definition es h)
+  definition-rule : (r : ℕ) (es : Nodes) → (h .within ≡ inner → ⊥) → Rule h define (branch r es) (plan-definition es h)
   definition-rule r es p =
-      expect-two-rule define r es λ x a v. expect-ref-rule define (λ c. three r x c v) a λ q m n.
+      expect-two-rule define es λ x a v t. expect-ref-rule define a λ q m n u.
       unless define 11 _ refl λ one. unless define 14 _ refl λ known. unless define 19 _ refl λ few.
       let associated = both-false (eqb m core) _ known in
       let may : MayDefine h m v = record {
-        place = p;
+        within = p;
         no-rest = one;
         marker = eqb-false m core (associated .0);
         associated = not-false _ (associated .1);
         few = leb-false 256 (length (h .scope)) few;
       } in
-      by-test (Rule h define (three r x (leaf q (ref m n)) v)) (headed-by subst v) (defines may) (names may)
+      rw (t, u) (by-test (Rule h define (three r x (leaf q (ref m n)) v)) (headed-by subst v) (defines-function may) (defines-value may))
 
-  define-rule : (r : ℕ) (es : Nodes) (p : Place) → h .place ≡ p → Rule h define (branch r es) (plan-define p es h)
+  define-rule : (r : ℕ) (es : Nodes) (p : Within) → h .within ≡ p → Rule h define (branch r es) (plan-define p es h)
   define-rule r es (top earlier) t = definition-rule r es (λ i. impossible (cc))
   define-rule r es element t = definition-rule r es (λ i. impossible (cc))
   define-rule r es inner t = refuses refl
@@ -150,17 +146,17 @@ module _ (h : Here) where
   concat-rule : (r : ℕ) (es : Nodes) → Rule h concat (branch r es) (plan-form concat es h)
   unfolding plan-form
   concat-rule r es =
-      expect-two-rule concat r es λ x a b. unless concat 11 _ refl λ k.
-      let no-rest = both-false (headed-by rest a) _ k in joins (no-rest .0) (no-rest .1)
+      expect-two-rule concat es λ x a b t. rw t (unless concat 11 _ refl λ k.
+      let no-rest = both-false (headed-by rest a) _ k in joins (no-rest .0) (no-rest .1))
 
   arg-rule : (r q n : ℕ) (x : Node) (vs : Arguments) → h .arguments ≡ vs → Rule h arg (two r x (leaf q (int n))) (plan-arg n vs)
   arg-rule r q n x outside t = refuses refl
-  arg-rule r q n x (given vs) t =
+  arg-rule r q n x (passed vs) t =
       by-test (Rule h arg (two r x (leaf q (int n)))) (ltb n (size vs)) (λ k. argument t (ltb-true n (size vs) k)) (λ k. refuses refl)
 
   rest-rule : (r q n : ℕ) (x : Node) (vs : Arguments) → h .arguments ≡ vs → Rule h rest (two r x (leaf q (int n))) (plan-rest n vs)
   rest-rule r q n x outside t = refuses refl
-  rest-rule r q n x (given vs) t =
+  rest-rule r q n x (passed vs) t =
       by-test (Rule h rest (two r x (leaf q (int n)))) (leb n (size vs)) (λ k. others t (leb-true n (size vs) k)) (λ k. refuses refl)
 
   head-rule : (r q m n : ℕ) (es : Nodes) (f : Found) → look-up m n (h .scope) ≡ f → Rule h plain (branch r (cons (leaf q (ref m n)) es)) (plan-head f)
@@ -179,12 +175,12 @@ module _ (h : Here) where
 
   form-rule : (w : Word) (r : ℕ) (es : Nodes) → Rule h w (branch r es) (plan-form w es h)
   unfolding plan-form
-  form-rule ns r es = ns-rule r es (h .place) refl
-  form-rule define r es = define-rule r es (h .place) refl
+  form-rule ns r es = ns-rule r es (h .within) refl
+  form-rule define r es = define-rule r es (h .within) refl
   form-rule concat r es = concat-rule r es
   form-rule subst r es = refuses refl
-  form-rule arg r es = expect-one-rule arg r es λ x a. expect-int-rule arg (λ c. two r x c) a λ q n. arg-rule r q n x (h .arguments) refl
-  form-rule rest r es = expect-one-rule rest r es λ x a. expect-int-rule rest (λ c. two r x c) a λ q n. rest-rule r q n x (h .arguments) refl
+  form-rule arg r es = expect-one-rule arg es λ x a t. expect-int-rule arg a λ q n u. rw (t, u) (arg-rule r q n x (h .arguments) refl)
+  form-rule rest r es = expect-one-rule rest es λ x a t. expect-int-rule rest a λ q n u. rw (t, u) (rest-rule r q n x (h .arguments) refl)
   form-rule plain r es = other-rule r es
 
   reference-rule : (r m n : ℕ) (f : Found) → look-up m n (h .scope) ≡ f → Rule h plain (leaf r (ref m n)) (plan-reference f (ref m n))

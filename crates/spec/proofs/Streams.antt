@@ -8,7 +8,7 @@ use mathlib.Core.List.{List, [], _∷_, _++_, map}
 use lib.ListN.{length, replicate}
 use Rattle.spec.specs.Expr.{same, some, array, int, ref, atom, form, Exprs, none, only, append, size, first, without, rows, depth, array-head, marker-bytes, atom-bytes, bytes}
 use Rattle.spec.specs.Reading.{take-bytes, natural, plain-length, length-expr, marker, name, read-atom, token, tokens, check, lists, ends, rows-of, next-row, numbers, Reading, refused, readable, read}
-use Rattle.spec.specs.Nodes.{among, word, number, markers}
+use Rattle.spec.specs.Nodes.{among, word, number, unnumbered, markers}
 use Rattle.spec.specs.Runs.{hold-events, steps-in}
 use Rattle.spec.specs.Plan.{look-up, plan-form, plan-atom}
 use Rattle.spec.specs.Evaluation.{join, in-order, eval, run-code, top-level, run, result}
@@ -71,7 +71,7 @@ expected (q gives a) = a
 
 -- all that a table's answers are computed by
 answers : List Case → List Told
-unfolding asked answer with-table with-output meant before same some append size first without rows depth array-head marker-bytes atom-bytes bytes take-bytes natural plain-length length-expr marker name read-atom token tokens check lists ends rows-of next-row numbers read among word number markers hold-events steps-in look-up plan-form plan-atom join in-order eval run-code top-level run result put-out run-answer Read Write Evaluate item Item
+unfolding asked answer with-table with-output meant before same some append size first without rows depth array-head marker-bytes atom-bytes bytes take-bytes natural plain-length length-expr marker name read-atom token tokens check lists ends rows-of next-row numbers read among word number unnumbered markers hold-events steps-in look-up plan-form plan-atom join in-order eval run-code top-level run result put-out run-answer Read Write Evaluate item Item
 answers cases = map asked cases
 
 -- a refusal, with the buffer of so many numbers unchanged

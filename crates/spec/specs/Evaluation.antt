@@ -4,10 +4,10 @@ use mathlib.Core.List.{List, [], _∷_, _++_}
 use mathlib.Core.Bool.{Bool, false, not}
 use lib.ListN.{length, drop}
 use lib.Dec.{ltb}
-use Rattle.spec.specs.Expr.{if_then_else_, array, ref, if-array, atom, form, Exprs, none, more, only, append, canonical, deepest}
-use Rattle.spec.specs.Nodes.{core, ns, rest, name-byte, Node, leaf, branch, Nodes, empty, cons, number-all, headed-by, markers}
+use Rattle.spec.specs.Expr.{if_then_else_, array, if-array, atom, form, Exprs, none, more, only, append, canonical, deepest}
+use Rattle.spec.specs.Nodes.{rest, Node, leaf, branch, Nodes, empty, cons, number-all, headed-by, markers}
 use Rattle.spec.specs.Runs.{step, charge, Run, give, stop, before, bind}
-use Rattle.spec.specs.Plan.{Definition, value, Namespace, Place, top, inner, outside, given, Here, Finish, as-form, as-definition, as-concat, as-call, Plan, refuse, leave, associate, define-function, inside, plan}
+use Rattle.spec.specs.Plan.{Definition, value, Namespace, Within, top, inner, outside, passed, Here, Finish, as-form, as-definition, as-concat, as-call, Plan, refuse, leave, associate, define-function, inside, plan}
 
 -- What an evaluated expression leaves: values (one; of `define` none, of `rest` any number), and where what follows in the same list is
 -- evaluated.
@@ -15,17 +15,17 @@ pub record Left : Type 0 where
   pub values : Exprs
   pub here : Here
 
--- the same as standing in another place
-abbrev pub standing : Place → Here → Here
-standing p h = record { place = p; scope = h .scope; namespaces = h .namespaces; arguments = h .arguments }
+-- the same, in another list
+abbrev pub entering : Within → Here → Here
+entering p h = record { within = p; scope = h .scope; namespaces = h .namespaces; arguments = h .arguments }
 
 -- "associates ref's marker with id"
 abbrev pub add-namespace : Namespace → Here → Here
-add-namespace n h = record { place = h .place; scope = h .scope; namespaces = n ∷ h .namespaces; arguments = h .arguments }
+add-namespace n h = record { within = h .within; scope = h .scope; namespaces = n ∷ h .namespaces; arguments = h .arguments }
 
 -- "The definition is visible to what follows in the same list, at all depths"
 abbrev pub add-definition : Definition → Here → Here
-add-definition d h = record { place = h .place; scope = d ∷ h .scope; namespaces = h .namespaces; arguments = h .arguments }
+add-definition d h = record { within = h .within; scope = d ∷ h .scope; namespaces = h .namespaces; arguments = h .arguments }
 
 -- "It leaves nothing in the result."
 abbrev pub defining : Definition → Here → Run Left
@@ -62,7 +62,7 @@ finish call r h as-form vs = complete r (only (form vs)) h
 finish call r h (as-definition m n) vs = defining (record { marker = m; name = n; content = value vs }) h
 finish call r h as-concat vs = join r [] vs h
 finish call r h (as-call code scope) vs =
-    bind (call r code (record { place = inner; scope = scope; namespaces = h .namespaces; arguments = given vs }))
+    bind (call r code (record { within = inner; scope = scope; namespaces = h .namespaces; arguments = passed vs }))
     λ left. complete r (if one-value code then left .values else only (form (left .values))) h
 
 -- an expression's evaluation, where it is evaluated
@@ -76,24 +76,24 @@ in-order (e ∷ es) h =
     bind (e h) λ left. bind (in-order es (left .here))
     λ later. give (record { values = append (left .values) (later .values); here = later .here })
 
--- "( ns ref id ) [..] Its value is itself"
-abbrev pub ns-form : ℕ → ℕ → List ℕ → Exprs
-ns-form m n id = only (form (more (atom (ref core (name-byte ns))) (more (atom (ref m n)) (only (atom (array id))))))
-
--- a plan carried out for the expression at row r, whose elements' evaluations are es; a definition "ends with that list"
+-- a plan carried out for the expression at row r, whose elements' evaluations are ms; a definition "ends with that list"
 abbrev pub perform : Call → ℕ → List Meaning → Here → Plan → Run Left
-perform call r es h (refuse w) = stop w r
-perform call r es h (leave vs) = complete r vs h
-perform call r es h (associate m n i) = complete r (ns-form m n i) (add-namespace (record { marker = m; id = i }) h)
-perform call r es h (define-function d) = defining d h
-perform call r es h (inside k p f) = bind (in-order (drop k es) (standing p h)) λ left. finish call r h f (left .values)
+perform call r ms h (refuse w) = stop w r
+perform call r ms h (leave vs) = complete r vs h
+perform call r ms h (associate vs k) = complete r vs (add-namespace k h)
+perform call r ms h (define-function d) = defining d h
+perform call r ms h (inside k p f) = bind (in-order (drop k ms) (entering p h)) λ left. finish call r h f (left .values)
+
+-- the rule for a form at a row, with these elements and their evaluations
+abbrev pub formed : Call → ℕ → Nodes → List Meaning → Meaning
+formed call r es ms h = perform call r ms h (plan (branch r es) h)
 
 -- "Steps: one for each expression evaluated, at its start. Unevaluated heads, the insides of `ns`, a define's ref, n, and a `subst` form as head
 -- or as a define's value cost none."
 unfoldable mutual
   pub eval : Call → Node → Meaning
   eval call (leaf r a) h = before (step r) (perform call r [] h (plan (leaf r a) h))
-  eval call (branch r es) h = before (step r) (perform call r (eval-all call es) h (plan (branch r es) h))
+  eval call (branch r es) h = before (step r) (formed call r es (eval-all call es) h)
 
   pub eval-all : Call → Nodes → List Meaning
   eval-all call empty = []
@@ -108,12 +108,12 @@ run-code (suc k) r code h = in-order (eval-all (run-code k) code) h
 unfoldable pub top-level : List ℕ → Nodes → Here → Run (List Exprs)
 top-level earlier empty h = give []
 top-level earlier (cons e es) h =
-    bind (eval (run-code 32) e (standing (top earlier) h))
+    bind (eval (run-code 32) e (entering (top earlier) h))
     λ left. bind (top-level (markers e ++ earlier) es (left .here)) λ ls. give (left .values ∷ ls)
 
 -- before the first expression
 abbrev pub start : Here
-start = record { place = top []; scope = []; namespaces = []; arguments = outside }
+start = record { within = top []; scope = []; namespaces = []; arguments = outside }
 
 -- the run of a stream's meaning
 unfoldable pub run : Exprs → Run (List Exprs)

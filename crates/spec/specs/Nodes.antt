@@ -20,26 +20,43 @@ pub data Word : Type 0 where
   ns define concat subst arg rest : Word
   plain : Word
 
--- a function name's byte; for `plain` no byte
-abbrev pub name-byte : Word → ℕ
-name-byte ns = 0x06
-name-byte define = 0x09
-name-byte concat = 0x0A
-name-byte subst = 0x0B
-name-byte arg = 0x0C
-name-byte rest = 0x0D
-name-byte plain = 0x100
+-- the words numbered in order, which only serves to compare them
+abbrev pub order : Word → ℕ
+order ns = 0
+order define = 1
+order concat = 2
+order subst = 3
+order arg = 4
+order rest = 5
+order plain = 6
 
 abbrev pub is : Word → Word → Bool
-is v w = eqb (name-byte v) (name-byte w)
+is v w = eqb (order v) (order w)
 
-unfoldable pub among : List Word → ℕ → Word
-among [] name = plain
-among (w ∷ ws) name = if eqb (name-byte w) name then w else among ws name
+-- a function name: its byte, and what it is
+pub record Name : Type 0 where
+  pub byte : ℕ
+  pub word : Word
+
+-- "ns 06, define 09 (all from 000); concat 0A, subst 0B, arg 0C, rest 0D (from 001)"
+abbrev pub names : List Name
+names =
+    record { byte = 0x06; word = ns } ∷
+    record { byte = 0x09; word = define } ∷
+    record { byte = 0x0A; word = concat } ∷
+    record { byte = 0x0B; word = subst } ∷
+    record { byte = 0x0C; word = arg } ∷
+    record { byte = 0x0D; word = rest } ∷
+    []
+
+-- the word of a name byte, by a table
+unfoldable pub among : List Name → ℕ → Word
+among [] n = plain
+among (k ∷ ks) n = if eqb (k .byte) n then k .word else among ks n
 
 -- the word of a reference's marker and name
 unfoldable pub word : ℕ → ℕ → Word
-word m n = if eqb m core then among (ns ∷ define ∷ concat ∷ subst ∷ arg ∷ rest ∷ []) n else plain
+word m n = if eqb m core then among names n else plain
 
 mutual
   pub data Node : Type 0 where
@@ -58,6 +75,16 @@ unfoldable mutual
   pub number-all : ℕ → Exprs → Nodes
   number-all r none = empty
   number-all r (more e es) = cons (number r e) (number-all (r + rows e) es)
+
+-- an expression without its row numbers
+unfoldable mutual
+  pub unnumbered : Node → Expr
+  unnumbered (leaf r a) = atom a
+  unnumbered (branch r es) = form (unnumbered-all es)
+
+  pub unnumbered-all : Nodes → Exprs
+  unnumbered-all empty = none
+  unnumbered-all (cons e es) = more (unnumbered e) (unnumbered-all es)
 
 -- a form's elements, and what follows its head
 abbrev pub elements : Node → Nodes

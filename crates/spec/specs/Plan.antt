@@ -2,11 +2,11 @@
 -- expression: 16, 13, 12, 11, 14, 15, 19 (for define, before its value)". Nothing here evaluates; a call's 19 follows its arguments. Assumes nothing.
 use Prim.Native.Nat.{ℕ}
 use mathlib.Core.List.{List, [], _∷_}
-use mathlib.Core.Bool.{not, _&&_, _||_}
+use mathlib.Core.Bool.{Bool, not, _&&_, _||_}
 use lib.ListN.{length}
 use lib.Dec.{ltb, leb, eqb}
-use Rattle.spec.specs.Expr.{if_then_else_, same, some, Atom, nil, array, int, ref, if-ref, if-array, atom, Exprs, only, size, first, without}
-use Rattle.spec.specs.Nodes.{core, Word, ns, define, concat, subst, arg, rest, plain, is, word, Node, leaf, branch, Nodes, empty, cons, elements, tail, head-word, headed-by}
+use Rattle.spec.specs.Expr.{if_then_else_, same, some, Atom, nil, array, int, ref, if-ref, if-array, atom, form, Exprs, only, size, first, without}
+use Rattle.spec.specs.Nodes.{core, Word, ns, define, concat, subst, arg, rest, plain, is, word, Node, leaf, branch, Nodes, empty, cons, unnumbered-all, elements, tail, head-word, headed-by}
 
 -- Where an expression is evaluated
 
@@ -38,21 +38,22 @@ pub record Namespace : Type 0 where
   pub marker : ℕ
   pub id : List ℕ
 
-pub data Place : Type 0 where
-  -- an element of the top level, with the markers borne by references earlier in the stream
-  top : List ℕ → Place
-  -- an element of a data form
-  element : Place
-  -- elsewhere: directly in code, an argument, an operand, a define's value
-  inner : Place
+-- what list an expression is an element of
+pub data Within : Type 0 where
+  -- the top level, with the markers borne by references earlier in the stream
+  top : List ℕ → Within
+  -- a data form
+  element : Within
+  -- another: code, arguments, operands, a define's value
+  inner : Within
 
 -- the arguments of "the nearest enclosing code"
 pub data Arguments : Type 0 where
   outside : Arguments
-  given : Exprs → Arguments
+  passed : Exprs → Arguments
 
 pub record Here : Type 0 where
-  pub place : Place
+  pub within : Within
   pub scope : Scope
   pub namespaces : List Namespace
   pub arguments : Arguments
@@ -73,12 +74,12 @@ pub data Plan : Type 0 where
   refuse : ℕ → Plan
   -- these are its values
   leave : Exprs → Plan
-  -- an ns form with this marker, name and id
-  associate : ℕ → ℕ → List ℕ → Plan
+  -- these are its values, and a marker is associated
+  associate : Exprs → Namespace → Plan
   -- a define that makes a function
   define-function : Definition → Plan
-  -- evaluate the elements without the first so many, as standing in this place, then finish
-  inside : ℕ → Place → Finish → Plan
+  -- evaluate the elements without the first so many, as those of such a list, then finish
+  inside : ℕ → Within → Finish → Plan
 
 -- 11: "wrong number or kind of elements in ns, define, concat, arg, rest, counted as written"
 
@@ -113,32 +114,39 @@ expect-int (branch r es) f = refuse 11
 
 -- The rules
 
--- "( ns ref id ), top level only: associates ref's marker with id, an array of 1 to 64 bytes. [..] nothing inside is evaluated." 13: "ns or
--- define elsewhere than allowed". 14: "marker 0x20, marker borne by a reference earlier in the stream, or id used before". 19: "more than
--- [..] 64 namespaces".
-abbrev pub plan-ns : Place → Nodes → Here → Plan
+-- 14: "ns: marker 0x20, marker borne by a reference earlier in the stream, or id used before"
+abbrev pub clash : ℕ → List ℕ → List ℕ → List Namespace → Bool
+clash m id earlier known = eqb m core || some (eqb m) earlier || some (λ k. same (k .id) id) known
+
+-- "( ns ref id ), top level only: associates ref's marker with id, an array of 1 to 64 bytes. Its value is itself; nothing inside is
+-- evaluated." 13: "ns or define elsewhere than allowed". 19: "more than [..] 64 namespaces".
+abbrev pub plan-ns : Within → Nodes → Here → Plan
 plan-ns element es h = refuse 13
 plan-ns inner es h = refuse 13
 plan-ns (top earlier) es h =
     expect-two es λ a b. expect-ref a λ m n. expect-array b λ id.
     if ltb (length id) 1 || ltb 64 (length id) then refuse 11 else
-    if eqb m core || some (eqb m) earlier || some (λ k. same (k .id) id) (h .namespaces) then refuse 14 else
-    if leb 64 (length (h .namespaces)) then refuse 19 else associate m n id
+    if clash m id earlier (h .namespaces) then refuse 14 else
+    if leb 64 (length (h .namespaces)) then refuse 19 else
+    associate (only (form (unnumbered-all es))) (record { marker = m; id = id })
+
+-- 14: "define: marker 0x20 or not yet associated"
+abbrev pub undefinable : ℕ → List Namespace → Bool
+undefinable m known = eqb m core || not (some (λ k. eqb (k .marker) m) known)
 
 -- "( define ref value ) [..]. The value is evaluated where it stands, so it can't see itself. If it is a form headed by `subst`, ref becomes a
--- function: its code". 11: "a `rest` form is a wrong kind for define's value". 14: "marker 0x20 or not yet associated". 19: "more than 256
--- definitions visible (shadowed ones count)".
+-- function: its code". 11: "a `rest` form is a wrong kind for define's value". 19: "more than 256 definitions visible (shadowed ones count)".
 abbrev pub plan-definition : Nodes → Here → Plan
 plan-definition es h =
     expect-two es λ a v. expect-ref a λ m n.
     if headed-by rest v then refuse 11 else
-    if eqb m core || not (some (λ k. eqb (k .marker) m) (h .namespaces)) then refuse 14 else
+    if undefinable m (h .namespaces) then refuse 14 else
     if leb 256 (length (h .scope)) then refuse 19 else
     if headed-by subst v then define-function (record { marker = m; name = n; content = function (tail (elements v)) }) else
     inside 2 inner (as-definition m n)
 
 -- "as an element of the top level or of a data form"; else 13
-abbrev pub plan-define : Place → Nodes → Here → Plan
+abbrev pub plan-define : Within → Nodes → Here → Plan
 plan-define (top earlier) es h = plan-definition es h
 plan-define element es h = plan-definition es h
 plan-define inner es h = refuse 13
@@ -150,7 +158,7 @@ plan-concat es = expect-two es λ a b. if headed-by rest a || headed-by rest b t
 -- 15: "arg or rest outside code"
 abbrev pub in-code : Arguments → (Exprs → Plan) → Plan
 in-code outside f = refuse 15
-in-code (given vs) f = f vs
+in-code (passed vs) f = f vs
 
 -- "( arg n ): argument n." 15: "n not below [..] the number of arguments"
 abbrev pub plan-arg : ℕ → Arguments → Plan
@@ -179,8 +187,8 @@ plan-other (cons (branch r fs) es) scope = if is (head-word fs) subst then insid
 
 -- 12: "`subst` form where a value is wanted"
 unfoldable pub plan-form : Word → Nodes → Here → Plan
-plan-form ns es h = plan-ns (h .place) es h
-plan-form define es h = plan-define (h .place) es h
+plan-form ns es h = plan-ns (h .within) es h
+plan-form define es h = plan-define (h .within) es h
 plan-form concat es h = plan-concat es
 plan-form subst es h = refuse 12
 plan-form arg es h = expect-one es λ a. expect-int a λ n. plan-arg n (h .arguments)

@@ -39,15 +39,15 @@ bind run f = follow (run .events) (run .end) f
 -- A run held to a number of steps and a workspace
 
 pub data Held (A : Type 0) : Type 0 where
-  -- the result, the steps and the workspace that are left
-  kept : A → ℕ → ℕ → Held A
+  -- the result that was reached, the steps and the workspace that are left
+  reached : A → ℕ → ℕ → Held A
   -- a refusal's number and row
   ceased : ℕ → ℕ → Held A
 
 -- "If they accept or refuse within the steps given, that is the answer; if they would take one more, it is 16", at the "expression next to
 -- start". 17: "workspace charge doesn't fit". "Charges are never given back."
 unfoldable pub hold-events : {A : Type 0} → ℕ → ℕ → List Event → End A → Held A
-hold-events steps work [] (done a) = kept a steps work
+hold-events steps work [] (done a) = reached a steps work
 hold-events steps work [] (stopped w r) = ceased w r
 hold-events steps work (step r ∷ es) end =
     let on = hold-events (steps - 1) work es end in
@@ -61,7 +61,7 @@ hold steps work run = hold-events steps work (run .events) (run .end)
 
 -- how it ends, whatever is left
 abbrev pub forget : {A : Type 0} → Held A → End A
-forget (kept a steps work) = done a
+forget (reached a steps work) = done a
 forget (ceased w r) = stopped w r
 
 abbrev pub cut : {A : Type 0} → ℕ → ℕ → List Event → End A → End A
