@@ -13,25 +13,25 @@ use Rattle.spec.specs.Evaluation.{add-namespace, complete, Call, ns-form, perfo
 use Rattle.laws.proofs.Holding.{hold-give, hold-stop, hold-step, hold-step-none, hold-complete, hold-complete-deep, hold-complete-none}
 use Rattle.laws.proofs.Singles.{plan-counted}
 use Rattle.laws.proofs.Values.{plan-sound}
-use Rattle.evaluator.specs.Stands.{LeafAt, NodeAt}
-use Rattle.evaluator.specs.Entries.{function-bit, Entry}
-use Rattle.evaluator.specs.Named.{named, Named}
-use Rattle.evaluator.specs.Completed.{Fitting, Stand, Incomplete, too-deep, too-long, Completed, stepped}
-use Rattle.evaluator.specs.Planned.{function-at, Planned, refuses, owns, repeats, associates, defines, goes-inside}
+use Rattle.rows.specs.Rows.{LeafAt, NodeAt}
+use Rattle.rules.specs.Scope.{function-bit, Entry}
+use Rattle.rules.specs.Associations.{named, Named}
+use Rattle.workspace.specs.Completed.{Fitting, Stand, Incomplete, too-deep, too-long, Completed, stepped}
+use Rattle.rules.specs.Planned.{function-at, Planned, refuses, owns, repeats, associates, defines, goes-inside}
 use Rattle.evaluator.specs.Listed.{LeftDefinition, LeftBy, GoesInside, Begun, Beginning, as-left}
 use Rattle.evaluator.specs.Performed.{one-named, Performing, going}
-use Rattle.evaluator.specs.declared.values.State.{State}
-use Rattle.evaluator.specs.declared.values.Out.{Out}
-use Rattle.evaluator.specs.declared.values.Out.the-variants.{Done, Refused}
-use Rattle.evaluator.specs.declared.plan.Stands.{Stands}
-use Rattle.evaluator.specs.declared.plan.Code.{Code}
-use Rattle.evaluator.specs.declared.plan.After.{After}
-use Rattle.evaluator.specs.declared.plan.After.the-variants.{Form, Define, Concat, Call as Enters}
-use Rattle.evaluator.specs.declared.plan.Task.{Task}
-use Rattle.evaluator.specs.declared.plan.Task.the-variants.{Refuse, Own, Again, Ns, Function, Inside}
-use Rattle.evaluator.proofs.Nodes.{node-row}
-use Rattle.evaluator.proofs.Named.{named-added}
-use Rattle.evaluator.proofs.Places.{untouched-none}
+use Rattle.workspace.specs.declared.values.State.{State}
+use Rattle.workspace.specs.declared.values.Out.{Out}
+use Rattle.workspace.specs.declared.values.Out.the-variants.{Done, Refused}
+use Rattle.rules.specs.declared.here.Within.{Stands}
+use Rattle.rules.specs.declared.here.Frame.{Code}
+use Rattle.rules.specs.declared.plan.After.{After}
+use Rattle.rules.specs.declared.plan.After.the-variants.{Form, Define, Concat, Call as Enters}
+use Rattle.rules.specs.declared.plan.Task.{Task}
+use Rattle.rules.specs.declared.plan.Task.the-variants.{Refuse, Own, Again, Ns, Function, Inside}
+use Rattle.rows.proofs.Nodes.{node-row}
+use Rattle.rules.proofs.Linking.{named-added}
+use Rattle.workspace.proofs.Areas.{untouched-none}
 
 -- Values completed
 

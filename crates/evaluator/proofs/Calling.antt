@@ -13,21 +13,22 @@ use Rattle.spec.specs.Plan.{Scope as Definitions, inner, given, Here, as-call}
 use Rattle.spec.specs.Evaluation.{Left, complete, one-value, finish, run-code}
 use Rattle.laws.specs.Holding.{and-hold, in-list}
 use Rattle.laws.proofs.Fits.{FitsAll}
-use Rattle.laws.proofs.Holding.{hold-kept, hold-code, hold-code-none}
+use Rattle.laws.proofs.Holding.{hold-reached, hold-code, hold-code-none}
 use Rattle.laws.proofs.Singles.{in-list-stays}
 use Rattle.laws.proofs.Values.{in-list-left}
-use Rattle.evaluator.specs.Stands.{next}
-use Rattle.evaluator.specs.Entries.{Entry}
-use Rattle.evaluator.specs.Named.{Named}
-use Rattle.evaluator.specs.Completed.{with-top, ArgumentsAt}
-use Rattle.evaluator.specs.Planned.{at-inner, in-code}
+use Rattle.rows.specs.Rows.{next}
+use Rattle.rules.specs.Scope.{Entry}
+use Rattle.rules.specs.Associations.{Named}
+use Rattle.workspace.specs.Completed.{with-top, ArgumentsAt}
+use Rattle.rules.specs.Planned.{at-inner, in-code}
 use Rattle.evaluator.specs.Listed.{Ready, Over, Met, LeftBy, Calling, Ran, CanReturn, Returned, as-left}
-use Rattle.evaluator.specs.declared.values.State.{State}
-use Rattle.evaluator.specs.declared.values.Out.{Out}
-use Rattle.evaluator.specs.declared.values.Out.the-variants.{Done, Refused}
-use Rattle.evaluator.specs.declared.plan.Stands.the-variants.{Inner}
-use Rattle.evaluator.specs.declared.plan.Code.{Code}
-use Rattle.evaluator.proofs.Places.{slice-take, stand-size, stand-part, untouched-less}
+use Rattle.workspace.specs.declared.values.State.{State}
+use Rattle.workspace.specs.declared.values.Out.{Out}
+use Rattle.workspace.specs.declared.values.Out.the-variants.{Done, Refused}
+use Rattle.rules.specs.declared.here.Within.the-variants.{Inner}
+use Rattle.rules.specs.declared.here.Frame.{Code}
+use Rattle.rows.proofs.Slices.{slice-take}
+use Rattle.workspace.proofs.Areas.{stand-size, stand-part, untouched-less}
 use Rattle.evaluator.proofs.Begins.{completed-left}
 use Rattle.evaluator.proofs.Insides.{left-from, Evaluated}
 
@@ -94,7 +95,7 @@ module _ {s t : List ℕ} {bound codes : ℕ} {w names : List ℕ} {sc : List En
 
     module _ {w₁ names₁ : List ℕ} {st₁ : State} (o : Over s t w w₁ names₁ st body-held st₁) where
       ends : in-list (run-code (codes - 1)) body inner in-body .end ≡ done (o .left)
-      ends = hold-kept (st .steps) (st .room) _ (o .left) (st₁ .steps) (st₁ .room) (o .is) .0
+      ends = hold-reached (st .steps) (st .room) _ (o .left) (st₁ .steps) (st₁ .room) (o .is) .0
 
       same-namespaces : o .left .here .namespaces ≡ h .namespaces
       same-namespaces = in-list-stays (run-code (codes - 1)) body inner in-body (o .left) ends .namespaces tt

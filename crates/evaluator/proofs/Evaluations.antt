@@ -21,22 +21,22 @@ use Rattle.laws.specs.Holding.{and-hold, in-list}
 use Rattle.laws.proofs.Basics.{impossible}
 use Rattle.laws.proofs.Reading.{Meant, read-readable, read-meant}
 use Rattle.laws.proofs.Values.{number-all-fits, run-proper}
-use Rattle.laws.proofs.Holding.{hold-bind, hold-kept, hold-ceased-row, hold-run}
+use Rattle.laws.proofs.Holding.{hold-bind, hold-reached, hold-ceased-row, hold-run}
 use Rattle.laws.proofs.Calls.{unversioned, wrong-version, runs, evaluation-answered, cut-refused, not-accepted}
-use Rattle.evaluator.specs.Stands.{cell, NodeAt, NodesAt, key-of, head-key}
-use Rattle.evaluator.specs.Entries.{Entry}
-use Rattle.evaluator.specs.Named.{Named}
-use Rattle.evaluator.specs.Planned.{Shows, no-code, at-top}
+use Rattle.rows.specs.Rows.{cell, NodeAt, NodesAt, key-of, head-key}
+use Rattle.rules.specs.Scope.{Entry}
+use Rattle.rules.specs.Associations.{Named}
+use Rattle.rules.specs.Planned.{Shows, no-code, at-top}
 use Rattle.evaluator.specs.Listed.{Ready, Over, Met}
 use Rattle.evaluator.specs.Evaluated.{HasRead, ResultStands, Ended, Evaluated}
 use Rattle.evaluator.specs.declared.Result.the-variants.{Is, Refused}
-use Rattle.evaluator.specs.declared.values.State.{State}
-use Rattle.evaluator.specs.declared.values.Out.{Out}
-use Rattle.evaluator.specs.declared.values.Out.the-variants.{Done, Refused as Stopped}
-use Rattle.evaluator.specs.declared.plan.Stands.the-variants.{Top}
-use Rattle.evaluator.proofs.Nodes.{nodes-first}
-use Rattle.evaluator.proofs.Table.{filled-nodes, filled-starts}
-use Rattle.evaluator.proofs.Keys.{key-same, HeadFits, head-fits}
+use Rattle.workspace.specs.declared.values.State.{State}
+use Rattle.workspace.specs.declared.values.Out.{Out}
+use Rattle.workspace.specs.declared.values.Out.the-variants.{Done, Refused as Stopped}
+use Rattle.rules.specs.declared.here.Within.the-variants.{Top}
+use Rattle.rows.proofs.Nodes.{nodes-first}
+use Rattle.rows.proofs.Filled.{filled-nodes, filled-starts}
+use Rattle.rows.proofs.Keys.{key-same, HeadFits, head-fits}
 
 -- The first expression
 
@@ -140,7 +140,7 @@ module _ (s t u : List ℕ) (n : ℕ) (rs : List Row) (es : Exprs) (b : Bytes s)
         go (kept ls a c) e q =
             let values : result ls ≡ over .left .values = cc in
             let left : a ≡ st .steps = cc in
-            let k = hold-kept steps (length w) (run es) ls a c e in
+            let k = hold-reached steps (length w) (run es) ls a c e in
             record {
               left = ls;
               is = ap forget e;

@@ -17,20 +17,20 @@ use Rattle.laws.proofs.Atoms.{head-bounds}
 use Rattle.laws.proofs.Fits.{FitsAll}
 use Rattle.laws.proofs.Holding.{hold-give, hold-stop}
 use Rattle.laws.proofs.Singles.{Single}
-use Rattle.evaluator.specs.Stands.{next, NodeAt, head-key}
-use Rattle.evaluator.specs.Entries.{pack, Entry}
-use Rattle.evaluator.specs.Completed.{Stand, with-top, Completed, Joined, joined, no-arrays, Defined as Moved}
-use Rattle.evaluator.specs.Planned.{CodeAt, value-at}
+use Rattle.rows.specs.Rows.{next, NodeAt, head-key}
+use Rattle.rules.specs.Scope.{pack, Entry}
+use Rattle.workspace.specs.Completed.{Stand, with-top, Completed, Joined, joined, no-arrays, Defined as Moved}
+use Rattle.rules.specs.Planned.{CodeAt, value-at}
 use Rattle.evaluator.specs.Listed.{LeftBy, NoCall, FinishedBy, by-form, by-define, by-concat, Finishing, Finished, as-left}
-use Rattle.evaluator.specs.declared.values.State.{State}
-use Rattle.evaluator.specs.declared.values.Out.{Out}
-use Rattle.evaluator.specs.declared.values.Out.the-variants.{Done}
-use Rattle.evaluator.specs.declared.plan.After.{After}
-use Rattle.evaluator.specs.declared.plan.After.the-variants.{Form, Define, Concat}
+use Rattle.workspace.specs.declared.values.State.{State}
+use Rattle.workspace.specs.declared.values.Out.{Out}
+use Rattle.workspace.specs.declared.values.Out.the-variants.{Done}
+use Rattle.rules.specs.declared.plan.After.{After}
+use Rattle.rules.specs.declared.plan.After.the-variants.{Form, Define, Concat}
 use Rattle.evaluator.specs.declared.element.Left.the-variants.{Defined}
-use Rattle.evaluator.proofs.Nodes.{MoreAt, nodes-done, nodes-more}
-use Rattle.evaluator.proofs.Keys.{headed-by-key, head-fits}
-use Rattle.evaluator.proofs.Places.{stand-size}
+use Rattle.rows.proofs.Nodes.{MoreAt, nodes-done, nodes-more}
+use Rattle.rows.proofs.Keys.{headed-by-key, head-fits}
+use Rattle.workspace.proofs.Areas.{stand-size}
 use Rattle.evaluator.proofs.Begins.{completed-left}
 
 -- Values that stand

@@ -10,26 +10,26 @@ use Rattle.spec.specs.Runs.{done, Held, hold}
 use Rattle.spec.specs.Plan.{Scope as Definitions, Place, Here, Finish, as-call, inside, plan}
 use Rattle.spec.specs.Evaluation.{Left, finish, run-code}
 use Rattle.laws.specs.Holding.{and-hold, NotTop, in-list, skip}
-use Rattle.laws.proofs.Holding.{hold-kept, hold-inside}
+use Rattle.laws.proofs.Holding.{hold-reached, hold-inside}
 use Rattle.laws.proofs.Singles.{SingleScope, call-single, in-list-single, in-list-pair, in-list-stays}
 use Rattle.laws.proofs.Values.{FitsNodes, elements-fit, call-sound, in-list-left}
-use Rattle.evaluator.specs.Stands.{next}
-use Rattle.evaluator.specs.Entries.{Entry}
-use Rattle.evaluator.specs.Named.{Named}
-use Rattle.evaluator.specs.Completed.{Untouched, with-top}
-use Rattle.evaluator.specs.Planned.{CodeAt, Shows, Placed, at-element, at-inner, Finishes, form-finishes, define-finishes, concat-finishes, call-finishes, one-more, two-more}
+use Rattle.rows.specs.Rows.{next}
+use Rattle.rules.specs.Scope.{Entry}
+use Rattle.rules.specs.Associations.{Named}
+use Rattle.workspace.specs.Completed.{Untouched, with-top}
+use Rattle.rules.specs.Planned.{CodeAt, Shows, Placed, at-element, at-inner, Finishes, form-finishes, define-finishes, concat-finishes, call-finishes, one-more, two-more}
 use Rattle.evaluator.specs.Listed.{Ready, SomeReady, Over, Met, LeftBy, GoesInside, stands-in, NoCall, FinishedBy, by-form, by-define, by-concat, Finishable, Finishing, CanFinish, Finished, Calling, CanCall, Called}
-use Rattle.evaluator.specs.declared.values.State.{State}
-use Rattle.evaluator.specs.declared.values.Out.{Out}
-use Rattle.evaluator.specs.declared.values.Out.the-variants.{Done, Refused}
-use Rattle.evaluator.specs.declared.plan.Stands.{Stands}
-use Rattle.evaluator.specs.declared.plan.Code.{Code}
-use Rattle.evaluator.specs.declared.plan.After.{After}
-use Rattle.evaluator.specs.declared.plan.After.the-variants.{Call as Enters}
+use Rattle.workspace.specs.declared.values.State.{State}
+use Rattle.workspace.specs.declared.values.Out.{Out}
+use Rattle.workspace.specs.declared.values.Out.the-variants.{Done, Refused}
+use Rattle.rules.specs.declared.here.Within.{Stands}
+use Rattle.rules.specs.declared.here.Frame.{Code}
+use Rattle.rules.specs.declared.plan.After.{After}
+use Rattle.rules.specs.declared.plan.After.the-variants.{Call as Enters}
 use Rattle.evaluator.specs.declared.element.Left.{Left as Answer}
 use Rattle.evaluator.specs.declared.element.Left.the-variants.{Values, Defined, Stopped}
-use Rattle.evaluator.proofs.Shown.{shows-kept}
-use Rattle.evaluator.proofs.Places.{untouched-then}
+use Rattle.rules.proofs.Shown.{shows-kept}
+use Rattle.workspace.proofs.Areas.{untouched-then}
 use Rattle.evaluator.proofs.Begins.{eval-step}
 use Rattle.evaluator.proofs.Turns.{Going, going-more, standing-here, held-next, going-begins}
 
@@ -182,7 +182,7 @@ module _ {s t : List ℕ} {bound codes : ℕ} {args : List ℕ} {stands : Stands
 
     module _ {w₁ names₁ : List ℕ} {st₁ : State} (o : Over s t w w₁ names₁ st′ inner-held st₁) where
       ends-inside : in-list (run-code codes) inner-nodes (i .place) here .end ≡ done (o .left)
-      ends-inside = hold-kept (st′ .steps) (st′ .room) _ (o .left) (st₁ .steps) (st₁ .room) (o .is) .0
+      ends-inside = hold-reached (st′ .steps) (st′ .room) _ (o .left) (st₁ .steps) (st₁ .room) (o .is) .0
 
       floor-inside : st₁ .floor ≡ st .floor
       floor-inside = o .floor ∙ rw (i .state)
@@ -236,7 +236,7 @@ module _ {s t : List ℕ} {bound codes : ℕ} {args : List ℕ} {stands : Stands
       inside-steps = go out met
         where
           go : (x : Out) → InsideMet x → steps-of x < st₀ .steps
-          go (Done st₁) o = omega (arith, inside-fewer, hold-kept (st′ .steps) (st′ .room) _ (o .left) (st₁ .steps) (st₁ .room) (o .is) .1)
+          go (Done st₁) o = omega (arith, inside-fewer, hold-reached (st′ .steps) (st′ .room) _ (o .left) (st₁ .steps) (st₁ .room) (o .is) .1)
           go (Refused n r) h = omega (arith, inside-fewer)
 
       -- finished without running code

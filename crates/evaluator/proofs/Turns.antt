@@ -15,22 +15,23 @@ use Rattle.spec.specs.Evaluation.{Left, standing, add-definition, eval, run-cod
 use Rattle.laws.specs.Holding.{and-hold, beyond, together, in-list}
 use Rattle.laws.proofs.Canonical.{canonical-append}
 use Rattle.laws.proofs.Prefix.{append-append}
-use Rattle.laws.proofs.Holding.{and-hold-same, and-hold-twice, hold-kept, hold-list, hold-list-empty}
+use Rattle.laws.proofs.Holding.{and-hold-same, and-hold-twice, hold-reached, hold-list, hold-list-empty}
 use Rattle.laws.proofs.Singles.{append-none, eval-stays, eval-scope}
 use Rattle.laws.proofs.Values.{FitsNode, FitsNodes, eval-sound, run-code-sound}
-use Rattle.evaluator.specs.Stands.{next, NodeAt, NodesAt}
-use Rattle.evaluator.specs.Entries.{Entry}
-use Rattle.evaluator.specs.Named.{Named}
-use Rattle.evaluator.specs.Completed.{Stand, Untouched}
-use Rattle.evaluator.specs.Planned.{Shows, ArgumentsOf, Placed, at-top, at-element, at-inner}
+use Rattle.rows.specs.Rows.{next, NodeAt, NodesAt}
+use Rattle.rules.specs.Scope.{Entry}
+use Rattle.rules.specs.Associations.{Named}
+use Rattle.workspace.specs.Completed.{Stand, Untouched}
+use Rattle.rules.specs.Planned.{Shows, ArgumentsOf, Placed, at-top, at-element, at-inner}
 use Rattle.evaluator.specs.Listed.{Ready, SomeReady, Over, LeftValues, LeftDefinition, Beginning}
-use Rattle.evaluator.specs.declared.values.State.{State}
-use Rattle.evaluator.specs.declared.plan.Stands.{Stands}
-use Rattle.evaluator.specs.declared.plan.Code.{Code}
-use Rattle.evaluator.proofs.Nodes.{MoreAt, append-nodes, markers-append, nodes-append, nodes-done, nodes-more, node-next-in}
-use Rattle.evaluator.proofs.Borne.{some-append}
-use Rattle.evaluator.proofs.Places.{slice-split, stand-none, untouched-none, untouched-less, untouched-then, stand-below}
-use Rattle.evaluator.proofs.Shown.{shows-more, shows-kept, shows-lower, arguments-kept}
+use Rattle.workspace.specs.declared.values.State.{State}
+use Rattle.rules.specs.declared.here.Within.{Stands}
+use Rattle.rules.specs.declared.here.Frame.{Code}
+use Rattle.rows.proofs.Nodes.{MoreAt, append-nodes, markers-append, nodes-append, nodes-done, nodes-more, node-next-in}
+use Rattle.rules.proofs.Borne.{some-append}
+use Rattle.rows.proofs.Slices.{slice-split}
+use Rattle.workspace.proofs.Areas.{stand-none, untouched-none, untouched-less, untouched-then, stand-below}
+use Rattle.rules.proofs.Shown.{shows-more, shows-kept, shows-lower, arguments-kept}
 
 -- Values one after the other
 
@@ -186,7 +187,7 @@ module _ {s t : List ℕ} {bound codes : ℕ} {args : List ℕ} {stands : Stands
           let order = g .stand .order in
           let order′ = stand .order in
           let size = others .size in
-          let ends = hold-kept (st .steps) (st .room) _ one (st′ .steps) (st′ .room) is in
+          let ends = hold-reached (st .steps) (st .room) _ one (st′ .steps) (st′ .room) is in
           let sound = rw (ends .0) at (eval-sound bound run (run-code-sound bound codes) (going-more .head) (fits-next .0) standing-here (r .sound) .holds) in
           let same : one .here .arguments ≡ g .here .arguments = eval-stays run (going-more .head) standing-here one (ends .0) .arguments in
           rw e (record {

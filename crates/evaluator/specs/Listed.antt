@@ -195,22 +195,22 @@ pub data Ending (s t : List ℕ) (bound codes : ℕ) (w : List ℕ) (v : View) (
   ends-called : (c : Callee) (body : Nodes) (behind : Definitions) → Calling s t bound codes w v st at c start body behind h vs
       → Ending s t bound codes w v st at start h vs (Call c) (as-call body behind)
 
-pub record SomeEnding (s t w : List ℕ) (v : View) (st : State) (at : Seen) (open : Open) : Type 0 where
+pub record SomeEnding (s t w : List ℕ) (v : View) (st : State) (at : Seen) (opened : Open) : Type 0 where
   pub bound : ℕ
   pub codes : ℕ
   pub here : Here
   pub values : Exprs
   pub finish : Finish
-  pub ends : Ending s t bound codes w v st at (open .start) here values (open .after) finish
+  pub ends : Ending s t bound codes w v st at (opened .start) here values (opened .after) finish
 
 -- if they were, there is something to finish, and what is visible is what was
 abbrev pub CanEnd : List ℕ → List ℕ → List ℕ → View → Seen → Open → Answer → Type 0
-CanEnd s t w v at open (Ended st sc) = SomeEnding s t w v st at open × (sc ≡ at .scope)
-CanEnd s t w v at open (Stopped n r) = Unit {0}
+CanEnd s t w v at opened (Ended st sc) = SomeEnding s t w v st at opened × (sc ≡ at .scope)
+CanEnd s t w v at opened (Stopped n r) = Unit {0}
 
 -- what the form leaves; a refusal inside is its answer
 abbrev pub EndedBy : List ℕ → List ℕ → List ℕ → List ℕ → View → (Scope → View) → Seen → Open → Answer → Answer → Type 0
-EndedBy s t w w′ v see at open left (Ended st sc) =
-    (bound codes : ℕ) (h : Here) (vs : Exprs) (f : Finish) → Ending s t bound codes w v st at (open .start) h vs (open .after) f
-    → LeftBy s t w w′ see (at .scope) (with-top st (st .room) (open .start)) (hold (st .steps) (st .room) (finish (run-code codes) (open .row) h f vs)) left
-EndedBy s t w w′ v see at open left (Stopped n r) = left ≡ Stopped n r
+EndedBy s t w w′ v see at opened left (Ended st sc) =
+    (bound codes : ℕ) (h : Here) (vs : Exprs) (f : Finish) → Ending s t bound codes w v st at (opened .start) h vs (opened .after) f
+    → LeftBy s t w w′ see (at .scope) (with-top st (st .room) (opened .start)) (hold (st .steps) (st .room) (finish (run-code codes) (opened .row) h f vs)) left
+EndedBy s t w w′ v see at opened left (Stopped n r) = left ≡ Stopped n r

@@ -60,19 +60,18 @@ fn perform(
     table: &[u32],
     w: &mut [u8],
     associations: &mut [u64; 64],
-    keys: &mut [u32; 256],
-    contents: &mut [u32; 256],
+    definitions: &mut [u64; 256],
     scope: Scope,
     state: State,
     task: Task,
     row: usize,
 ) -> Step
-    requires { ⌜ ((st : State) × (e : Node) × (h : Here) × (state ≡ stepped st) × Performing (now s) (now table) (now w) (view (now associations) (now keys) (now contents) scope) scope st task row e h) ⌝ }
+    requires { ⌜ ((st : State) × (e : Node) × (h : Here) × (state ≡ stepped st) × Performing (now s) (now table) (now w) (view (now associations) (now definitions) scope) scope st task row e h) ⌝ }
     ensures { λ r. ⌜ ((st : State) (run : Call) (e : Node) (h : Here) → state ≡ stepped st
-        → Performing (now (s .entry)) (now (table .entry)) (now (w .entry)) (view (now (associations .entry)) (now (keys .entry)) (now (contents .entry)) scope) scope st task row e h
-        → Begun (now (s .entry)) (now (table .entry)) (now (w .entry)) (now (w .exit)) (view (now (associations .entry)) (now (keys .entry)) (now (contents .entry)) scope)
-        (view (now (associations .exit)) (now (keys .exit)) (now (contents .exit))) scope st e h (hold (st .steps) (st .room) (eval run e h)) r)
-        × (view (now (associations .exit)) (now (keys .exit)) (now (contents .exit)) scope ≡ view (now (associations .entry)) (now (keys .entry)) (now (contents .entry)) scope) ⌝ }
+        → Performing (now (s .entry)) (now (table .entry)) (now (w .entry)) (view (now (associations .entry)) (now (definitions .entry)) scope) scope st task row e h
+        → Begun (now (s .entry)) (now (table .entry)) (now (w .entry)) (now (w .exit)) (view (now (associations .entry)) (now (definitions .entry)) scope)
+        (view (now (associations .exit)) (now (definitions .exit))) scope st e h (hold (st .steps) (st .room) (eval run e h)) r)
+        × (view (now (associations .exit)) (now (definitions .exit)) scope ≡ view (now (associations .entry)) (now (definitions .entry)) scope) ⌝ }
 {
     let left = match task {
         Task::Inside { list, after } => {
@@ -84,13 +83,13 @@ fn perform(
             let top = state.top;
             leaves(values::copied(w, state, from, to, top, row), scope)
         }
-        Task::Ns { form, association } => {
-            let more = scope.associate(associations, association);
+        Task::Ns { form, marker, id } => {
+            let more = scope.associate(associations, marker, id);
             leaves(values::itself(s, table, w, state, form), more)
         }
         Task::Function { key, code } => Left::Done {
             state,
-            scope: scope.add(keys, contents, key, code),
+            scope: scope.add(definitions, key, code),
         },
     };
     Step::Leaves(left)
@@ -103,31 +102,29 @@ pub fn begin(
     w: &mut [u8],
     associations: &mut [u64; 64],
     args: &[u32; 64],
-    keys: &mut [u32; 256],
-    contents: &mut [u32; 256],
+    definitions: &mut [u64; 256],
     here: Here,
     state: State,
     node: Node,
 ) -> Step
-    requires { ⌜ SomeBeginning (now s) (now table) (now w) (now args) (view (now associations) (now keys) (now contents) (here .scope)) state here node ⌝ }
+    requires { ⌜ SomeBeginning (now s) (now table) (now w) (now args) (view (now associations) (now definitions) (here .scope)) state here node ⌝ }
     ensures { λ r. ⌜ ((bound : ℕ) (run : Call) (e : Node) (h : Here)
-        → Beginning (now (s .entry)) (now (table .entry)) bound (now (w .entry)) (now (args .entry)) (view (now (associations .entry)) (now (keys .entry)) (now (contents .entry)) (here .scope)) state here node e h
-        → Begun (now (s .entry)) (now (table .entry)) (now (w .entry)) (now (w .exit)) (view (now (associations .entry)) (now (keys .entry)) (now (contents .entry)) (here .scope))
-        (view (now (associations .exit)) (now (keys .exit)) (now (contents .exit))) (here .scope) state e h (hold (state .steps) (state .room) (eval run e h)) r)
-        × (view (now (associations .exit)) (now (keys .exit)) (now (contents .exit)) (here .scope) ≡ view (now (associations .entry)) (now (keys .entry)) (now (contents .entry)) (here .scope)) ⌝ }
+        → Beginning (now (s .entry)) (now (table .entry)) bound (now (w .entry)) (now (args .entry)) (view (now (associations .entry)) (now (definitions .entry)) (here .scope)) state here node e h
+        → Begun (now (s .entry)) (now (table .entry)) (now (w .entry)) (now (w .exit)) (view (now (associations .entry)) (now (definitions .entry)) (here .scope))
+        (view (now (associations .exit)) (now (definitions .exit))) (here .scope) state e h (hold (state .steps) (state .room) (eval run e h)) r)
+        × (view (now (associations .exit)) (now (definitions .exit)) (here .scope) ≡ view (now (associations .entry)) (now (definitions .entry)) (here .scope)) ⌝ }
 {
     let row = node.row();
     match state.step(row) {
         Out::Refused(number, at) => Step::Leaves(Left::Refused(number, at)),
         Out::Done(stepped) => {
-            let task = plan::plan(s, table, associations, args, keys, contents, here, node);
+            let task = plan::plan(s, table, associations, args, definitions, here, node);
             perform(
                 s,
                 table,
                 w,
                 associations,
-                keys,
-                contents,
+                definitions,
                 here.scope,
                 stepped,
                 task,
@@ -140,8 +137,7 @@ pub fn begin(
 // The values of a list, from `start` up to the top, made into what the form at a row leaves.
 pub fn finish(
     w: &mut [u8],
-    keys: &mut [u32; 256],
-    contents: &mut [u32; 256],
+    definitions: &mut [u64; 256],
     scope: Scope,
     state: State,
     making: Making,
@@ -150,10 +146,10 @@ pub fn finish(
 ) -> Left
     requires { ⌜ SomeFinishing (now w) scope state making start ⌝ }
     ensures { λ r. ⌜ ((s t numbers : List ℕ) (run : Call) (h : Here) (f : Finish) (vs : Exprs) → FinishedBy scope making f → Finishing (now (w .entry)) state start f vs
-        → Sees s t (now (w .entry)) (state .floor) (view numbers (now (keys .entry)) (now (contents .entry)) scope) h
-        → LeftBy s t (now (w .entry)) (now (w .exit)) (view numbers (now (keys .exit)) (now (contents .exit))) scope (with-top state (state .room) start)
+        → Sees s t (now (w .entry)) (state .floor) (view numbers (now (definitions .entry)) scope) h
+        → LeftBy s t (now (w .entry)) (now (w .exit)) (view numbers (now (definitions .exit))) scope (with-top state (state .room) start)
         (hold (state .steps) (state .room) (finish run row h f vs)) r)
-        × ((numbers : List ℕ) → view numbers (now (keys .exit)) (now (contents .exit)) scope ≡ view numbers (now (keys .entry)) (now (contents .entry)) scope) ⌝ }
+        × ((numbers : List ℕ) → view numbers (now (definitions .exit)) scope ≡ view numbers (now (definitions .entry)) scope) ⌝ }
 {
     match making {
         Making::Form => leaves(made::wrapped(w, state, start, start, row), scope),
@@ -163,7 +159,7 @@ pub fn finish(
             let part = packed::pack(stored.floor, state.floor);
             Left::Done {
                 state: stored,
-                scope: scope.add(keys, contents, key, part),
+                scope: scope.add(definitions, key, part),
             }
         }
     }

@@ -84,9 +84,7 @@ fn evaluate_all(s: &[u8], table: &[u32], rows: usize, w: &mut [u8], steps: u64) 
 {
     let mut associations = [0u64; 64];
     let args = [0u32; 64];
-    let none = [0u32; 256];
-    let mut keys = none;
-    let mut contents = none;
+    let mut definitions = [0u64; 256];
     let room = w.len();
     let state = State {
         steps,
@@ -105,8 +103,7 @@ fn evaluate_all(s: &[u8], table: &[u32], rows: usize, w: &mut [u8], steps: u64) 
         w,
         &mut associations,
         &args,
-        &mut keys,
-        &mut contents,
+        &mut definitions,
         Here::start(),
         state,
         all,

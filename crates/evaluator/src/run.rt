@@ -37,17 +37,16 @@ pub fn list(
     w: &mut [u8],
     associations: &mut [u64; 64],
     args: &[u32; 64],
-    keys: &mut [u32; 256],
-    contents: &mut [u32; 256],
+    definitions: &mut [u64; 256],
     mut here: Here,
     mut state: State,
     form: Form,
 ) -> Left
-    requires { ⌜ SomeReady (now s) (now table) (now w) (now args) (view (now associations) (now keys) (now contents) (here .scope)) state here form ⌝ }
+    requires { ⌜ SomeReady (now s) (now table) (now w) (now args) (view (now associations) (now definitions) (here .scope)) state here form ⌝ }
     ensures { λ r. ⌜ ((bound codes : ℕ) (es : Nodes) (h : Here)
-        → Ready (now (s .entry)) (now (table .entry)) bound codes (now (w .entry)) (now (args .entry)) (view (now (associations .entry)) (now (keys .entry)) (now (contents .entry)) (here .scope)) state here form es h
+        → Ready (now (s .entry)) (now (table .entry)) bound codes (now (w .entry)) (now (args .entry)) (view (now (associations .entry)) (now (definitions .entry)) (here .scope)) state here form es h
         → Met (now (w .entry)) (now (w .exit)) (here .scope) state (hold (state .steps) (state .room) (in-list (run-code codes) es h)) r)
-        × (view (now (associations .exit)) (now (keys .exit)) (now (contents .exit)) (here .scope) ≡ view (now (associations .entry)) (now (keys .entry)) (now (contents .entry)) (here .scope)) ⌝ }
+        × (view (now (associations .exit)) (now (definitions .exit)) (here .scope) ≡ view (now (associations .entry)) (now (definitions .entry)) (here .scope)) ⌝ }
 {
     let outer = here.scope;
     let floor = state.floor;
@@ -56,7 +55,17 @@ pub fn list(
     while row < end {
         let start = state.top;
         let node = forms::at(table, row);
-        let left = match element::begin(s, table, w, associations, args, keys, contents, here, state, node) {
+        let left = match element::begin(
+            s,
+            table,
+            w,
+            associations,
+            args,
+            definitions,
+            here,
+            state,
+            node,
+        ) {
             Step::Leaves(done) => done,
             Step::Inside {
                 state: inner,
@@ -64,9 +73,19 @@ pub fn list(
                 after,
             } => {
                 let there = here.entering(after.within());
-                let ended = list(s, table, w, associations, args, keys, contents, there, inner, part);
-                let open = Open { row, start, after };
-                finish(s, table, w, associations, keys, contents, here, ended, open)
+                let ended = list(
+                    s,
+                    table,
+                    w,
+                    associations,
+                    args,
+                    definitions,
+                    there,
+                    inner,
+                    part,
+                );
+                let opened = Open { row, start, after };
+                finish(s, table, w, associations, definitions, here, ended, opened)
             }
         };
         match left {
@@ -92,28 +111,45 @@ fn finish(
     table: &[u32],
     w: &mut [u8],
     associations: &mut [u64; 64],
-    keys: &mut [u32; 256],
-    contents: &mut [u32; 256],
+    definitions: &mut [u64; 256],
     here: Here,
     ended: Left,
-    open: Open,
+    opened: Open,
 ) -> Left
-    requires { ⌜ CanEnd (now s) (now table) (now w) (view (now associations) (now keys) (now contents) (here .scope)) here open ended ⌝ }
-    ensures { λ r. ⌜ EndedBy (now (s .entry)) (now (table .entry)) (now (w .entry)) (now (w .exit)) (view (now (associations .entry)) (now (keys .entry)) (now (contents .entry)) (here .scope))
-        (view (now (associations .exit)) (now (keys .exit)) (now (contents .exit))) here open r ended
-        × (view (now (associations .exit)) (now (keys .exit)) (now (contents .exit)) (here .scope) ≡ view (now (associations .entry)) (now (keys .entry)) (now (contents .entry)) (here .scope)) ⌝ }
+    requires { ⌜ CanEnd (now s) (now table) (now w) (view (now associations) (now definitions) (here .scope)) here opened ended ⌝ }
+    ensures { λ r. ⌜ EndedBy (now (s .entry)) (now (table .entry)) (now (w .entry)) (now (w .exit)) (view (now (associations .entry)) (now (definitions .entry)) (here .scope))
+        (view (now (associations .exit)) (now (definitions .exit))) here opened r ended
+        × (view (now (associations .exit)) (now (definitions .exit)) (here .scope) ≡ view (now (associations .entry)) (now (definitions .entry)) (here .scope)) ⌝ }
 {
     match ended {
         Left::Refused(number, row) => Left::Refused(number, row),
         Left::Done { state, scope } => {
-            let after = open.after;
+            let after = opened.after;
             match after {
                 After::Make(making) => {
-                    element::finish(w, keys, contents, scope, state, making, open.start, open.row)
+                    element::finish(
+                        w,
+                        definitions,
+                        scope,
+                        state,
+                        making,
+                        opened.start,
+                        opened.row,
+                    )
                 }
                 After::Call(callee) => {
                     let at = here.showing(scope);
-                    call(s, table, w, associations, keys, contents, at, state, callee, open)
+                    call(
+                        s,
+                        table,
+                        w,
+                        associations,
+                        definitions,
+                        at,
+                        state,
+                        callee,
+                        opened,
+                    )
                 }
             }
         }
@@ -126,38 +162,46 @@ fn call(
     table: &[u32],
     w: &mut [u8],
     associations: &mut [u64; 64],
-    keys: &[u32; 256],
-    contents: &[u32; 256],
+    definitions: &[u64; 256],
     here: Here,
     state: State,
     callee: Callee,
-    open: Open,
+    opened: Open,
 ) -> Left
-    requires { ⌜ SomeCalling (now s) (now table) (now w) (view (now associations) (now keys) (now contents) (here .scope)) state here callee (open .start) ⌝ }
+    requires { ⌜ SomeCalling (now s) (now table) (now w) (view (now associations) (now definitions) (here .scope)) state here callee (opened .start) ⌝ }
     ensures { λ r. ⌜ ((bound codes : ℕ) (body : Nodes) (behind : Definitions) (h : Here) (vs : Exprs)
-        → Calling (now (s .entry)) (now (table .entry)) bound codes (now (w .entry)) (view (now (associations .entry)) (now (keys .entry)) (now (contents .entry)) (here .scope)) state here callee (open .start) body behind h vs
-        → LeftBy (now (s .entry)) (now (table .entry)) (now (w .entry)) (now (w .exit)) (view (now (associations .exit)) (now (keys .entry)) (now (contents .entry))) (here .scope)
-        (with-top state (state .room) (open .start)) (hold (state .steps) (state .room) (finish (run-code codes) (open .row) h (as-call body behind) vs)) r)
-        × (view (now (associations .exit)) (now (keys .entry)) (now (contents .entry)) (here .scope) ≡ view (now (associations .entry)) (now (keys .entry)) (now (contents .entry)) (here .scope)) ⌝ }
+        → Calling (now (s .entry)) (now (table .entry)) bound codes (now (w .entry)) (view (now (associations .entry)) (now (definitions .entry)) (here .scope)) state here callee (opened .start) body behind h vs
+        → LeftBy (now (s .entry)) (now (table .entry)) (now (w .entry)) (now (w .exit)) (view (now (associations .exit)) (now (definitions .entry))) (here .scope)
+        (with-top state (state .room) (opened .start)) (hold (state .steps) (state .room) (finish (run-code codes) (opened .row) h (as-call body behind) vs)) r)
+        × (view (now (associations .exit)) (now (definitions .entry)) (here .scope) ≡ view (now (associations .entry)) (now (definitions .entry)) (here .scope)) ⌝ }
 {
     if 32 <= here.frame.depth {
-        return Left::Refused(19, open.row);
+        return Left::Refused(19, opened.row);
     }
     let mut args = [0u32; 64];
-    let mut inner_keys = *keys;
-    let mut inner_contents = *contents;
-    let start = open.start;
+    let mut inner = *definitions;
+    let start = opened.start;
     let top = state.top;
     let count = made::spread(&w[start..top], start, &mut args);
     let inside = here.called(callee.scope, count, top);
     let body = callee.body;
-    match list(s, table, w, associations, &args, &mut inner_keys, &mut inner_contents, inside, state, body) {
+    match list(
+        s,
+        table,
+        w,
+        associations,
+        &args,
+        &mut inner,
+        inside,
+        state,
+        body,
+    ) {
         Left::Refused(number, row) => Left::Refused(number, row),
         Left::Done {
             state: ran,
             scope: _,
         } => {
-            let out = element::returned(s, table, w, ran, body, start, top, open.row);
+            let out = element::returned(s, table, w, ran, body, start, top, opened.row);
             element::leaves(out, here.scope)
         }
     }

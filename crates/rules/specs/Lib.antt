@@ -1,3 +1,4 @@
+pub mod Entries
 pub mod Scope
 pub mod Associations
 pub mod Settings

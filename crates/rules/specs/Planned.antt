@@ -15,7 +15,8 @@ use Rattle.rows.specs.declared.forms.Form.{Form}
 use Rattle.rows.specs.declared.forms.Node.{Node as Ranged}
 use Rattle.workspace.specs.Completed.{Stand, Atoms}
 use Rattle.workspace.specs.declared.values.State.{State}
-use Rattle.rules.specs.Scope.{function-bit, Entry, View, view}
+use Rattle.rules.specs.Entries.{function-bit, association}
+use Rattle.rules.specs.Scope.{View}
 use Rattle.rules.specs.Associations.{AssociationAt}
 use Rattle.rules.specs.Settings.{CodeAt, Shows, Setting}
 use Rattle.rules.specs.declared.scope.Scope.{Scope}
@@ -57,8 +58,8 @@ pub data Planned (s t w : List ℕ) (floor : ℕ) (v : View) (sc : Scope) (e : N
   refuses : (n : ℕ) → Planned s t w floor v sc e (Refuse n) (refuse n)
   owns : (a : Atom) → LeafAt s t (row-of e) a → Planned s t w floor v sc e Own (leave (only (atom a)))
   repeats : (from to : ℕ) (vs : Exprs) → Stand w from to vs → Planned s t w floor v sc e (Again from to) (leave vs)
-  associates : (f : Form) (es : Nodes) (x : ℕ) (k : Namespace) → f .row ≡ row-of e → NodesAt s t (f .first) (f .end) es → Atoms es → AssociationAt s x k
-      → length (v .associations) < 64 → Planned s t w floor v sc e (Ns f x) (associate (only (form (unnumbered-all es))) k)
+  associates : (f : Form) (es : Nodes) (marker id : ℕ) (k : Namespace) → f .row ≡ row-of e → NodesAt s t (f .first) (f .end) es → Atoms es
+      → AssociationAt s (association marker id) k → length (v .associations) < 64 → Planned s t w floor v sc e (Ns f marker id) (associate (only (form (unnumbered-all es))) k)
   defines : (m n code : ℕ) (body : Nodes) → Fits (ref m n) → length (v .definitions) < 256 → CodeAt s t code body
       → Planned s t w floor v sc e (Function (key-of m n + function-bit) code) (define-function (record { marker = m; name = n; content = function body }))
   goes-inside : (f : Form) (k : ℕ) (p : Within) (g : Finish) (after : After) → NodesAt s t (f .first) (f .end) (skip k (elements e))

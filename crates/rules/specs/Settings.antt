@@ -13,7 +13,8 @@ use Rattle.rows.specs.Rows.{next, RowAt, NodesAt, key-of}
 use Rattle.workspace.specs.Packed.{pack}
 use Rattle.workspace.specs.Completed.{Stand, ArgumentsAt}
 use Rattle.workspace.specs.declared.values.State.{State}
-use Rattle.rules.specs.Scope.{function-bit, Entry, View}
+use Rattle.rules.specs.Entries.{function-bit, key-in, content-in}
+use Rattle.rules.specs.Scope.{View}
 use Rattle.rules.specs.Associations.{Linked}
 use Rattle.rules.specs.declared.scope.Scope.{Scope}
 use Rattle.rules.specs.declared.here.Within.{Within}
@@ -48,13 +49,13 @@ pub record CodeAt (s t : List ℕ) (row : ℕ) (es : Nodes) : Type 0 where
   pub elements : NodesAt s t (row + 1) (next t row) (cons head es)
 
 -- what the scope holds of a definition: the part of the workspace, from `floor` on, where its value stands; or the row of its code
-pub data EntryAt (s t w : List ℕ) (floor : ℕ) (e : Entry) (m n : ℕ) : Defined → Type 0 where
-  value-at : {vs : Exprs} (from to : ℕ) → Fits (ref m n) → e .key ≡ key-of m n → e .content ≡ pack from to → floor ≤ from → from < to → to ≤ 65536 → Stand w from to vs
+pub data EntryAt (s t w : List ℕ) (floor e m n : ℕ) : Defined → Type 0 where
+  value-at : {vs : Exprs} (from to : ℕ) → Fits (ref m n) → key-in e ≡ key-of m n → content-in e ≡ pack from to → floor ≤ from → from < to → to ≤ 65536 → Stand w from to vs
       → EntryAt s t w floor e m n (value vs)
-  function-at : {es : Nodes} → Fits (ref m n) → e .key ≡ key-of m n + function-bit → CodeAt s t (e .content) es → EntryAt s t w floor e m n (function es)
+  function-at : {es : Nodes} → Fits (ref m n) → key-in e ≡ key-of m n + function-bit → CodeAt s t (content-in e) es → EntryAt s t w floor e m n (function es)
 
 -- the visible definitions
-unfoldable pub Shows : List ℕ → List ℕ → List ℕ → ℕ → List Entry → Definitions → Type 0
+unfoldable pub Shows : List ℕ → List ℕ → List ℕ → ℕ → List ℕ → Definitions → Type 0
 Shows s t w floor [] [] = Unit {0}
 Shows s t w floor [] (d ∷ ds) = ⊥
 Shows s t w floor (e ∷ es) [] = ⊥

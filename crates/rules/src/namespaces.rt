@@ -1,5 +1,5 @@
 // Refusal 14: which markers are borne, which ids are used. Document 01: `( ns ref id )`.
-use crate::associations;
+use crate::entries;
 use crate::scope::Scope;
 use atoms::Kind;
 use rows::compare;
@@ -16,21 +16,21 @@ ghost use Rattle.spec.specs.Expr.{same, some, Atom, if-ref};
 ghost use Rattle.spec.specs.Nodes.{Node, Nodes, markers-all};
 ghost use Rattle.spec.specs.Plan.{Namespace, clash, undefinable};
 ghost use Rattle.rows.specs.Rows.{cell, LeafAt, NodeAt, NodesAt};
-ghost use Rattle.rules.specs.Scope.{associations-in};
+ghost use Rattle.rules.specs.Scope.{latest};
 ghost use Rattle.rules.specs.Associations.{Linked, SomeLinked};
 
 // Whether an id, which is the stream's bytes from a place up to another, is used.
 fn used(s: &[u8], associations: &[u64; 64], scope: Scope, from: usize, to: usize) -> bool
     requires { ⌜ SomeLinked (now s) (now associations) scope ⌝ }
     requires { ⌜ (from ≤ to) × (to ≤ length (now s)) ⌝ }
-    ensures { λ r. ⌜ ((ks : List Namespace) → Linked (now (s .entry)) (associations-in (now (associations .entry)) scope) ks → r ≡ some (λ k. same (k .id) (slice from to (now (s .entry)))) ks) ⌝ }
+    ensures { λ r. ⌜ ((ks : List Namespace) → Linked (now (s .entry)) (latest (now (associations .entry)) (scope .associated)) ks → r ≡ some (λ k. same (k .id) (slice from to (now (s .entry)))) ks) ⌝ }
 {
     let mut i = scope.associated;
     while 0 < i {
         i -= 1;
         let other = associations[i];
-        let place = associations::place_of(other);
-        let end = place + associations::size_of(other);
+        let place = entries::place_in(other);
+        let end = place + entries::size_in(other);
         if compare::same_bytes(&s[place..end], &s[from..to]) {
             return true;
         }
@@ -78,7 +78,7 @@ pub fn clash(
     requires { ⌜ SomeLinked (now s) (now associations) scope ⌝ }
     requires { ⌜ ((es : Nodes) × NodesAt (now s) (now table) 0 row es) ⌝ }
     requires { ⌜ (from ≤ to) × (to ≤ length (now s)) ⌝ }
-    ensures { λ r. ⌜ ((ks : List Namespace) (es : Nodes) (earlier : List ℕ) → Linked (now (s .entry)) (associations-in (now (associations .entry)) scope) ks
+    ensures { λ r. ⌜ ((ks : List Namespace) (es : Nodes) (earlier : List ℕ) → Linked (now (s .entry)) (latest (now (associations .entry)) (scope .associated)) ks
         → NodesAt (now (s .entry)) (now (table .entry)) 0 row es → some (eqb marker) earlier ≡ some (eqb marker) (markers-all es)
         → r ≡ clash marker (slice from to (now (s .entry))) earlier ks) ⌝ }
 {
@@ -94,7 +94,7 @@ pub fn clash(
 // Whether nothing may be defined with a marker.
 pub fn undefinable(associations: &[u64; 64], scope: Scope, marker: u32) -> bool
     requires { ⌜ scope .associated ≤ 64 ⌝ }
-    ensures { λ r. ⌜ ((s : List ℕ) (ks : List Namespace) → Linked s (associations-in (now (associations .entry)) scope) ks → r ≡ undefinable marker ks) ⌝ }
+    ensures { λ r. ⌜ ((s : List ℕ) (ks : List Namespace) → Linked s (latest (now (associations .entry)) (scope .associated)) ks → r ≡ undefinable marker ks) ⌝ }
 {
     if marker == Core::MARKER {
         return true;

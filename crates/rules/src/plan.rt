@@ -1,11 +1,10 @@
 // What is to be done with an expression whose step is taken: the refusals 13, 12, 11, 14, 15, 19, and the rule that applies. Nothing here writes.
 // Document 01: the rules of "Evaluation".
-use crate::associations;
+use crate::entries;
 use crate::here::Frame;
 use crate::here::Here;
 use crate::here::Within;
 use crate::namespaces;
-use crate::scope;
 use crate::scope::Found;
 use crate::scope::Scope;
 use atoms::Kind;
@@ -78,7 +77,7 @@ pub enum Task {
     // Its values stand in the workspace already, from one byte up to another.
     Again { from: usize, to: usize },
     // A marker is associated, and the form, of atoms, stands for itself.
-    Ns { form: Form, association: u64 },
+    Ns { form: Form, marker: u32, id: u32 },
     // A function is defined, whose code is the form at a row.
     Function { key: u32, code: u32 },
     // The elements of a range are evaluated first.
@@ -100,14 +99,7 @@ fn call(list: Form, body: Form, scope: Scope) -> Task {
 }
 
 // The atom at a row.
-fn leaf(
-    s: &[u8],
-    table: &[u32],
-    keys: &[u32; 256],
-    contents: &[u32; 256],
-    scope: Scope,
-    row: usize,
-) -> Task {
+fn leaf(s: &[u8], table: &[u32], definitions: &[u64; 256], scope: Scope, row: usize) -> Task {
     if table::kind(table, row) != Kind::REFERENCE {
         return Task::Own;
     }
@@ -115,7 +107,7 @@ fn leaf(
     if Core::is_function(key) {
         return Task::Refuse(12);
     }
-    match scope.look_up(keys, contents, key) {
+    match scope.look_up(definitions, key) {
         Found::Value { from, to } => Task::Again { from, to },
         Found::Function {
             code: _,
@@ -152,18 +144,13 @@ fn associate(
     }
     Task::Ns {
         form,
-        association: associations::packed(marker, associations::STREAM, from, size),
+        marker,
+        id: entries::id(entries::STREAM, from, size),
     }
 }
 
 // An ns form where it is allowed.
-fn namespace(
-    s: &[u8],
-    table: &[u32],
-    associations: &[u64; 64],
-    scope: Scope,
-    form: Form,
-) -> Task {
+fn namespace(s: &[u8], table: &[u32], associations: &[u64; 64], scope: Scope, form: Form) -> Task {
     let p = form.parts(table);
     if p.count != 3 {
         return Task::Refuse(11);
@@ -181,19 +168,12 @@ fn ns(s: &[u8], table: &[u32], associations: &[u64; 64], here: Here, form: Form)
     let within = here.within;
     match within {
         Within::Top => namespace(s, table, associations, here.scope, form),
-        Within::Element => Task::Refuse(13),
-        Within::Inner => Task::Refuse(13),
+        _ => Task::Refuse(13),
     }
 }
 
 // A define form where it is allowed.
-fn definition(
-    s: &[u8],
-    table: &[u32],
-    associations: &[u64; 64],
-    scope: Scope,
-    form: Form,
-) -> Task {
+fn definition(s: &[u8], table: &[u32], associations: &[u64; 64], scope: Scope, form: Form) -> Task {
     let p = form.parts(table);
     if p.count != 3 {
         return Task::Refuse(11);
@@ -210,7 +190,7 @@ fn definition(
             scope,
             key,
             Task::Function {
-                key: key + scope::FUNCTION,
+                key: key + entries::FUNCTION,
                 code: p.third as u32,
             },
         ),
@@ -238,8 +218,7 @@ fn define(s: &[u8], table: &[u32], associations: &[u64; 64], here: Here, form: F
     let within = here.within;
     match within {
         Within::Inner => Task::Refuse(13),
-        Within::Top => definition(s, table, associations, here.scope, form),
-        Within::Element => definition(s, table, associations, here.scope, form),
+        _ => definition(s, table, associations, here.scope, form),
     }
 }
 
@@ -312,21 +291,13 @@ fn code_at(table: &[u32], row: usize) -> Form {
 }
 
 // A form whose head is a plain reference: a call of a function, or data.
-fn named(
-    s: &[u8],
-    table: &[u32],
-    keys: &[u32; 256],
-    contents: &[u32; 256],
-    scope: Scope,
-    form: Form,
-) -> Task {
+fn named(s: &[u8], table: &[u32], definitions: &[u64; 256], scope: Scope, form: Form) -> Task {
     let key = table::key(s, table, form.first);
-    match scope.look_up(keys, contents, key) {
+    match scope.look_up(definitions, key) {
         Found::Function { code, visible } => {
             call(form.rest(table), code_at(table, code), scope.up_to(visible))
         }
-        Found::Value { from: _, to: _ } => make(form, Making::Form),
-        Found::Nothing => make(form, Making::Form),
+        _ => make(form, Making::Form),
     }
 }
 
@@ -347,8 +318,7 @@ fn branch(
     table: &[u32],
     associations: &[u64; 64],
     args: &[u32; 64],
-    keys: &[u32; 256],
-    contents: &[u32; 256],
+    definitions: &[u64; 256],
     here: Here,
     form: Form,
 ) -> Task {
@@ -361,7 +331,7 @@ fn branch(
         Word::Rest => arguments(args, here.frame, number(s, table, form), true),
         Word::Plain => {
             if form.is_named(table) {
-                return named(s, table, keys, contents, here.scope, form);
+                return named(s, table, definitions, here.scope, form);
             }
             unnamed(s, table, here.scope, form)
         }
@@ -374,17 +344,16 @@ pub fn plan(
     table: &[u32],
     associations: &[u64; 64],
     args: &[u32; 64],
-    keys: &[u32; 256],
-    contents: &[u32; 256],
+    definitions: &[u64; 256],
     here: Here,
     node: Node,
 ) -> Task
-    requires { ⌜ Planning (now s) (now table) (now args) (view (now associations) (now keys) (now contents) (here .scope)) here node ⌝ }
+    requires { ⌜ Planning (now s) (now table) (now args) (view (now associations) (now definitions) (here .scope)) here node ⌝ }
     ensures { λ r. ⌜ ((e : Node) → IsNode (now (s .entry)) (now (table .entry)) node e
-        → Answers (now (s .entry)) (now (table .entry)) (now (args .entry)) (view (now (associations .entry)) (now (keys .entry)) (now (contents .entry)) (here .scope)) here e (plan e) r) ⌝ }
+        → Answers (now (s .entry)) (now (table .entry)) (now (args .entry)) (view (now (associations .entry)) (now (definitions .entry)) (here .scope)) here e (plan e) r) ⌝ }
 {
     match node {
-        Node::Leaf { row } => leaf(s, table, keys, contents, here.scope, row),
-        Node::Branch(form) => branch(s, table, associations, args, keys, contents, here, form),
+        Node::Leaf { row } => leaf(s, table, definitions, here.scope, row),
+        Node::Branch(form) => branch(s, table, associations, args, definitions, here, form),
     }
 }

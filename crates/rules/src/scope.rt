@@ -1,19 +1,19 @@
-// What is visible at a place: by value, how many definitions and how many associations are; their entries stand in lent arrays.
+// What is visible where an expression is evaluated: by value, how many definitions and how many associations are; their entries stand in lent arrays.
 // Document 01: "a list of definitions that are visible at each place".
-use crate::associations;
+use crate::entries;
 use workspace::packed;
 ghost use mathlib.Core.Path.{_≡_};
 ghost use mathlib.Core.List.{List};
 ghost use Prim.Native.Nat.{ℕ, _+_, _≤_, _<_};
-ghost use lib.ListN.{length, set};
+ghost use lib.ListN.{set};
 ghost use lib.Dec.{eqb};
 ghost use Rattle.spec.specs.Expr.{some};
 ghost use Rattle.spec.specs.Plan.{Namespace};
-ghost use Rattle.rules.specs.Scope.{function-bit, definitions-in, associations-in, find};
+ghost use Rattle.rules.specs.Entries.{function-bit, definition, association};
+ghost use Rattle.rules.specs.Scope.{latest, find};
 ghost use Rattle.rules.specs.Associations.{Linked};
 
-// Of each definition, `keys` has its key, and `contents` where its value stands or the row of its code; `associations` has each association. The
-// latest is the last.
+// Of `definitions` and of `associations` the first so many are visible; the latest is the last.
 pub struct Scope {
     pub defined: usize,
     pub associated: usize,
@@ -23,17 +23,6 @@ pub enum Found {
     Value { from: usize, to: usize },
     Function { code: usize, visible: usize },
     Nothing,
-}
-
-// Added to a function's key.
-pub const FUNCTION: u32 = 0x1000000;
-
-// Stores a number in a lent array.
-fn put(array: &mut [u32], n: usize, number: u32)
-    requires { ⌜ n < length (now array) ⌝ }
-    ensures { λ _. ⌜ now (array .exit) ≡ set (now (array .entry)) n number ⌝ }
-{
-    array[n] = number;
 }
 
 // The row of a function's code.
@@ -54,14 +43,13 @@ impl Scope {
     }
 
     // One more definition, written past those that are visible.
-    pub fn add(self, keys: &mut [u32; 256], contents: &mut [u32; 256], key: u32, content: u32) -> Self
+    pub fn add(self, definitions: &mut [u64; 256], key: u32, content: u32) -> Self
         requires { ⌜ self .defined < 256 ⌝ }
-        ensures { λ r. ⌜ (now (keys .exit) ≡ set (now (keys .entry)) (self .defined) key) × (now (contents .exit) ≡ set (now (contents .entry)) (self .defined) content)
+        ensures { λ r. ⌜ (now (definitions .exit) ≡ set (now (definitions .entry)) (self .defined) (definition key content))
             × (r ≡ record { defined = self .defined + 1; associated = self .associated }) ⌝ }
     {
         let n = self.defined;
-        put(keys, n, key);
-        put(contents, n, content);
+        definitions[n] = entries::definition(key, content);
         Self {
             defined: n + 1,
             associated: self.associated,
@@ -69,13 +57,13 @@ impl Scope {
     }
 
     // One more association, written past those that are visible.
-    pub fn associate(self, associations: &mut [u64; 64], association: u64) -> Self
+    pub fn associate(self, associations: &mut [u64; 64], marker: u32, id: u32) -> Self
         requires { ⌜ self .associated < 64 ⌝ }
-        ensures { λ r. ⌜ (now (associations .exit) ≡ set (now (associations .entry)) (self .associated) association)
+        ensures { λ r. ⌜ (now (associations .exit) ≡ set (now (associations .entry)) (self .associated) (association marker id))
             × (r ≡ record { defined = self .defined; associated = self .associated + 1 }) ⌝ }
     {
         let n = self.associated;
-        associations[n] = association;
+        associations[n] = entries::association(marker, id);
         Self {
             defined: self.defined,
             associated: n + 1,
@@ -83,24 +71,25 @@ impl Scope {
     }
 
     // The latest definition of a reference's key.
-    pub fn look_up(self, keys: &[u32; 256], contents: &[u32; 256], key: u32) -> Found
+    pub fn look_up(self, definitions: &[u64; 256], key: u32) -> Found
         requires { ⌜ (self .defined ≤ 256) × (key < function-bit) ⌝ }
-        ensures { λ r. ⌜ r ≡ find key (definitions-in (now (keys .entry)) (now (contents .entry)) self) ⌝ }
+        ensures { λ r. ⌜ r ≡ find key (latest (now (definitions .entry)) (self .defined)) ⌝ }
     {
         let mut i = self.defined;
         while 0 < i {
             i -= 1;
-            let k = keys[i];
+            let entry = definitions[i];
+            let k = entries::key_in(entry);
             if k == key {
-                let part = contents[i];
+                let part = entries::content_in(entry);
                 return Found::Value {
                     from: packed::packed_from(part),
                     to: packed::packed_to(part),
                 };
             }
-            if k == key + FUNCTION {
+            if k == key + entries::FUNCTION {
                 return Found::Function {
-                    code: code_row(contents[i]),
+                    code: code_row(entries::content_in(entry)),
                     visible: i,
                 };
             }
@@ -111,12 +100,12 @@ impl Scope {
     // Whether a marker is associated.
     pub fn has_marker(self, associations: &[u64; 64], marker: u32) -> bool
         requires { ⌜ self .associated ≤ 64 ⌝ }
-        ensures { λ r. ⌜ ((s : List ℕ) (ks : List Namespace) → Linked s (associations-in (now (associations .entry)) self) ks → r ≡ some (λ k. eqb (k .marker) marker) ks) ⌝ }
+        ensures { λ r. ⌜ ((s : List ℕ) (ks : List Namespace) → Linked s (latest (now (associations .entry)) (self .associated)) ks → r ≡ some (λ k. eqb (k .marker) marker) ks) ⌝ }
     {
         let mut i = self.associated;
         while 0 < i {
             i -= 1;
-            if associations::marker_of(associations[i]) == marker as u64 {
+            if entries::marker_in(associations[i]) == marker as u64 {
                 return true;
             }
         }

@@ -3,7 +3,7 @@ use borrow.Author.Needs.{needs}
 use mathlib.Core.Path.{_≡_, sym}
 use lib.ListN.{length, take, length-take}
 use native.Mathlib.Omega.{arith}
-use Rattle.evaluator.proofs.Table.{filled-whole}
+use Rattle.rows.proofs.Filled.{filled-whole}
 use Rattle.evaluator.proofs.Evaluations.{answer-unversioned, answer-wrong-version, answer-done, answer-stopped}
 use Rattle.evaluator.proofs.evaluate.Statement.{statement}
 use Rattle.evaluator.proofs.evaluate.Tie as tie

@@ -6,7 +6,7 @@ use Rattle.spec.specs.Nodes.{number-all}
 use Rattle.spec.specs.Plan.{top}
 use Rattle.spec.specs.Evaluation.{start}
 use Rattle.laws.proofs.Steps.{all-bytes}
-use Rattle.evaluator.specs.Entries.{entries}
+use Rattle.rules.specs.Scope.{entries}
 use Rattle.evaluator.proofs.Evaluations.{stream-ready, stream-ended}
 use Rattle.evaluator.proofs.evaluate_all.Statement.{statement}
 use Rattle.evaluator.proofs.evaluate_all.Tie as tie

@@ -2,7 +2,7 @@
 use native.Mathlib.Omega.{arith}
 use Rattle.laws.specs.Demands.{Bytes}
 use Rattle.laws.proofs.Steps.{all-bytes}
-use Rattle.evaluator.proofs.Nodes.{nodes-more}
+use Rattle.rows.proofs.Nodes.{nodes-more}
 use Rattle.evaluator.proofs.Evaluations.{versioned-none, versioned-first, stream-nodes}
 use Rattle.evaluator.proofs.is_versioned.Statement.{statement}
 use Rattle.evaluator.proofs.is_versioned.Tie as tie

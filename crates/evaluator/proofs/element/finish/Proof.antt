@@ -2,7 +2,7 @@
 use borrow.Author.Needs.{needs}
 use mathlib.Core.Path.{refl}
 use Rattle.evaluator.specs.Listed.{CanFinish}
-use Rattle.evaluator.specs.declared.values.Out.the-variants.{Done}
+use Rattle.workspace.specs.declared.values.Out.the-variants.{Done}
 use Rattle.evaluator.proofs.element.finish.Statement.{statement}
 use Rattle.evaluator.proofs.element.finish.Tie as tie
 

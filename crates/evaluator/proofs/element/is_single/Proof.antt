@@ -5,8 +5,8 @@ use Prim.Native.Nat.{_+_}
 use mathlib.Core.Path.{sym}
 use native.Mathlib.Omega.{arith}
 use Rattle.laws.proofs.Steps.{all-bytes}
-use Rattle.evaluator.specs.Stands.{next}
-use Rattle.evaluator.proofs.Nodes.{MoreAt, node-whole}
+use Rattle.rows.specs.Rows.{next}
+use Rattle.rows.proofs.Nodes.{MoreAt, node-whole}
 use Rattle.evaluator.proofs.Finishes.{code-none, code-first, code-many, code-one}
 use Rattle.evaluator.proofs.element.is_single.Statement.{statement}
 use Rattle.evaluator.proofs.element.is_single.Tie as tie

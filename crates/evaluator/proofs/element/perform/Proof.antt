@@ -3,7 +3,7 @@ use borrow.Author.Needs.{needs}
 use Prim.Native.Nat.{_<_}
 use native.Mathlib.Omega.{arith}
 use Rattle.spec.specs.Expr.{atom, only}
-use Rattle.evaluator.specs.Entries.{function-bit}
+use Rattle.rules.specs.Scope.{function-bit}
 use Rattle.evaluator.proofs.Begins.{fits-stepped, own-leaf, again-stands, ns-associates, function-small, refuse-begun, leave-begun, associate-begun, function-begun, inside-begun}
 use Rattle.evaluator.proofs.element.perform.Statement.{statement}
 use Rattle.evaluator.proofs.element.perform.Tie as tie

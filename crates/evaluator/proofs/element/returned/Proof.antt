@@ -3,7 +3,7 @@ use borrow.Author.Needs.{needs}
 use mathlib.Core.Path.{refl, sym, _∙_}
 use native.Mathlib.Omega.{arith}
 use Rattle.evaluator.specs.Listed.{CanReturn}
-use Rattle.evaluator.specs.declared.values.Out.the-variants.{Done}
+use Rattle.workspace.specs.declared.values.Out.the-variants.{Done}
 use Rattle.evaluator.proofs.element.returned.Statement.{statement}
 use Rattle.evaluator.proofs.element.returned.Tie as tie
 

@@ -11,19 +11,19 @@ use borrow.Fn.Kinds.{In}
 use borrow.Fn.PlainCycle.{Measures, is, falls, and}
 use Rattle.spec.specs.Plan.{inner}
 use Rattle.spec.specs.Evaluation.{run-code}
-use Rattle.evaluator.specs.Stands.{next}
-use Rattle.evaluator.specs.Entries.{Entry, entries}
+use Rattle.rows.specs.Rows.{next}
+use Rattle.rules.specs.Scope.{Entry, entries}
 use Rattle.evaluator.specs.Listed.{SomeReady, LeftBy, stands-in, Begun, CanCall}
-use Rattle.evaluator.specs.declared.values.State.{State}
-use Rattle.evaluator.specs.declared.plan.Stands.{Stands}
-use Rattle.evaluator.specs.declared.plan.Code.{Code}
-use Rattle.evaluator.specs.declared.scope.Scope.{Scope}
-use Rattle.evaluator.specs.declared.values.Out.{Out}
-use Rattle.evaluator.specs.declared.values.Out.the-variants.{Done}
+use Rattle.workspace.specs.declared.values.State.{State}
+use Rattle.rules.specs.declared.here.Within.{Stands}
+use Rattle.rules.specs.declared.here.Frame.{Code}
+use Rattle.rules.specs.declared.scope.Scope.{Scope}
+use Rattle.workspace.specs.declared.values.Out.{Out}
+use Rattle.workspace.specs.declared.values.Out.the-variants.{Done}
 use Rattle.evaluator.specs.declared.element.Left.{Left as Answer}
 use Rattle.evaluator.specs.declared.element.Step.{Step}
-use Rattle.evaluator.proofs.Nodes.{node-whole}
-use Rattle.evaluator.proofs.Entries.{entries-length, entries-under, entries-behind}
+use Rattle.rows.proofs.Nodes.{node-whole}
+use Rattle.rules.proofs.Latest.{entries-length, entries-under, entries-behind}
 use Rattle.evaluator.proofs.Turns.{held-list, Going, going-start, going-over, going-more, standing-here, held-next, going-begins, going-ceased, going-values, going-definition}
 use Rattle.evaluator.proofs.Insides.{steps-of, inside-some, inside-fewer, inside-can-finish, inside-finishes, inside-steps, inside-can-call, inside-calls}
 use Rattle.evaluator.proofs.Calling.{part-is, part-size, call-refused, call-ready, call-can-return, call-returns}
@@ -37,12 +37,12 @@ use Rattle.evaluator.proofs.element.begin.Reads as begin-reads
 use Rattle.evaluator.proofs.element.finish.Reads as finish-reads
 use Rattle.evaluator.proofs.element.leaves.Reads as leaves-reads
 use Rattle.evaluator.proofs.element.returned.Reads as returned-reads
-use Rattle.evaluator.proofs.forms.spread.Reads as spread-reads
-use Rattle.evaluator.proofs.rows.next.Reads as next-reads
+use Rattle.workspace.proofs.made.spread.Reads as spread-reads
+use Rattle.rows.proofs.table.next.Reads as next-reads
 use Rattle.evaluator.proofs.run.over.Reads as over-reads
 use Rattle.evaluator.proofs.run.stands_in.Reads as stands-in-reads
-use Rattle.evaluator.proofs.scope.Scope.add.Reads as add-reads
-use Rattle.evaluator.proofs.scope.Scope.back_to.Reads as back-to-reads
+use Rattle.rules.proofs.scope.Scope.add.Reads as add-reads
+use Rattle.rules.proofs.scope.Scope.back_to.Reads as back-to-reads
 use Rattle.evaluator.proofs.run.+call+list.{statement}
 use Rattle.evaluator.proofs.run.+call+list.Tie.{close}
 

@@ -1,0 +1,6 @@
+pub mod Latest
+pub mod Linking
+pub mod Borne
+pub mod Shown
+pub mod Rules
+pub mod Heads

@@ -1,0 +1,172 @@
+-- Where values stand one after the other, and that the places are packed: the law behind the loop of `forms::spread`.
+-- Document 01: "argument n", "the arguments without the first n". Assumes nothing.
+use Prim.Native.Nat.{ℕ, _+_, _-_, _≤_, _<_}
+use mathlib.Core.Path.{_≡_, refl, sym, ap, _∙_, subst}
+use mathlib.Core.List.{List, [], _++_, append-assoc, append-nil}
+use native.Mathlib.Omega.{arith}
+use lib.ListN.{length, drop, getD, set, length-drop, take-append-drop}
+use lib.Seq.{slice, take-at, drop-drop, drop-append-le, getD-set-same, getD-set-other}
+use Rattle.spec.specs.Expr.{Exprs, none, more, size, rows-all, deepest, bytes, canonical}
+use Rattle.spec.specs.Reading.{tokens, check, rows-of}
+use Rattle.spec.specs.Calls.{row-at}
+use Rattle.laws.specs.Grammar.{Spells, SpellsAll}
+use Rattle.laws.proofs.Fits.{FitsAll}
+use Rattle.laws.proofs.Tokens.{tokens-few}
+use Rattle.laws.proofs.Rows.{rows-few}
+use Rattle.laws.proofs.Reading.{check-all, canonical-expr, canonical-spells}
+use Rattle.laws.proofs.Steps.{split-size, split-rest, tokens-from}
+use Rattle.laws.proofs.Items.{all-rows-count, rows-expr, spelled-rows, expr-first}
+use Rattle.reader.specs.Passes.{RightFrom}
+use Rattle.reader.proofs.Finding.{spelled-some}
+use Rattle.rules.specs.Scope.{pack}
+use Rattle.workspace.specs.Completed.{ArgumentsAt}
+use Rattle.rows.proofs.Slices.{slice-take}
+
+-- values with these bytes that can be read
+pub record Values (s : List ℕ) (vs : Exprs) : Type 0 where
+  pub is : s ≡ canonical vs
+  pub fits : FitsAll vs
+  pub shallow : deepest vs ≤ 64
+
+spelled-few : (es : Exprs) (s : List ℕ) → SpellsAll es s → rows-all es ≤ length s
+spelled-few es s sp =
+    let counted : length (rows-of (tokens 0 0 s)) ≡ rows-all es = ap length (spelled-rows es s sp) ∙ all-rows-count es s sp 0 in
+    omega (arith, rows-few (tokens 0 0 s), tokens-few s 0 0)
+
+-- values that are left at a place are right
+values-right : (s : List ℕ) (p : ℕ) (vs : Exprs) → Values (drop p s) vs → RightFrom s p 0
+unfolding check tokens
+values-right s p vs v =
+    let spells : SpellsAll vs (drop p s) = subst (SpellsAll vs) (sym (v .is)) (canonical-spells vs (v .fits)) in
+    let few = spelled-few vs (drop p s) spells in
+    let size = length-drop p s in (
+      0,
+      ap (λ (x : List ℕ). check (length s) (length s) (tokens p 0 x) 0 0) (sym (append-nil (drop p s)))
+          ∙ check-all (length s) (length s) vs (drop p s) spells p 0 0 [] (omega (arith, v .shallow)) (omega arith),
+    )
+
+-- Of the values vs the first n are passed at place p, and where each stands is in `args`.
+pub record Passed (s : List ℕ) (base : ℕ) (args : List ℕ) (p n : ℕ) (vs : Exprs) : Type 0 where
+  pub left : Exprs
+  pub values : Values (drop p s) left
+  pub count : size vs ≡ n + size left
+  pub places : (w args′ : List ℕ) → slice base (base + length s) w ≡ s → ((i : ℕ) → i < n → getD args′ i 0 ≡ getD args i 0)
+      → ArgumentsAt w args′ n (base + p) (base + length s) left → ArgumentsAt w args′ 0 base (base + length s) vs
+
+pub record Spreading (s : List ℕ) (base : ℕ) (args : List ℕ) (p n : ℕ) : Type 0 where
+  pub inside : p ≤ length s
+  pub few : n ≤ p
+  pub some : (vs : Exprs) × Values s vs
+  pub each : (vs : Exprs) → Values s vs → Passed s base args p n vs
+
+pub spreading-start : (s : List ℕ) (base : ℕ) (args : List ℕ) → ((vs : Exprs) × Values s vs) → Spreading s base args 0 0
+spreading-start s base args some =
+    let start : base + 0 ≡ base = omega arith in
+    record {
+      inside = omega arith;
+      few = omega arith;
+      some = some;
+      each = λ vs v. record {
+        left = vs;
+        values = v;
+        count = omega arith;
+        places = λ w args′ here same at. rw start at at;
+      };
+    }
+
+-- what is left from the start of a part on begins with the part
+pub slice-rest : (a b : ℕ) (w x : List ℕ) → slice a b w ≡ x → drop a w ≡ x ++ drop (b - a) (drop a w)
+slice-rest a b w x is =
+    let rest = drop (b - a) (drop a w) in
+    sym (take-append-drop (b - a) (drop a w)) ∙ ap (λ (l : List ℕ). l ++ rest) (sym (slice-take a b w) ∙ is)
+
+-- bytes of a part of a list, as bytes of the list
+part-slice : (w s : List ℕ) (base p : ℕ) (x y : List ℕ) → slice base (base + length s) w ≡ s → p ≤ length s → drop p s ≡ x ++ y
+    → slice (base + p) (base + (p + length x)) w ≡ x
+part-slice w s base p x y here h split =
+    let long : base + (p + length x) - (base + p) ≡ length x = omega arith in
+    let rest = drop (base + length s - base) (drop base w) in
+    let from : drop (base + p) w ≡ x ++ (y ++ rest) =
+    sym (drop-drop p base w)
+    ∙ ap (drop p) (slice-rest base (base + length s) w s here)
+    ∙ drop-append-le p s rest h
+    ∙ ap (λ (z : List ℕ). z ++ rest) split
+    ∙ append-assoc x y rest in
+    slice-take (base + p) (base + (p + length x)) w ∙ rw (long, from) (take-at x (y ++ rest) (length x) refl)
+
+-- the first of the values that are left ends at e
+pub record Ended (s : List ℕ) (base : ℕ) (args : List ℕ) (p n e : ℕ) : Type 0 where
+  pub forward : p < e
+  pub inside : e ≤ length s
+  pub next : Spreading s base (set args n (pack (base + p) (base + e))) e (n + 1)
+
+module _ (s : List ℕ) (base : ℕ) (args : List ℕ) (p n : ℕ) (f : Spreading s base args p n) where
+  pub spreading-right : RightFrom s p 0
+  spreading-right = let one = f .each (f .some .0) (f .some .1) in values-right s p (one .left) (one .values)
+
+  pub spreading-end : length s ≤ p → (w : List ℕ) (vs : Exprs) → Values s vs → slice base (base + length s) w ≡ s
+      → (n ≡ size vs) × ArgumentsAt w args 0 base (base + length s) vs
+  unfolding size bytes ArgumentsAt
+  spreading-end h w vs v here = let o = f .each vs v in go (o .left) (o .values) (o .count) (o .places w args here (λ i l. refl))
+    where
+      go : (left : Exprs) → Values (drop p s) left → size vs ≡ n + size left
+          → (ArgumentsAt w args n (base + p) (base + length s) left → ArgumentsAt w args 0 base (base + length s) vs)
+          → (n ≡ size vs) × ArgumentsAt w args 0 base (base + length s) vs
+      go none l count on = (omega (arith, count), on (omega (arith, f .inside)))
+      go (more e es) l count on =
+          let length-left = split-size s p (bytes e) (canonical es) (l .is) in
+          absurd (omega (arith, spelled-some e (bytes e) (canonical-expr e (l .fits .0))))
+
+  module _ (e : ℕ) (at-end : e ≡ row-at (rows-of (tokens-from s p)) 0 .end) (packs : n < 64 → n < length args) where
+    -- what holds of the values vs when the first that is left is passed
+    passed : (vs : Exprs) → p < length s → Values s vs
+        → (p < e) × (e ≤ length s) × Passed s base (set args n (pack (base + p) (base + e))) e (n + 1) vs
+    unfolding size deepest bytes ArgumentsAt
+    passed vs inside v = let o = f .each vs v in go (o .left) (o .values) (o .count) (o .places)
+      where
+        go : (left : Exprs) → Values (drop p s) left → size vs ≡ n + size left
+            → ((w args′ : List ℕ) → slice base (base + length s) w ≡ s → ((i : ℕ) → i < n → getD args′ i 0 ≡ getD args i 0)
+            → ArgumentsAt w args′ n (base + p) (base + length s) left → ArgumentsAt w args′ 0 base (base + length s) vs)
+            → (p < e) × (e ≤ length s) × Passed s base (set args n (pack (base + p) (base + e))) e (n + 1) vs
+        go none l count places = absurd (omega (arith, ap length (l .is), length-drop p s))
+        go (more c es) l count places =
+            let x = bytes c in
+            let y = canonical es in
+            let spells : Spells c x = canonical-expr c (l .fits .0) in
+            let length-left = split-size s p x y (l .is) in
+            let some = spelled-some c x spells in
+            let rest = split-rest s p x y (l .is) in
+            let first : row-at (rows-of (tokens-from s p)) 0 .end ≡ p + length x =
+            rw (l .is, rows-expr c x spells p y) (expr-first c x spells p (rows-of (tokens (p + length x) 0 y)) .1) in
+            let end : e ≡ p + length x = at-end ∙ first in (
+              omega arith,
+              omega arith,
+              record {
+                left = es;
+                values = record { is = rw end (sym rest); fits = l .fits .1; shallow = omega (arith, l .shallow) };
+                count = omega (arith, count);
+                places = λ w args′ here same on. places w args′ here
+                    (λ i h. same i (omega arith) ∙ getD-set-other args n i (pack (base + p) (base + e)) 0 (λ z. omega arith)) (
+                      base + e,
+                      omega arith,
+                      omega arith,
+                      rw end (part-slice w s base p x y here (f .inside) (l .is)),
+                      λ h. same n (omega arith) ∙ getD-set-same args n (pack (base + p) (base + e)) 0 (packs h),
+                      on,
+                    );
+              },
+            )
+
+    pub spreading-turn : p < length s → Ended s base args p n e
+    spreading-turn inside =
+        let one = passed (f .some .0) inside (f .some .1) in
+        record {
+          forward = one .0;
+          inside = one .1;
+          next = record {
+            inside = one .1;
+            few = omega (arith, one .0, f .few);
+            some = f .some;
+            each = λ vs v. passed vs inside v .2;
+          };
+        }
