@@ -16,10 +16,10 @@ ghost use mathlib.Core.Path.{_≡_};
 ghost use mathlib.Core.List.{List};
 ghost use Prim.Native.Nat.{ℕ};
 ghost use Rattle.spec.specs.Expr.{if_then_else_, form, Exprs, only};
-ghost use Rattle.spec.specs.Nodes.{Node, Nodes};
+ghost use Rattle.spec.specs.Nodes.{Node as Expression, Nodes};
 ghost use Rattle.spec.specs.Runs.{hold};
-ghost use Rattle.spec.specs.Plan.{Here, Finish};
-ghost use Rattle.spec.specs.Evaluation.{Call, one-value, finish, eval};
+ghost use Rattle.spec.specs.Plan.{Here as Known, Finish};
+ghost use Rattle.spec.specs.Evaluation.{Call, one-value, finish as finished, eval};
 ghost use Rattle.rows.specs.Rows.{NodesAt};
 ghost use Rattle.rows.specs.Forms.{SomeNodes};
 ghost use Rattle.workspace.specs.Completed.{stepped, with-top, Completed};
@@ -66,8 +66,8 @@ fn perform(
     task: Task,
     row: usize,
 ) -> Step
-    requires { ⌜ ((st : State) × (e : Node) × (h : Here) × (state ≡ stepped st) × Performing (now s) (now table) (now w) (view (now associations) (now definitions) scope) scope st task row e h) ⌝ }
-    ensures { λ r. ⌜ ((st : State) (run : Call) (e : Node) (h : Here) → state ≡ stepped st
+    requires { ⌜ ((st : State) × (e : Expression) × (h : Known) × (state ≡ stepped st) × Performing (now s) (now table) (now w) (view (now associations) (now definitions) scope) scope st task row e h) ⌝ }
+    ensures { λ r. ⌜ ((st : State) (run : Call) (e : Expression) (h : Known) → state ≡ stepped st
         → Performing (now (s .entry)) (now (table .entry)) (now (w .entry)) (view (now (associations .entry)) (now (definitions .entry)) scope) scope st task row e h
         → Begun (now (s .entry)) (now (table .entry)) (now (w .entry)) (now (w .exit)) (view (now (associations .entry)) (now (definitions .entry)) scope)
         (view (now (associations .exit)) (now (definitions .exit))) scope st e h (hold (st .steps) (st .room) (eval run e h)) r)
@@ -108,7 +108,7 @@ pub fn begin(
     node: Node,
 ) -> Step
     requires { ⌜ SomeBeginning (now s) (now table) (now w) (now args) (view (now associations) (now definitions) (here .scope)) state here node ⌝ }
-    ensures { λ r. ⌜ ((bound : ℕ) (run : Call) (e : Node) (h : Here)
+    ensures { λ r. ⌜ ((bound : ℕ) (run : Call) (e : Expression) (h : Known)
         → Beginning (now (s .entry)) (now (table .entry)) bound (now (w .entry)) (now (args .entry)) (view (now (associations .entry)) (now (definitions .entry)) (here .scope)) state here node e h
         → Begun (now (s .entry)) (now (table .entry)) (now (w .entry)) (now (w .exit)) (view (now (associations .entry)) (now (definitions .entry)) (here .scope))
         (view (now (associations .exit)) (now (definitions .exit))) (here .scope) state e h (hold (state .steps) (state .room) (eval run e h)) r)
@@ -145,10 +145,10 @@ pub fn finish(
     row: usize,
 ) -> Left
     requires { ⌜ SomeFinishing (now w) scope state making start ⌝ }
-    ensures { λ r. ⌜ ((s t numbers : List ℕ) (run : Call) (h : Here) (f : Finish) (vs : Exprs) → FinishedBy scope making f → Finishing (now (w .entry)) state start f vs
+    ensures { λ r. ⌜ ((s t numbers : List ℕ) (run : Call) (h : Known) (f : Finish) (vs : Exprs) → FinishedBy scope making f → Finishing (now (w .entry)) state start f vs
         → Sees s t (now (w .entry)) (state .floor) (view numbers (now (definitions .entry)) scope) h
         → LeftBy s t (now (w .entry)) (now (w .exit)) (view numbers (now (definitions .exit))) scope (with-top state (state .room) start)
-        (hold (state .steps) (state .room) (finish run row h f vs)) r)
+        (hold (state .steps) (state .room) (finished run row h f vs)) r)
         × ((numbers : List ℕ) → view numbers (now (definitions .exit)) scope ≡ view numbers (now (definitions .entry)) scope) ⌝ }
 {
     match making {

@@ -16,8 +16,8 @@ ghost use Prim.Native.Nat.{ℕ};
 ghost use Rattle.spec.specs.Expr.{Exprs};
 ghost use Rattle.spec.specs.Nodes.{Nodes};
 ghost use Rattle.spec.specs.Runs.{hold};
-ghost use Rattle.spec.specs.Plan.{Scope as Definitions, Here, as-call};
-ghost use Rattle.spec.specs.Evaluation.{finish, run-code};
+ghost use Rattle.spec.specs.Plan.{Scope as Definitions, Here as Known, as-call};
+ghost use Rattle.spec.specs.Evaluation.{finish as finished, run-code};
 ghost use Rattle.laws.specs.Holding.{in-list};
 ghost use Rattle.workspace.specs.Completed.{with-top};
 ghost use Rattle.rules.specs.Scope.{view};
@@ -43,7 +43,7 @@ pub fn list(
     form: Form,
 ) -> Left
     requires { ⌜ SomeReady (now s) (now table) (now w) (now args) (view (now associations) (now definitions) (here .scope)) state here form ⌝ }
-    ensures { λ r. ⌜ ((bound codes : ℕ) (es : Nodes) (h : Here)
+    ensures { λ r. ⌜ ((bound codes : ℕ) (es : Nodes) (h : Known)
         → Ready (now (s .entry)) (now (table .entry)) bound codes (now (w .entry)) (now (args .entry)) (view (now (associations .entry)) (now (definitions .entry)) (here .scope)) state here form es h
         → Met (now (w .entry)) (now (w .exit)) (here .scope) state (hold (state .steps) (state .room) (in-list (run-code codes) es h)) r)
         × (view (now (associations .exit)) (now (definitions .exit)) (here .scope) ≡ view (now (associations .entry)) (now (definitions .entry)) (here .scope)) ⌝ }
@@ -169,10 +169,10 @@ fn call(
     opened: Open,
 ) -> Left
     requires { ⌜ SomeCalling (now s) (now table) (now w) (view (now associations) (now definitions) (here .scope)) state here callee (opened .start) ⌝ }
-    ensures { λ r. ⌜ ((bound codes : ℕ) (body : Nodes) (behind : Definitions) (h : Here) (vs : Exprs)
+    ensures { λ r. ⌜ ((bound codes : ℕ) (body : Nodes) (behind : Definitions) (h : Known) (vs : Exprs)
         → Calling (now (s .entry)) (now (table .entry)) bound codes (now (w .entry)) (view (now (associations .entry)) (now (definitions .entry)) (here .scope)) state here callee (opened .start) body behind h vs
         → LeftBy (now (s .entry)) (now (table .entry)) (now (w .entry)) (now (w .exit)) (view (now (associations .exit)) (now (definitions .entry))) (here .scope)
-        (with-top state (state .room) (opened .start)) (hold (state .steps) (state .room) (finish (run-code codes) (opened .row) h (as-call body behind) vs)) r)
+        (with-top state (state .room) (opened .start)) (hold (state .steps) (state .room) (finished (run-code codes) (opened .row) h (as-call body behind) vs)) r)
         × (view (now (associations .exit)) (now (definitions .entry)) (here .scope) ≡ view (now (associations .entry)) (now (definitions .entry)) (here .scope)) ⌝ }
 {
     if 32 <= here.frame.depth {

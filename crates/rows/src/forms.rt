@@ -9,7 +9,7 @@ ghost use Prim.Native.Nat.{ℕ, _+_, _*_, _≤_, _<_};
 ghost use lib.ListN.{length};
 ghost use lib.Dec.{leb};
 ghost use Rattle.spec.specs.Reading.{row-width};
-ghost use Rattle.spec.specs.Nodes.{Node, Nodes, elements, head-word};
+ghost use Rattle.spec.specs.Nodes.{Node as Expression, Nodes, elements, head-word};
 ghost use Rattle.spec.specs.Evaluation.{one-value};
 ghost use Rattle.rows.specs.Rows.{next, NodeAt, NodesAt, parts-of};
 ghost use Rattle.rows.specs.Forms.{meant, written, starting-at, IsNode, row-named, led-by-reference, SomeNodes};
@@ -59,7 +59,7 @@ pub fn written(table: &[u32], row: usize) -> Form
 // The expression that is written at a row.
 pub fn at(table: &[u32], row: usize) -> Node
     requires { ⌜ (row-width * row + row-width ≤ length (now table)) × (row < 65536) ⌝ }
-    ensures { λ r. ⌜ ((s : List ℕ) (e : Node) → NodeAt s (now (table .entry)) row e → IsNode s (now (table .entry)) r e) ⌝ }
+    ensures { λ r. ⌜ ((s : List ℕ) (e : Expression) → NodeAt s (now (table .entry)) row e → IsNode s (now (table .entry)) r e) ⌝ }
 {
     if table::kind(table, row) == Kind::FORM {
         return Node::Branch(written(table, row));
@@ -69,8 +69,8 @@ pub fn at(table: &[u32], row: usize) -> Node
 
 // The word that heads the expression written at a row; plain if it is no form.
 pub fn word_at(s: &[u8], table: &[u32], row: usize) -> Word
-    requires { ⌜ ((e : Node) × NodeAt (now s) (now table) row e) ⌝ }
-    ensures { λ r. ⌜ ((e : Node) → NodeAt (now (s .entry)) (now (table .entry)) row e → meant r ≡ head-word (elements e)) ⌝ }
+    requires { ⌜ ((e : Expression) × NodeAt (now s) (now table) row e) ⌝ }
+    ensures { λ r. ⌜ ((e : Expression) → NodeAt (now (s .entry)) (now (table .entry)) row e → meant r ≡ head-word (elements e)) ⌝ }
 {
     match at(table, row) {
         Node::Leaf { row: _ } => Word::Plain,

@@ -17,15 +17,8 @@ use rows::table;
 use rows::words::Core;
 use rows::words::Word;
 use workspace::packed;
-ghost use mathlib.Core.Path.{_≡_};
-ghost use mathlib.Core.List.{List};
-ghost use Prim.Native.Nat.{ℕ, _≤_, _<_};
-ghost use lib.ListN.{length};
-ghost use lib.Dec.{ltb};
-ghost use Rattle.spec.specs.Expr.{if_then_else_, Atom};
-ghost use Rattle.spec.specs.Nodes.{Word as Meant, ns, Node, leaf, branch, Nodes, head-word};
-ghost use Rattle.spec.specs.Plan.{Arguments, Plan, refuse, plan, plan-atom, plan-ns, plan-definition, plan-define, plan-concat, plan-form, plan-other, expect-one, expect-int, plan-arg, plan-rest};
-ghost use Rattle.rows.specs.Rows.{NodeAt, NodesAt};
+ghost use Rattle.spec.specs.Nodes.{Node as Expression};
+ghost use Rattle.spec.specs.Plan.{plan};
 ghost use Rattle.rows.specs.Forms.{IsNode};
 ghost use Rattle.rules.specs.Scope.{view};
 ghost use Rattle.rules.specs.Planned.{Planning, Answers};
@@ -349,7 +342,7 @@ pub fn plan(
     node: Node,
 ) -> Task
     requires { ⌜ Planning (now s) (now table) (now args) (view (now associations) (now definitions) (here .scope)) here node ⌝ }
-    ensures { λ r. ⌜ ((e : Node) → IsNode (now (s .entry)) (now (table .entry)) node e
+    ensures { λ r. ⌜ ((e : Expression) → IsNode (now (s .entry)) (now (table .entry)) node e
         → Answers (now (s .entry)) (now (table .entry)) (now (args .entry)) (view (now (associations .entry)) (now (definitions .entry)) (here .scope)) here e (plan e) r) ⌝ }
 {
     match node {

@@ -136,18 +136,18 @@ fn put_atoms(s: &[u8], table: &[u32], w: &mut [u8], at: usize, form: Form)
 }
 
 // The value of a form of atoms that stands for itself.
-pub fn itself(s: &[u8], table: &[u32], w: &mut [u8], state: State, form: Form) -> Out
+pub fn itself(s: &[u8], table: &[u32], w: &mut [u8], state: State, range: Form) -> Out
     requires { ⌜ Fitting (now w) state ⌝ }
-    requires { ⌜ SomeAtoms (now s) (now table) form ⌝ }
-    ensures { λ r. ⌜ ((es : Nodes) → NodesAt (now (s .entry)) (now (table .entry)) (form .first) (form .end) es → Atoms es → Completed (now (w .entry)) (now (w .exit)) state (state .top) (form .row) (only (form (unnumbered-all es))) r) ⌝ }
+    requires { ⌜ SomeAtoms (now s) (now table) range ⌝ }
+    ensures { λ r. ⌜ ((es : Nodes) → NodesAt (now (s .entry)) (now (table .entry)) (range .first) (range .end) es → Atoms es → Completed (now (w .entry)) (now (w .exit)) state (state .top) (range .row) (only (form (unnumbered-all es))) r) ⌝ }
 {
-    let n = atoms_size(s, table, form) + 2;
+    let n = atoms_size(s, table, range) + 2;
     let top = state.top;
     if state.room < n {
-        return Out::Refused(17, form.row);
+        return Out::Refused(17, range.row);
     }
     w[top] = 0x01;
-    put_atoms(s, table, w, top + 1, form);
+    put_atoms(s, table, w, top + 1, range);
     w[top + n - 1] = 0x02;
     charged(state, n, top + n)
 }
