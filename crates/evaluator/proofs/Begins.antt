@@ -83,7 +83,7 @@ module _ (run : Call) (h : Here) where
     eval-none : steps ≡ 0 → hold steps w (eval run e h) ≡ ceased 16 (row-of e)
     eval-none z = rw (eval-plan e) (hold-step-none steps w (row-of e) _ z)
 
-    eval-step : 0 < steps → hold steps w (eval run e h) ≡ hold (steps - 1) w (perform run (row-of e) (eval-all run (elements e)) h (plan e h))
+    pub eval-step : 0 < steps → hold steps w (eval run e h) ≡ hold (steps - 1) w (perform run (row-of e) (eval-all run (elements e)) h (plan e h))
     eval-step l = rw (eval-plan e) (hold-step steps w (row-of e) _ l)
 
 -- Tasks
