@@ -36,7 +36,7 @@ kind-ref (array bs) h = absurd (omega arith)
 kind-ref (int v) h = absurd (omega arith)
 kind-ref (ref m n) h = (m, n, refl)
 
-no-form : (a : Atom) → atom-kind a ≡ 1 → ⊥
+pub no-form : (a : Atom) → atom-kind a ≡ 1 → ⊥
 no-form nil h = omega arith
 no-form (array bs) h = omega arith
 no-form (int v) h = omega arith
