@@ -97,7 +97,7 @@ pub record RefAt (s : List ℕ) (from to m n : ℕ) : Type 0 where
 
 -- a part of s: how long it is, and its elements
 module _ (s : List ℕ) (from to : ℕ) (inside : to ≤ length s) where
-  pub part-size : (x : List ℕ) → slice from to s ≡ x → length x ≡ to - from
+  part-size : (x : List ℕ) → slice from to s ≡ x → length x ≡ to - from
   part-size x e = ap length (sym e) ∙ length-slice from to s inside
 
   part-at : (p : List ℕ) (y : ℕ) (ys : List ℕ) (i : ℕ) → slice from to s ≡ p ++ (y ∷ ys) → i ≡ from + length p → getD s i 0 ≡ y

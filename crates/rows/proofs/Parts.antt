@@ -1,32 +1,24 @@
--- What code finds out of nodes by their rows: what is at a row, whether a reference leads them, how many there are and where the second and
--- the third are. Document 01: "elements in ns, define, concat, arg, rest, counted as written". Assumes nothing.
-use Prim.Native.Nat.{ℕ, _+_, _*_, _≤_, _<_}
+-- What code finds out of nodes by their rows: what is at a row, whether a reference leads them, and which they are if they are two or three.
+-- Document 01: "elements in ns, define, concat, arg, rest, counted as written". Assumes nothing.
+use Prim.Native.Nat.{ℕ, _≤_, _<_}
 use mathlib.Core.Path.{_≡_, refl, sym, ap, _∙_, subst}
 use mathlib.Core.List.{List}
-use mathlib.Core.Bool.{Bool, true, false, not}
-use lib.ListN.{length}
+use mathlib.Core.Bool.{Bool, true, false}
 use lib.Dec.{leb, eqb}
-use borrow.Author.Tests.{leb-true, leb-false, le-leb, lt-leb}
+use borrow.Author.Tests.{leb-true, leb-false}
 use native.Mathlib.Omega.{arith}
-use Rattle.spec.specs.Expr.{if_then_else_, nil, array, int, ref}
-use Rattle.spec.specs.Reading.{row-width}
-use Rattle.spec.specs.Nodes.{rest, plain, is, word, Node, leaf, branch, Nodes, empty, cons, elements, head-word}
-use Rattle.spec.specs.Evaluation.{one-value}
+use Rattle.spec.specs.Expr.{nil, array, int, ref}
+use Rattle.spec.specs.Nodes.{plain, Node, leaf, branch, Nodes, empty, cons, elements, head-word}
 use Rattle.laws.specs.Demands.{Bytes}
 use Rattle.laws.proofs.Basics.{impossible}
 use Rattle.rows.specs.Rows.{cell, next, LeafAt, NodeAt, NodesAt, row-of, parts-of, key-of}
-use Rattle.rows.specs.Forms.{meant, written, IsNode, is-leaf, is-branch, row-named, led-by-reference}
-use Rattle.rows.specs.declared.words.Word.{Word as Coded}
+use Rattle.rows.specs.Forms.{written, IsNode, is-leaf, is-branch, row-named, led-by-reference}
 use Rattle.rows.specs.declared.forms.Form.{Form}
 use Rattle.rows.specs.declared.forms.Node.{Node as Ranged}
 use Rattle.rows.specs.declared.forms.Node.the-variants.{Leaf, Branch}
 use Rattle.rows.specs.declared.forms.Parts.{Parts}
-use Rattle.rows.proofs.Nodes.{kind-ref, no-form, leaf-kind, leaf-fits, MoreAt, nodes-done, nodes-more, nodes-first, node-row, node-whole, kind-form, kind-leaf}
+use Rattle.rows.proofs.Nodes.{kind-ref, no-form, leaf-kind, leaf-fits, nodes-first, node-row, kind-leaf}
 use Rattle.rows.proofs.Keys.{word-of, word-again}
-
--- some nodes, whichever they are
-abbrev pub SomeAt : List ℕ → List ℕ → ℕ → ℕ → Type 0
-SomeAt s t r end = (es : Nodes) × NodesAt s t r end es
 
 -- a node that is a reference
 pub record ReferenceAt (s t : List ℕ) (r : ℕ) (e : Node) : Type 0 where
@@ -43,14 +35,6 @@ pub record LedAt (s t : List ℕ) (r end : ℕ) (es : Nodes) : Type 0 where
   pub is : es ≡ cons (leaf r (ref marker name)) rest
   pub here : LeafAt s t r (ref marker name)
   pub nodes : NodesAt s t (next t r) end rest
-
--- how many elements end at row `end`, and the second's and the third's row, by the rows of the first four
-abbrev pub parts-from : ℕ → ℕ → ℕ → ℕ → ℕ → Parts
-parts-from end r p q u =
-    if leb end r then record { count = 0; second = 0; third = 0 } else
-    if leb end p then record { count = 1; second = 0; third = 0 } else
-    if leb end q then record { count = 2; second = p; third = 0 } else
-    record { count = if leb end u then 3 else 4; second = p; third = q }
 
 -- The code's nodes
 
@@ -83,14 +67,6 @@ unled (cons (leaf q (ref m n)) es) h = impossible (cc)
 unled (cons (branch q fs) es) h = refl
 
 module _ (s t : List ℕ) where
-  -- SomeAt
-
-  pub some-inside : (r end : ℕ) → SomeAt s t r end → r < end → row-width * r + row-width ≤ length t
-  some-inside r end h l = let f = nodes-more s t r end (h .0) (h .1) l in node-whole s t r (f .head) (f .node) .0
-
-  pub some-next : (r end p : ℕ) → SomeAt s t r end → r < end → p ≡ next t r → SomeAt s t p end
-  some-next r end p h l e = let f = nodes-more s t r end (h .0) (h .1) l in rw e (f .rest, f .nodes)
-
   -- kinds
 
   pub reference-at : (r : ℕ) (e : Node) → NodeAt s t r e → cell t r 0 ≡ 4 → ReferenceAt s t r e
@@ -142,62 +118,6 @@ module _ (s t : List ℕ) where
     pub led-word : {es : Nodes} → Bytes s → LedAt s t r end es → (k : ℕ) → ((m n : ℕ) → LeafAt s t r (ref m n) → k ≡ key-of m n) → word-of k ≡ head-word es
     led-word b l k f = rw (l .is, f (l .marker) (l .name) (l .here)) (word-again (l .marker) (l .name) (leaf-fits b (l .here) .2))
 
-  -- one-value
-
-  module _ (r end : ℕ) (es : Nodes) (h : NodesAt s t r end es) where
-    pub single-none : end ≤ r → false ≡ one-value es
-    single-none l = rw (nodes-done s t r end es h l)
-
-    module _ (some : r < end) where
-      pub single-first : MoreAt s t r end es
-      single-first = nodes-more s t r end es h some
-
-      pub single-many : next t r < end → false ≡ one-value es
-      single-many l = let two = nodes-more s t (next t r) end (single-first .rest) (single-first .nodes) l in rw (single-first .is, two .is)
-
-      pub single-one : (w : Coded) → end ≤ next t r → ((e : Node) → NodeAt s t r e → meant w ≡ head-word (elements e)) → not (is (meant w) rest) ≡ one-value es
-      single-one w l asked =
-          let one = single-first in
-          rw (one .is, nodes-done s t (next t r) end (one .rest) (one .nodes) l, asked (one .head) (one .node))
-
-  -- parts-of
-
-  parts-next : (r end : ℕ) (es : Nodes) → NodesAt s t r end es
-      → parts-of es ≡ parts-from end r (next t r) (next t (next t r)) (next t (next t (next t r)))
-  unfolding NodeAt
-  parts-next r end empty h = rw (le-leb end r (omega arith))
-  parts-next r end (cons a empty) h = rw (lt-leb end r (omega arith), le-leb end (next t r) (omega arith))
-  parts-next r end (cons a (cons b empty)) h =
-      let p : ℕ = next t r in
-      rw (lt-leb end r (omega arith), lt-leb end p (omega arith), le-leb end (next t p) (omega arith), node-row s t p b (h .3 .2))
-  parts-next r end (cons a (cons b (cons c empty))) h =
-      let p : ℕ = next t r in
-      let q : ℕ = next t p in
-      rw (
-        lt-leb end r (omega arith),
-        lt-leb end p (omega arith),
-        lt-leb end q (omega arith),
-        le-leb end (next t q) (omega arith),
-        node-row s t p b (h .3 .2),
-        node-row s t q c (h .3 .3 .2),
-      )
-  parts-next r end (cons a (cons b (cons c (cons d es)))) h =
-      let p : ℕ = next t r in
-      let q : ℕ = next t p in
-      rw (
-        lt-leb end r (omega arith),
-        lt-leb end p (omega arith),
-        lt-leb end q (omega arith),
-        lt-leb end (next t q) (omega arith),
-        node-row s t p b (h .3 .2),
-        node-row s t q c (h .3 .3 .2),
-      )
-
-  -- the parts of nodes, as their rows are gone through
-  pub parts-rows : (r end p q u : ℕ) (es : Nodes) → NodesAt s t r end es → p ≡ next t r → q ≡ next t p → u ≡ next t q
-      → parts-of es ≡ parts-from end r p q u
-  parts-rows r end p q u es h a b c = rw (c, b, a) (parts-next r end es h)
-
 -- A form's elements, by its parts
 
 -- a head and one more
@@ -239,19 +159,19 @@ module _ (s t : List ℕ) (r end : ℕ) where
       let begin = nodes-first s t r end x (cons a (cons b empty)) h in
       let one = nodes-first s t (next t r) end a (cons b empty) (begin .2) in
       let two = nodes-first s t (next t (next t r)) end b empty (one .2) in
-      let place : p .second ≡ next t r = ap (λ (x : Parts). x .second) e ∙ node-row s t (next t r) a (one .1) in
-      let later : p .third ≡ next t (next t r) = ap (λ (x : Parts). x .third) e ∙ node-row s t (next t (next t r)) b (two .1) in
+      let second : p .second ≡ next t r = ap (λ (x : Parts). x .second) e ∙ node-row s t (next t r) a (one .1) in
+      let third : p .third ≡ next t (next t r) = ap (λ (x : Parts). x .third) e ∙ node-row s t (next t (next t r)) b (two .1) in
       record {
         head = x;
         first = a;
         second = b;
         is = refl;
         begins = begin .1;
-        one = rw place (one .1);
-        two = rw later (two .1);
-        from-one = rw place (begin .2);
-        from-two = rw later (one .2);
-        behind-head = place;
-        behind-one = later ∙ sym (ap (next t) place);
+        one = rw second (one .1);
+        two = rw third (two .1);
+        from-one = rw second (begin .2);
+        from-two = rw third (one .2);
+        behind-head = second;
+        behind-one = third ∙ sym (ap (next t) second);
       }
   two-at (cons x (cons a (cons b (cons d es)))) p h e n = absurd (omega (arith, ap (λ (x : Parts). x .count) e))

@@ -5,10 +5,10 @@ use mathlib.Core.Path.{_≡_, refl, sym, ap, _∙_}
 use mathlib.Core.List.{List, [], _∷_}
 use mathlib.Core.Bool.{Bool, true, false}
 use native.Mathlib.Omega.{arith}
-use lib.ListN.{length, getD}
-use lib.Seq.{slice}
+use lib.ListN.{length, take, drop, getD}
 use Rattle.spec.specs.Expr.{some}
 use Rattle.spec.specs.Plan.{Namespace}
+use Rattle.rows.proofs.Slices.{slice-take}
 use Rattle.rules.specs.Entries.{stream, id, association, marker-in, place-in, size-in}
 use Rattle.rules.specs.Scope.{latest}
 use Rattle.rules.specs.Associations.{AssociationAt, Linked}
@@ -33,11 +33,12 @@ module _ {s : List ℕ} {e : ℕ} {k : Namespace} (at : AssociationAt s e k) whe
   pub marked : marker-in e ≡ k .marker
   marked = rw (at .is) (association-marker (k .marker) (at .place) (length (k .id)) id-starts (at .some-bytes) (at .few-bytes))
 
-  pub id-begins : place-in e ≡ at .place
-  id-begins = rw (at .is) (association-place (k .marker) (at .place) (length (k .id)) id-starts (at .some-bytes) (at .few-bytes))
-
-  pub id-size : size-in e ≡ length (k .id)
-  id-size = rw (at .is) (association-size (k .marker) (at .place) (length (k .id)) id-starts (at .some-bytes) (at .few-bytes))
+  -- the id's bytes, by the place and the size that the entry has
+  pub id-part : (p n : ℕ) → p ≡ place-in e → n ≡ size-in e → (p + n ≤ length s) × (take (p + n - p) (drop p s) ≡ k .id)
+  id-part p n h h′ =
+      let begins : p ≡ at .place = h ∙ rw (at .is) (association-place (k .marker) (at .place) (length (k .id)) id-starts (at .some-bytes) (at .few-bytes)) in
+      let size : n ≡ length (k .id) = h′ ∙ rw (at .is) (association-size (k .marker) (at .place) (length (k .id)) id-starts (at .some-bytes) (at .few-bytes)) in
+      (omega (arith, at .inside), rw (begins, size) (sym (slice-take (at .place) (at .place + length (k .id)) s) ∙ at .bytes))
 
 -- What is left
 

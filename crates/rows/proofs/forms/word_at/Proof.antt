@@ -1,6 +1,5 @@
 -- `rows::forms::word_at` meets its contract. Assumes nothing.
 use borrow.Author.Needs.{needs}
-use mathlib.Core.Path.{sym, _∙_}
 use Rattle.rows.proofs.Nodes.{node-whole}
 use Rattle.rows.proofs.Parts.{node-atom, node-elements}
 use Rattle.rows.proofs.forms.word_at.Statement.{statement}

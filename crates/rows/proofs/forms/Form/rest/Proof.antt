@@ -1,6 +1,5 @@
 -- `rows::forms::Form::rest` meets its contract. Assumes nothing.
 use borrow.Author.Needs.{needs}
-use mathlib.Core.Path.{ap, _∙_}
 use Rattle.rows.proofs.forms.Form.rest.Statement.{statement}
 use Rattle.rows.proofs.forms.Form.rest.Tie as tie
 

@@ -1,10 +1,9 @@
 -- `rows::words::Core::is_function` meets its contract. Assumes nothing.
 use borrow.Author.Needs.{needs}
-use mathlib.Core.Path.{sym, ap, _∙_}
+use mathlib.Core.Path.{sym, ap}
 use mathlib.Core.List.{[], _∷_}
 use mathlib.Core.Bool.{not}
-use Rattle.spec.specs.Nodes.{plain, is}
-use Rattle.rows.specs.Forms.{meant}
+use Rattle.spec.specs.Nodes.{plain}
 use Rattle.rows.proofs.Keys.{other-word}
 use Rattle.rows.proofs.words.Core.is_function.Statement.{statement}
 use Rattle.rows.proofs.words.Core.is_function.Tie as tie

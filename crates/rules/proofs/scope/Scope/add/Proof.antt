@@ -1,0 +1,11 @@
+-- `rules::scope::Scope::add` meets its contract. Assumes nothing.
+use borrow.Author.Needs.{needs}
+use mathlib.Core.Path.{refl}
+use Rattle.rules.proofs.scope.Scope.add.Statement.{statement}
+use Rattle.rules.proofs.scope.Scope.add.Tie as tie
+
+returns : tie.Need-returns
+returns c = (rw (c .definition .ensures), refl)
+
+pub add-spec : {M : Type 1} → statement M
+add-spec = tie.close (tie.spec (λ c κs. search needs) (λ c. search needs) (λ c. search needs) (λ c. search needs) returns)
