@@ -7,7 +7,7 @@ use Rattle.evaluator.proofs.element.begin.Tie as tie
 
 plan-requires : tie.Need-plan-requires
 plan-requires c κs =
-    let start = c .before .before .before .before .before .before .before .before .before .before in
+    let start = c .before .before .before .before .before .before .before .before .before .before .before in
     let some = start .pre in
     record {
       work = start .args .w .now;
@@ -22,17 +22,17 @@ perform-requires : tie.Need-perform-requires
 perform-requires c κs =
     let step = c .before .before .before .before .before .before .before .before .before in
     let told = c .before .before .before .before .before .before .before .stepped .given in
-    let start = step .before .before .before .before .before in
+    let start = step .before .before .before .before .before .before in
     let x = start .args in
     let b = start .pre .begins in
-    let p = begin-performs b (step .before .row .ensures) (told .0 .0) (sym (step .step .ensures) ∙ told .1) (c .before .before .before .plan .ensures _ (b .is) (x .w .now) (x .state) _ (b .setting)) in
+    let p = begin-performs b (step .before .before .row .ensures) (told .0 .0) (sym (step .step .ensures) ∙ told .1) (c .before .before .before .plan .ensures _ (b .is) (x .w .now) (x .state) _ (b .setting)) in
     (x .state, start .pre .expression, start .pre .here, p .0, p .1)
 
 returns : tie.Need-returns
 returns c =
     let step = c .before .before .before in
     let told = c .before .number .given in
-    (λ bound run e h b. begin-none b (step .before .row .ensures) run (told .0 .0) (told .0 .1 .0) (sym (step .step .ensures) ∙ told .1), refl)
+    (λ bound run e h b. begin-none b (step .before .before .row .ensures) run (told .0 .0) (told .0 .1 .0) (sym (step .step .ensures) ∙ told .1), refl)
 
 returns-2 : tie.Need-returns-2
 returns-2 c =
@@ -40,9 +40,9 @@ returns-2 c =
     let plan = c .before .before .before .before .before .before .plan in
     let told = c .before .before .before .before .before .before .before .before .before .before .stepped .given in
     let step = c .before .before .before .before .before .before .before .before .before .before .before .before in
-    let x = step .before .before .before .before .before .args in (
+    let x = step .before .before .before .before .before .before .args in (
       λ bound run e h b.
-          let p = begin-performs b (step .before .row .ensures) (told .0 .0) (sym (step .step .ensures) ∙ told .1) (plan .ensures e (b .is) (x .w .now) (x .state) h (b .setting)) in
+          let p = begin-performs b (step .before .before .row .ensures) (told .0 .0) (sym (step .step .ensures) ∙ told .1) (plan .ensures e (b .is) (x .w .now) (x .state) h (b .setting)) in
           perform .ensures .0 (x .state) run e h (p .0) (p .1),
       perform .ensures .1,
     )
