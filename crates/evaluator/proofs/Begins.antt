@@ -11,7 +11,7 @@ use Rattle.spec.specs.Expr.{if_then_else_, Atom, atom, form, Exprs, none, only}
 use Rattle.spec.specs.Nodes.{Node, leaf, branch, Nodes, unnumbered-all, elements}
 use Rattle.spec.specs.Runs.{step, before, ceased, hold}
 use Rattle.spec.specs.Plan.{Definition, Namespace, Within, Here, Finish, Plan, refuse, leave, associate, define-function, inside, plan}
-use Rattle.spec.specs.Evaluation.{add-namespace, add-definition, complete, Call, perform, eval, eval-all}
+use Rattle.spec.specs.Evaluation.{add-namespace, add-definition, defining, complete, Call, perform, eval, eval-all}
 use Rattle.laws.specs.Holding.{skip}
 use Rattle.laws.proofs.Basics.{impossible, by-test}
 use Rattle.laws.proofs.Holding.{hold-give, hold-stop, hold-step, hold-step-none, hold-complete, hold-complete-deep, hold-complete-none}
@@ -20,13 +20,13 @@ use Rattle.rows.specs.Rows.{LeafAt, NodesAt, row-of}
 use Rattle.rows.specs.Forms.{IsNode, is-leaf, is-branch, row-named}
 use Rattle.rows.specs.declared.forms.Form.{Form}
 use Rattle.rows.specs.declared.forms.Node.{Node as Ranged}
-use Rattle.workspace.specs.Completed.{Fitting, Stand, Incomplete, too-deep, too-long, Atoms, Completed, stepped}
+use Rattle.workspace.specs.Completed.{Fitting, Stand, Incomplete, too-deep, too-long, stepped, Untouched, Atoms, Completed}
 use Rattle.workspace.specs.declared.values.State.{State}
 use Rattle.workspace.specs.declared.values.Out.{Out}
 use Rattle.workspace.specs.declared.values.Out.the-variants.{Done, Refused}
 use Rattle.workspace.proofs.Areas.{stand-none, untouched-none}
 use Rattle.rules.specs.Entries.{definition, association}
-use Rattle.rules.specs.Scope.{View, view}
+use Rattle.rules.specs.Scope.{latest, View, view}
 use Rattle.rules.specs.Associations.{AssociationAt}
 use Rattle.rules.specs.Settings.{EntryAt, Sees}
 use Rattle.rules.specs.Planned.{Finishes, Planned, refuses, owns, repeats, associates, defines, goes-inside}
@@ -36,7 +36,7 @@ use Rattle.rules.specs.declared.plan.After.{After}
 use Rattle.rules.specs.declared.plan.Task.{Task}
 use Rattle.rules.specs.declared.plan.Task.the-variants.{Refuse, Own, Again, Ns, Function, Inside}
 use Rattle.rules.proofs.Latest.{latest-length, view-added, view-associated}
-use Rattle.rules.proofs.Shown.{function-entry, sees-kept, sees-defined, sees-associated}
+use Rattle.rules.proofs.Shown.{function-entry, sees-kept, sees-lower, sees-defined, sees-associated}
 use Rattle.evaluator.specs.Listed.{Extends, LeftBy, GoesInside, Beginning, as-left}
 use Rattle.evaluator.specs.Performed.{Performing}
 use Rattle.evaluator.specs.declared.element.Left.the-variants.{Done as Ended}
@@ -69,6 +69,30 @@ completed-left s t w w′ see sc sc′ from st row vs h (Refused number at) floo
 -- nothing more is visible
 pub extends-none : (sc : Scope) → Extends sc sc
 extends-none sc = record { defined = omega arith; associated = omega arith }
+
+-- Nothing but a definition left
+
+module _ (s t w w′ associations definitions : List ℕ) (size : length definitions ≡ 256) (sc : Scope) (from st : State) (x : ℕ) (d : Definition) (h : Here) where
+  pub defined-left : (steps room : ℕ) → st .steps ≡ steps → st .room ≡ room → from .top ≤ length w′ → Untouched w w′ (from .top) (from .floor)
+      → st .top ≡ from .top → st .floor ≤ from .floor → st .top + st .room ≤ st .floor
+      → EntryAt s t w′ (st .floor) x (d .marker) (d .name) (d .content) → length (latest definitions (sc .defined)) < 256
+      → Sees s t w (from .floor) (view associations definitions sc) h
+      → LeftBy s t w w′ (view associations (set definitions (sc .defined) x)) sc from (hold steps room (defining d h))
+      (Ended st (record { defined = sc .defined + 1; associated = sc .associated }))
+  defined-left steps room q q′ ends others top lower paid entry few sees = (
+    record {
+      left = record { values = none; here = add-definition d h };
+      is = rw (q, q′) (hold-give steps room _);
+      stand = rw top (stand-none (from .top) ends);
+      others = others;
+      lower = lower;
+      paid = paid;
+      sees =
+          rw (view-added associations definitions sc x (omega (arith, latest-length definitions (sc .defined))))
+          (sees-defined (sees-lower (sees-kept sees others) (st .floor) lower) x d entry few);
+    },
+    record { defined = omega arith; associated = omega arith },
+  )
 
 -- Evaluation by the plan
 
@@ -161,21 +185,11 @@ module _ {s t w : List ℕ} {sc : Scope} {st : State} {row : ℕ} {e : Node} {h 
         (Ended (stepped st) (record { defined = sc .defined + 1; associated = sc .associated }))
     function-begun {key} {code} size p =
         let d = done-by p in
-        let few : sc .defined < 256 = omega (arith, latest-length definitions (sc .defined), d .2) in
-        rw (performed run p, d .3) (
-          record {
-            left = record { values = none; here = add-definition (d .0) h };
-            is = hold-give (st .steps - 1) (st .room) _;
-            stand = stand-none (st .top) (omega (arith, p .fitting .paid, p .fitting .below));
-            others = untouched-none w (st .top) (st .floor);
-            lower = omega arith;
-            paid = p .fitting .paid;
-            sees =
-                rw (view-added associations definitions sc (definition key code) (omega arith))
-                (sees-defined (p .sees) (definition key code) (d .0) (d .1) (d .2));
-          },
-          record { defined = omega arith; associated = omega arith },
-        )
+        let fits = p .fitting in
+        rw (performed run p, d .3)
+        (defined-left s t w w associations definitions size sc st (stepped st) (definition key code) (d .0) h (st .steps - 1) (st .room) refl refl
+        (omega (arith, fits .paid, fits .below))
+        (untouched-none w (st .top) (st .floor)) refl (omega arith) (fits .paid) (d .1) (d .2) (p .sees))
 
 -- Beginning
 

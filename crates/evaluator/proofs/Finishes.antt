@@ -24,12 +24,12 @@ use Rattle.rules.specs.Settings.{Sees}
 use Rattle.rules.specs.declared.scope.Scope.{Scope}
 use Rattle.rules.specs.declared.plan.Making.{Making}
 use Rattle.rules.specs.declared.plan.Making.the-variants.{Form, Define, Concat}
-use Rattle.rules.proofs.Latest.{latest-length, view-added}
-use Rattle.rules.proofs.Shown.{value-entry, sees-kept, sees-lower, sees-defined}
+use Rattle.rules.proofs.Latest.{latest-length}
+use Rattle.rules.proofs.Shown.{value-entry}
 use Rattle.evaluator.specs.Listed.{LeftBy, as-left, FinishedBy, by-form, by-define, by-concat, Finishing}
 use Rattle.evaluator.specs.declared.element.Left.{Left}
 use Rattle.evaluator.specs.declared.element.Left.the-variants.{Done}
-use Rattle.evaluator.proofs.Begins.{completed-left, extends-none}
+use Rattle.evaluator.proofs.Begins.{completed-left, extends-none, defined-left}
 
 -- Values that stand
 
@@ -114,25 +114,13 @@ module _ (w w′ definitions : List ℕ) (sc : Scope) (st : State) (start row : 
       → let e = definition key (pack (st′ .floor) (st .floor)) in
       Finished (set definitions (sc .defined) e) (Define key) (Done st′ (record { defined = sc .defined + 1; associated = sc .associated }))
   define-finished key st′ size stored s t numbers run h f vs (by-define m n fits few) ready sees =
-      let d : Definition = record { marker = m; name = n; content = value vs } in
       let e = definition key (pack (st′ .floor) (st .floor)) in
+      let fit = ready .fitting in
       let some = single-stands (ready .finishable) (ready .stand) in
-      let short = ready .fitting .short in
-      let below = ready .fitting .below in
       let stand : Stand w′ (st′ .floor) (st .floor) vs =
-      record { order = omega (arith, stored .floor); inside = omega (arith, stored .others .size, below); bytes = stored .bytes ∙ ready .stand .bytes } in
-      let entry = value-entry {s = s} {t = t} {floor = st′ .floor} fits (st′ .floor) (st .floor) (omega arith) (omega (arith, stored .floor, some)) (omega arith) stand in
-      let lower = sees-lower (sees-kept sees (stored .others)) (st′ .floor) (omega (arith, stored .floor)) in (
-        record {
-          left = record { values = none; here = add-definition d h };
-          is = hold-give (st .steps) (st .room) _ ∙ rw (stored .steps, stored .room);
-          stand = rw (stored .top) (stand-none start (omega (arith, stored .others .size, ready .stand .order, ready .stand .inside)));
-          others = stored .others;
-          lower = omega (arith, stored .floor);
-          paid = omega (arith, stored .top, stored .room, stored .floor, some, ready .fitting .paid);
-          sees =
-              rw (view-added numbers definitions sc e (omega arith))
-              (sees-defined lower e d entry (omega (arith, latest-length definitions (sc .defined))));
-        },
-        record { defined = omega arith; associated = omega arith },
-      )
+      record { order = omega (arith, stored .floor); inside = omega (arith, stored .others .size, fit .below); bytes = stored .bytes ∙ ready .stand .bytes } in
+      defined-left s t w w′ numbers definitions size sc (with-top st (st .room) start) st′ e (record { marker = m; name = n; content = value vs }) h (st .steps) (st .room)
+      (stored .steps) (stored .room) (omega (arith, stored .others .size, ready .stand .order, ready .stand .inside)) (stored .others) (stored .top) (omega (arith, stored .floor))
+      (omega (arith, stored .top, stored .room, stored .floor, some, fit .paid))
+      (value-entry fits (st′ .floor) (st .floor) (omega arith) (omega (arith, stored .floor, some)) (omega (arith, fit .below, fit .short)) stand)
+      (omega (arith, latest-length definitions (sc .defined))) sees
