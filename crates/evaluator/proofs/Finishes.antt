@@ -1,37 +1,35 @@
--- Laws of finishing a form by the values of what is inside it: a data form, a definition, a concat; and whether a code gives one value.
--- Document 01: the values of data forms, define, concat and calls in "Evaluation". Assumes nothing.
-use Prim.Native.Nat.{ℕ, _+_, _≤_, _<_}
-use mathlib.Core.Path.{_≡_, refl, sym, ap, _∙_}
+-- Laws of finishing a form by the values of what is inside it: a data form, a definition, a concat.
+-- Document 01: the values of data forms, define and concat in "Evaluation". Assumes nothing.
+use Prim.Native.Nat.{ℕ, _+_, _<_}
+use mathlib.Core.Path.{_≡_, refl, ap, _∙_}
 use mathlib.Core.List.{List, [], _∷_, _++_}
-use mathlib.Core.Bool.{false, not}
-use lib.ListN.{length, length-append}
-use lib.Dec.{eqb}
+use lib.ListN.{length, set, length-append}
 use native.Mathlib.Omega.{arith}
 use Rattle.spec.specs.Expr.{nil, array, int, ref, Expr, atom, form, Exprs, none, more, only, array-head, marker-bytes, atom-bytes, bytes, canonical}
-use Rattle.spec.specs.Nodes.{rest, Node, Nodes, cons, elements}
 use Rattle.spec.specs.Runs.{stop, hold}
 use Rattle.spec.specs.Plan.{Definition, value, Here, Finish}
-use Rattle.spec.specs.Evaluation.{add-definition, complete, join, one-value}
-use Rattle.laws.specs.Demands.{Bytes}
+use Rattle.spec.specs.Evaluation.{add-definition, complete, join, Call, finish}
 use Rattle.laws.proofs.Atoms.{head-bounds}
 use Rattle.laws.proofs.Fits.{FitsAll}
 use Rattle.laws.proofs.Holding.{hold-give, hold-stop}
 use Rattle.laws.proofs.Singles.{Single}
-use Rattle.rows.specs.Rows.{next, NodeAt, head-key}
-use Rattle.rules.specs.Scope.{pack, Entry}
-use Rattle.workspace.specs.Completed.{Stand, with-top, Completed, Joined, joined, no-arrays, Defined as Moved}
-use Rattle.rules.specs.Planned.{CodeAt, value-at}
-use Rattle.evaluator.specs.Listed.{LeftBy, NoCall, FinishedBy, by-form, by-define, by-concat, Finishing, Finished, as-left}
+use Rattle.workspace.specs.Packed.{pack}
+use Rattle.workspace.specs.Completed.{Stand, with-top, Completed, Joined, joined, no-arrays, Stored}
 use Rattle.workspace.specs.declared.values.State.{State}
 use Rattle.workspace.specs.declared.values.Out.{Out}
-use Rattle.workspace.specs.declared.values.Out.the-variants.{Done}
-use Rattle.rules.specs.declared.plan.After.{After}
-use Rattle.rules.specs.declared.plan.After.the-variants.{Form, Define, Concat}
-use Rattle.evaluator.specs.declared.element.Left.the-variants.{Defined}
-use Rattle.rows.proofs.Nodes.{MoreAt, nodes-done, nodes-more}
-use Rattle.rows.proofs.Keys.{headed-by-key, head-fits}
-use Rattle.workspace.proofs.Areas.{stand-size}
-use Rattle.evaluator.proofs.Begins.{completed-left}
+use Rattle.workspace.proofs.Areas.{stand-size, stand-none}
+use Rattle.rules.specs.Entries.{definition}
+use Rattle.rules.specs.Scope.{view}
+use Rattle.rules.specs.Settings.{Sees}
+use Rattle.rules.specs.declared.scope.Scope.{Scope}
+use Rattle.rules.specs.declared.plan.Making.{Making}
+use Rattle.rules.specs.declared.plan.Making.the-variants.{Form, Define, Concat}
+use Rattle.rules.proofs.Latest.{latest-length}
+use Rattle.rules.proofs.Shown.{value-entry}
+use Rattle.evaluator.specs.Listed.{LeftBy, as-left, FinishedBy, by-form, by-define, by-concat, Finishing}
+use Rattle.evaluator.specs.declared.element.Left.{Left}
+use Rattle.evaluator.specs.declared.element.Left.the-variants.{Done}
+use Rattle.evaluator.proofs.Begins.{completed-left, extends-none, defined-left}
 
 -- Values that stand
 
@@ -53,18 +51,13 @@ single-stands one there =
 
 -- What may be finished
 
-module _ {w : List ℕ} {start : ℕ} {st : State} {sc : List Entry} {vs : Exprs} where
-  pub can-define : {key : ℕ} {f : Finish} → FinishedBy sc (Define key) f → Finishing w st start f vs → start < st .top
-  can-define (by-define m n fits few) r = single-stands (r .finishable) (r .stand)
+module _ {w : List ℕ} {start : ℕ} {st : State} {sc : Scope} {vs : Exprs} where
+  pub can-define : {key : ℕ} {f : Finish} → FinishedBy sc (Define key) f → Finishing w st start f vs → (start < st .top) × (sc .defined < 256)
+  can-define (by-define m n fits few) r = (single-stands (r .finishable) (r .stand), few)
 
   pub can-join : {f : Finish} → FinishedBy sc Concat f → Finishing w st start f vs
       → (a : Expr) × (b : Expr) × Stand w start (st .top) (more a (only b)) × FitsAll (more a (only b))
   can-join by-concat r = let two = r .finishable in (two .0, two .1, rw (two .2) at (r .stand), rw (two .2) at (r .sound .0))
-
-pub no-call : {sc : List Entry} {after : After} {f : Finish} → FinishedBy sc after f → NoCall after
-no-call by-form = tt
-no-call (by-define m n fits few) = tt
-no-call by-concat = tt
 
 -- Two values joined
 
@@ -88,86 +81,46 @@ join-others row (atom (array bs)) (atom (array cs)) h other = absurd (other bs c
 
 -- What is finished
 
-module _ (w w′ : List ℕ) (st : State) (start row : ℕ) where
-  pub form-finished : (out : Out) → ((vs : Exprs) → Stand w start (st .top) vs → FitsAll vs → Completed w w′ st start row (only (form vs)) out)
-      → Finished w w′ start row Form (as-left out) (Done st)
-  form-finished out done s t names sc run h f vs by-form ready named counted most =
-      completed-left s t w w′ names sc (with-top st (st .room) start) st row (only (form vs)) h h out refl (ready .fitting) (ready .stand .order) refl named counted most
-      (done vs (ready .stand) (ready .sound .0))
+module _ (w w′ definitions : List ℕ) (sc : Scope) (st : State) (start row : ℕ) where
+  -- what is answered for the values of what is inside, whatever they are
+  abbrev pub Finished : List ℕ → Making → Left → Type 0
+  Finished definitions′ making left =
+      (s t numbers : List ℕ) (run : Call) (h : Here) (f : Finish) (vs : Exprs) → FinishedBy sc making f → Finishing w st start f vs
+      → Sees s t w (st .floor) (view numbers definitions sc) h
+      → LeftBy s t w w′ (view numbers definitions′) sc (with-top st (st .room) start) (hold (st .steps) (st .room) (finish run row h f vs)) left
 
-  pub define-finished : (key : ℕ) (st′ : State) → Moved w w′ st start st′
-      → Finished w w′ start row (Define key) (Defined st′ key (pack (st′ .floor) (st .floor))) (Done st)
-  define-finished key st′ moved s t names sc run h f vs (by-define m n fits few) ready named counted most =
-      let d : Definition = record { marker = m; name = n; content = value vs } in
-      let paid = ready .fitting .paid in
-      let some = single-stands (ready .finishable) (ready .stand) in
-      record {
-        definition = d;
-        is =
-            hold-give (st .steps) (st .room) (record { values = none; here = add-definition d h })
-            ∙ rw (moved .steps, moved .room);
-        entry =
-            value-at
-            (st′ .floor)
-            (st .floor)
-            fits
-            refl
-            refl
-            (omega arith)
-            (omega (arith, moved .floor, some))
-            (omega (arith, ready .fitting .below, ready .fitting .short))
-            (record {
-              order = omega (arith, moved .floor);
-              inside = omega (arith, moved .others .size, ready .fitting .below);
-              bytes = moved .bytes ∙ ready .stand .bytes;
-            });
-        few = few;
-        others = moved .others;
-        top = moved .top;
-        floor = omega (arith, moved .floor);
-        paid = omega (arith, moved .top, moved .room, moved .floor, some, paid);
-        namespaces = named;
-        counted = moved .names;
-      }
+  pub form-finished : (out : Out) → ((vs : Exprs) → Stand w start (st .top) vs → FitsAll vs → Completed w w′ st start row (only (form vs)) out)
+      → Finished definitions Form (as-left sc out)
+  form-finished out done s t numbers run h f vs by-form ready sees =
+      completed-left s t w w′ (view numbers definitions) sc sc (with-top st (st .room) start) st row (only (form vs)) h out refl (ready .fitting) (ready .stand .order)
+      (extends-none sc) sees (done vs (ready .stand) (ready .sound .0))
 
   pub concat-finished : (out : Out)
       → ((a b : Expr) → Stand w start (st .top) (more a (only b)) → FitsAll (more a (only b)) → Joined w w′ st start row a b out)
-      → Finished w w′ start row Concat (as-left out) (Done st)
-  concat-finished out done s t names sc run h f vs by-concat ready named counted most =
+      → Finished definitions Concat (as-left sc out)
+  concat-finished out done s t numbers run h f vs by-concat ready sees =
       let two = ready .finishable in
       rw (two .2) (go (done (two .0) (two .1) (rw (two .2) at (ready .stand)) (rw (two .2) at (ready .sound .0))))
     where
       go : {a b : Expr} {r : Out} → Joined w w′ st start row a b r
-          → LeftBy s t w w′ names sc (with-top st (st .room) start) h (hold (st .steps) (st .room) (join row [] (more a (only b)) h)) (as-left r)
+          → LeftBy s t w w′ (view numbers definitions) sc (with-top st (st .room) start) (hold (st .steps) (st .room) (join row [] (more a (only b)) h)) (as-left sc r)
       go {a} {b} {r} (joined bs cs is is′ done) =
           rw (is, is′, join-arrays row bs cs h)
-          (completed-left s t w w′ names sc (with-top st (st .room) start) st row (only (atom (array (bs ++ cs)))) h h r refl (ready .fitting) (ready .stand .order) refl named counted
-          most done)
+          (completed-left s t w w′ (view numbers definitions) sc sc (with-top st (st .room) start) st row (only (atom (array (bs ++ cs)))) h r refl (ready .fitting)
+          (ready .stand .order) (extends-none sc) sees done)
       go {a} {b} (no-arrays other) = rw (join-others row a b h other) (hold-stop (st .steps) (st .room) 11 row)
 
--- A code
-
-module _ {s t : List ℕ} {code : ℕ} {body : Nodes} (at : CodeAt s t code body) where
-  pub code-none : next t code ≤ code + 2 → one-value body ≡ false
-  code-none h = rw (nodes-done s t (code + 2) (next t code) body (at .code) h)
-
-  module _ (some : code + 2 < next t code) where
-    pub code-first : MoreAt s t (code + 2) (next t code) body
-    code-first = nodes-more s t (code + 2) (next t code) body (at .code) some
-
-    pub code-many : next t (code + 2) < next t code → one-value body ≡ false
-    code-many h =
-        let one = code-first in
-        let two = nodes-more s t (next t (code + 2)) (next t code) (one .rest) (one .nodes) h in
-        rw (one .is, two .is)
-
-    -- k is the key of the first one's head
-    pub code-one : (k : ℕ) → Bytes s → next t code ≤ next t (code + 2)
-        → ((e : Node) → NodeAt s t (code + 2) e → k ≡ head-key (elements e)) → not (eqb k 0x200D) ≡ one-value body
-    code-one k stream h asked =
-        let one = code-first in
-        let e = one .head in
-        let last = nodes-done s t (next t (code + 2)) (next t code) (one .rest) (one .nodes) h in
-        ap (λ (j : ℕ). not (eqb j 0x200D)) (asked e (one .node))
-        ∙ ap not (headed-by-key rest (omega arith) e (head-fits s t (code + 2) stream e (one .node)))
-        ∙ sym (ap one-value (one .is ∙ ap (cons e) last))
+  pub define-finished : (key : ℕ) (st′ : State) → length definitions ≡ 256 → Stored w w′ st start st′
+      → let e = definition key (pack (st′ .floor) (st .floor)) in
+      Finished (set definitions (sc .defined) e) (Define key) (Done st′ (record { defined = sc .defined + 1; associated = sc .associated }))
+  define-finished key st′ size stored s t numbers run h f vs (by-define m n fits few) ready sees =
+      let e = definition key (pack (st′ .floor) (st .floor)) in
+      let fit = ready .fitting in
+      let some = single-stands (ready .finishable) (ready .stand) in
+      let stand : Stand w′ (st′ .floor) (st .floor) vs =
+      record { order = omega (arith, stored .floor); inside = omega (arith, stored .others .size, fit .below); bytes = stored .bytes ∙ ready .stand .bytes } in
+      defined-left s t w w′ numbers definitions size sc (with-top st (st .room) start) st′ e (record { marker = m; name = n; content = value vs }) h (st .steps) (st .room)
+      (stored .steps) (stored .room) (omega (arith, stored .others .size, ready .stand .order, ready .stand .inside)) (stored .others) (stored .top) (omega (arith, stored .floor))
+      (omega (arith, stored .top, stored .room, stored .floor, some, fit .paid))
+      (value-entry fits (st′ .floor) (st .floor) (omega arith) (omega (arith, stored .floor, some)) (omega (arith, fit .below, fit .short)) stand)
+      (omega (arith, latest-length definitions (sc .defined))) sees

@@ -2,5 +2,5 @@ pub mod Latest
 pub mod Linking
 pub mod Borne
 pub mod Shown
-pub mod Rules
-pub mod Heads
+pub mod Expecting
+pub mod Associating

@@ -1,33 +1,62 @@
 -- `evaluator::element::begin` meets its contract: no step, or the task that is planned. Assumes nothing.
 use borrow.Author.Needs.{needs}
-use mathlib.Core.Path.{refl}
-use native.Mathlib.Omega.{arith}
-use Rattle.rules.specs.Scope.{entries}
-use Rattle.evaluator.proofs.Begins.{eval-none, begin-performs}
+use mathlib.Core.Path.{refl, sym, _∙_}
+use Rattle.evaluator.proofs.Begins.{begin-none, begin-performs}
 use Rattle.evaluator.proofs.element.begin.Statement.{statement}
 use Rattle.evaluator.proofs.element.begin.Tie as tie
 
-returns : tie.Need-returns
-returns c bound run e h b =
-    let x = c .before .before .before .before .args in
-    eval-none (x .s .now) (x .table .now) (x .row) run h e (b .node) (x .state .steps) (x .state .room) (c .if1 .taken)
+plan-requires : tie.Need-plan-requires
+plan-requires c κs =
+    let start = c .before .before .before .before .before .before .before .before .before .before .before in
+    let some = start .pre in
+    record {
+      work = start .args .w .now;
+      state = start .args .state;
+      expression = some .expression;
+      here = some .here;
+      is = some .begins .is;
+      setting = some .begins .setting;
+    }
 
 perform-requires : tie.Need-perform-requires
 perform-requires c κs =
-    let k = c .before .before .before .before in
-    let x = k .before .before .before .before .args in
-    let b = k .before .before .before .before .pre .begins in
-    let planned = c .before .before .plan .ensures (x .w .now) (x .state .floor) (x .state .top) _ _ (b .node) (b .setting) in
-    (entries (x .keys .now) (x .places .now) (x .scope), x .state, _, _, refl, begin-performs b (omega (arith, k .if1 .left)) planned)
+    let step = c .before .before .before .before .before .before .before .before .before in
+    let told = c .before .before .before .before .before .before .before .stepped .given in
+    let start = step .before .before .before .before .before .before in
+    let x = start .args in
+    let b = start .pre .begins in
+    let p = begin-performs b (step .before .before .row .ensures) (told .0 .0) (sym (step .step .ensures) ∙ told .1) (c .before .before .before .plan .ensures _ (b .is) (x .w .now) (x .state) _ (b .setting)) in
+    (x .state, start .pre .expression, start .pre .here, p .0, p .1)
+
+returns : tie.Need-returns
+returns c =
+    let step = c .before .before .before in
+    let told = c .before .number .given in
+    (λ bound run e h b. begin-none b (step .before .before .row .ensures) run (told .0 .0) (told .0 .1 .0) (sym (step .step .ensures) ∙ told .1), refl)
 
 returns-2 : tie.Need-returns-2
-returns-2 c bound run e h b =
-    let p = c .before .before .before .before .before in
-    let k = p .before .before in
-    let x = k .before .before .before .before .args in
-    let planned = p .plan .ensures (x .w .now) (x .state .floor) (x .state .top) e h (b .node) (b .setting) in
-    c .before .before .perform .ensures (entries (x .keys .now) (x .places .now) (x .scope)) (x .state) run e h refl (begin-performs b (omega (arith, k .if1 .left)) planned)
+returns-2 c =
+    let perform = c .before .before .perform in
+    let plan = c .before .before .before .before .before .before .plan in
+    let told = c .before .before .before .before .before .before .before .before .before .before .stepped .given in
+    let step = c .before .before .before .before .before .before .before .before .before .before .before .before in
+    let x = step .before .before .before .before .before .before .args in (
+      λ bound run e h b.
+          let p = begin-performs b (step .before .before .row .ensures) (told .0 .0) (sym (step .step .ensures) ∙ told .1) (plan .ensures e (b .is) (x .w .now) (x .state) h (b .setting)) in
+          perform .ensures .0 (x .state) run e h (p .0) (p .1),
+      perform .ensures .1,
+    )
 
 pub begin-spec : {M : Type 1} → statement M
 begin-spec =
-    tie.close (tie.spec returns (λ c. search needs) (λ c κs. search needs) perform-requires (λ c. search needs) returns-2)
+    tie.close
+    (tie.spec
+    (λ c κs. search needs)
+    (λ c κs. search needs)
+    (λ c. search needs)
+    (λ c. search needs)
+    plan-requires
+    perform-requires
+    returns
+    (λ c. search needs)
+    returns-2)
