@@ -1,10 +1,10 @@
 -- Laws of parts of the workspace: one behind the other, what is written and what that leaves as it was, and a move byte for byte.
 -- Document 01: "Workspace" says how much; where in it is the code's own. Assumes nothing.
-use Prim.Native.Nat.{ℕ, zero, suc, _+_, _-_, _≤_, _<_}
+use Prim.Native.Nat.{ℕ, suc, _+_, _-_, _≤_, _<_}
 use mathlib.Core.Path.{_≡_, refl, sym, ap, _∙_}
 use mathlib.Core.List.{List, [], _∷_, _++_, append-assoc, append-nil}
 use lib.ListN.{length, getD, set, take, drop, length-append, take-append-drop}
-use lib.Seq.{slice, slice-cons, slice-empty, length-slice, length-take-le, take-nil, take-at, drop-at, take-take, drop-drop, drop-append-le, getD-take, getD-drop}
+use lib.Seq.{slice, slice-cons, slice-empty, length-slice, length-take-le, take-at, drop-at, take-take, drop-drop, getD-take, getD-drop}
 use native.Mathlib.Omega.{arith}
 use native.Mathlib.Numerals.{add-one}
 use Rattle.writer.specs.Bytes.{put-at, Put}

@@ -2,13 +2,11 @@
 use Prim.Native.Nat.{ℕ, suc, _+_, _-_, _≤_, _<_}
 use mathlib.Core.Path.{_≡_, refl, sym, ap, _∙_, subst}
 use mathlib.Core.List.{List, [], _∷_, _++_, append-assoc, append-nil, head-eq-of-cons-eq}
-use mathlib.Core.Bool.{true, false}
 use native.Mathlib.Omega.{arith}
-use lib.ListN.{length, drop, set, length-append}
+use lib.ListN.{length, drop, length-append}
 use lib.Seq.{slice, length-slice, drop-cons, take-at}
-use lib.Dec.{leb}
-use borrow.Author.Tests.{lt-ltb, leb-true, leb-false}
-use Rattle.spec.specs.Expr.{nil, array, int, ref, Expr, atom, form, Exprs, more, only, deepest, depth, array-head, atom-bytes, bytes, canonical}
+use borrow.Author.Tests.{lt-ltb}
+use Rattle.spec.specs.Expr.{nil, array, int, ref, Expr, atom, form, more, only, array-head, atom-bytes, bytes, canonical}
 use Rattle.spec.specs.Reading.{Token, opening, whole, further, tokens}
 use Rattle.laws.proofs.Basics.{impossible}
 use Rattle.laws.proofs.Fits.{FitsExpr, FitsAll}
@@ -18,14 +16,14 @@ use Rattle.laws.proofs.Steps.{split-size, split-rest, tokens-from}
 use Rattle.atoms.specs.Tokens.{token-at, shown}
 use Rattle.reader.proofs.Finding.{spelled-some}
 use Rattle.writer.specs.Bytes.{put-at, Put}
-use Rattle.writer.proofs.Puts.{length-put-at, put-at-more, stored, written-on}
+use Rattle.writer.proofs.Puts.{written-on}
 use Rattle.workspace.specs.Joins.{array-of, array-at}
-use Rattle.workspace.specs.Completed.{Fitting, Stand, Untouched, with-top, Complete, Incomplete, too-deep}
+use Rattle.workspace.specs.Completed.{Fitting, Stand, Untouched, with-top, Complete}
 use Rattle.workspace.specs.declared.made.Bytes.{Bytes}
 use Rattle.workspace.specs.declared.made.Bytes.the-variants.{Array, Other}
 use Rattle.workspace.specs.declared.values.State.{State}
 use Rattle.rows.proofs.Slices.{slice-take}
-use Rattle.workspace.proofs.Areas.{stand-size, untouched-then, slice-below, put-untouched, slice-put, put-before, moved}
+use Rattle.workspace.proofs.Areas.{stand-size, untouched-then, slice-below, put-untouched, slice-put, moved}
 use Rattle.workspace.proofs.Completing.{Sized, written, only-atom}
 use Rattle.workspace.proofs.Spread.{slice-rest}
 

@@ -3,7 +3,7 @@
 -- charged, so that a charge that fits is room enough. Document 01: "Workspace". Assumes nothing.
 use Prim.Native.Nat.{ℕ, _+_, _-_, _≤_, _<_}
 use mathlib.Core.Path.{_≡_}
-use mathlib.Core.List.{List, [], _∷_, _++_}
+use mathlib.Core.List.{List, _++_}
 use lib.ListN.{length, take, drop, getD}
 use lib.Seq.{slice}
 use Rattle.spec.specs.Expr.{Atom, array, Expr, atom, Exprs, none, more, only, deepest, atom-bytes, bytes, canonical}
