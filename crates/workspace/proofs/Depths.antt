@@ -82,7 +82,7 @@ within-canonical vs f =
     (within-all vs (canonical vs) sp 0 0 [] (leb (deepest vs) 63) (omega arith) (omega arith)
     (λ h. le-leb (deepest vs) 63 (omega arith)) (λ h. lt-leb (deepest vs) 63 (omega arith)))
 
--- At place p of the canonical bytes of values, d forms are open, and what is left decides whether the values are shallow.
+-- At byte p of the canonical bytes of values, d forms are open, and what is left decides whether the values are shallow.
 pub record Nesting (s : List ℕ) (p d : ℕ) : Type 0 where
   pub stream : Bytes s
   pub inside : p ≤ length s

@@ -92,7 +92,7 @@ abbrev front-token : Expr → ℕ → Token
 front-token (atom a) p = whole a p (p + length (atom-bytes a))
 front-token (form es) p = opening p
 
--- a value that is an array whose bytes are between two places
+-- a value that is an array whose bytes are from p up to q
 pub record IsArray (w : List ℕ) (to : ℕ) (e : Expr) (p q : ℕ) : Type 0 where
   pub own : List ℕ
   pub is : e ≡ atom (array own)
@@ -100,12 +100,12 @@ pub record IsArray (w : List ℕ) (to : ℕ) (e : Expr) (p q : ℕ) : Type 0 whe
   pub end : q ≡ to
   pub part : slice p q w ≡ own
 
--- what the code is told of a value that ends at a place
+-- what the code is told of a value that ends at `to`
 abbrev Operand : List ℕ → ℕ → Expr → Bytes → Type 0
 Operand w to e (Array p q) = IsArray w to e p q
 Operand w to e Other = (bs : List ℕ) → e ≡ atom (array bs) → ⊥
 
--- a value at a place, whatever is behind it
+-- a value from byte p on, whatever is behind it
 module _ (w : List ℕ) (p : ℕ) (e : Expr) (u : List ℕ) (fits : FitsExpr e) (here : drop p w ≡ bytes e ++ u) where
   stands-inside : p < length w
   stands-inside = omega (arith, split-size w p (bytes e) u here, spelled-some e (bytes e) (canonical-expr e fits))

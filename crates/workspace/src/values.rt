@@ -185,7 +185,7 @@ pub fn itself(s: &[u8], table: &[u32], w: &mut [u8], state: State, range: Form) 
     charged(state, n, top + n)
 }
 
-// The values from `from` up to `to`, in the place of all from `start` on.
+// The values from `from` up to `to`, instead of all from `start` on.
 pub fn copied(w: &mut [u8], state: State, from: usize, to: usize, start: usize, row: usize) -> Out
     requires { ⌜ Fitting (now w) state ⌝ }
     requires { ⌜ (from ≤ to) × (to ≤ length (now w)) × (start ≤ state .top) ⌝ }
