@@ -16,8 +16,8 @@ use Rattle.laws.proofs.Shortest.{spelled-fits}
 use Rattle.atoms.specs.Tokens.{atom-head}
 use Rattle.writer.specs.Bytes.{put-at, with-head}
 use Rattle.writer.proofs.Puts.{length-put-at, put-at-more, stored}
-use Rattle.rows.specs.declared.forms.Form.{Form}
 use Rattle.rows.specs.Rows.{cell, LeafAt, NodeAt, NodesAt}
+use Rattle.rows.specs.declared.forms.Form.{Form}
 use Rattle.workspace.specs.Completed.{Fitting, Stand, with-top, Complete, Incomplete, too-deep, too-long, BodyOf, Atoms, SomeAtoms, Stored}
 use Rattle.workspace.specs.declared.values.State.{State}
 use Rattle.workspace.specs.declared.values.Body.{Body}
@@ -142,12 +142,11 @@ pub only-atom : (a : Atom) → (canonical (only (atom a)) ≡ atom-bytes a) × (
 unfolding bytes depth
 only-atom a = (append-nil (atom-bytes a), omega arith)
 
-module _ {s : List ℕ} {a : Atom} {b : Body} (of : BodyOf s a b) where
-  pub body-size : length (atom-bytes a) ≡ length (atom-head (b .kind) (b .to - b .from)) + (b .to - b .from)
-  body-size =
-      let x = take (b .to - b .from) (drop (b .from) s) in
-      let n : length x ≡ b .to - b .from = simp (length-take, length-drop) (omega (arith, of .order, of .inside)) in
-      ap length (sym (of .is)) ∙ length-append (atom-head (b .kind) (length x)) x ∙ rw n
+pub body-size : {s : List ℕ} {a : Atom} {b : Body} → BodyOf s a b → length (atom-bytes a) ≡ length (atom-head (b .kind) (b .to - b .from)) + (b .to - b .from)
+body-size {s} {a} {b} of =
+    let x = take (b .to - b .from) (drop (b .from) s) in
+    let n : length x ≡ b .to - b .from = simp (length-take, length-drop) (omega (arith, of .order, of .inside)) in
+    ap length (sym (of .is)) ∙ length-append (atom-head (b .kind) (length x)) x ∙ rw n
 
 pub atom-sized : {a : Atom} {n : ℕ} → n ≡ length (atom-bytes a) → Sized (only (atom a)) n
 atom-sized {a} size = record { shallow = only-atom a .1; size = ap length (only-atom a .0) ∙ sym size }

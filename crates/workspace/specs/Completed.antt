@@ -13,9 +13,9 @@ use Rattle.rows.specs.Rows.{NodesAt}
 use Rattle.rows.specs.declared.forms.Form.{Form}
 use Rattle.workspace.specs.Packed.{pack}
 use Rattle.workspace.specs.declared.values.State.{State}
-use Rattle.workspace.specs.declared.values.Body.{Body}
 use Rattle.workspace.specs.declared.values.Out.{Out}
 use Rattle.workspace.specs.declared.values.Out.the-variants.{Done, Refused}
+use Rattle.workspace.specs.declared.values.Body.{Body}
 
 -- a state of a workspace
 pub record Fitting (w : List ℕ) (st : State) : Type 0 where

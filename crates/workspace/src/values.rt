@@ -14,7 +14,7 @@ ghost use Rattle.spec.specs.Nodes.{Nodes, unnumbered-all};
 ghost use Rattle.rows.specs.Rows.{LeafAt, NodesAt};
 ghost use Rattle.writer.specs.Bytes.{put-at, Put};
 ghost use Rattle.workspace.specs.declared.values.Out.the-variants.{Done, Refused};
-ghost use Rattle.workspace.specs.Completed.{Fitting, Stand, with-top, with-floor, stepped, BodyOf, Completed, Stored, Atoms, SomeAtoms};
+ghost use Rattle.workspace.specs.Completed.{Fitting, Stand, with-top, with-floor, stepped, BodyOf, Atoms, SomeAtoms, Completed, Stored};
 
 // Steps and workspace that are left, where the finished values end, and where the definitions' begin.
 pub struct State {
