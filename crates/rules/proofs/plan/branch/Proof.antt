@@ -1,145 +1,89 @@
+-- `rules::plan::branch` meets its contract: the rule is that of the head's word. Assumes nothing.
 use borrow.Author.Needs.{needs}
+use mathlib.Core.Path.{_≡_, sym, ap, _∙_}
+use Rattle.spec.specs.Nodes.{Word, Nodes, head-word}
+use Rattle.spec.specs.Plan.{plan-arg, plan-rest, plan-form}
+use Rattle.rows.specs.Rows.{NodesAt}
+use Rattle.rows.specs.Forms.{meant, SomeNodes}
+use Rattle.rows.specs.declared.words.Word.{Word as Coded}
+use Rattle.rows.proofs.Parts.{node-elements}
+use Rattle.rules.specs.Planned.{refuses}
 use Rattle.rules.proofs.plan.branch.Statement.{statement}
 use Rattle.rules.proofs.plan.branch.Tie as tie
-use Rattle.rules.proofs.plan.branch.Reads as reads
-use Rattle.rules.proofs.plan.branch.Lts as lts
-use Rattle.rows.proofs.forms.Form.is_named.Reads as is-named-reads
-use Rattle.rows.proofs.forms.Form.word.Reads as word-reads
-use Rattle.rules.proofs.plan.arguments.Reads as arguments-reads
-use Rattle.rules.proofs.plan.concat.Reads as concat-reads
-use Rattle.rules.proofs.plan.define.Reads as define-reads
-use Rattle.rules.proofs.plan.named.Reads as named-reads
-use Rattle.rules.proofs.plan.ns.Reads as ns-reads
-use Rattle.rules.proofs.plan.number.Reads as number-reads
-use Rattle.rules.proofs.plan.unnamed.Reads as unnamed-reads
 
--- src/plan.rt:369:11
-word-requires : tie.Need-word-requires
-word-requires c κs = ?
+some-nodes : (c : tie.Start) → SomeNodes (c .args .s .now) (c .args .table .now) (c .args .form)
+some-nodes c = record { nodes = _; at = node-elements (c .pre .is) }
 
--- src/plan.rt:370:21
-enum-told : tie.Need-enum-told
-enum-told c = search needs
+-- the head's word
+headed : (c : tie.After-word) (w : Coded) → c .word .result ≡ w → let a = c .before .before .before .args in
+    (es : Nodes) → NodesAt (a .s .now) (a .table .now) (a .form .first) (a .form .end) es → head-word es ≡ meant w
+headed c w is es at = sym (c .word .ensures es at) ∙ ap meant is
 
--- src/plan.rt:370:21
-ns-requires : tie.Need-ns-requires
-ns-requires c κs = search needs
-
--- src/plan.rt:371:25
-enum-told-2 : tie.Need-enum-told-2
-enum-told-2 c = search needs
-
--- src/plan.rt:371:25
-define-requires : tie.Need-define-requires
-define-requires c κs = search needs
-
--- src/plan.rt:372:24
-enum-told-3 : tie.Need-enum-told-3
-enum-told-3 c = search needs
-
--- src/plan.rt:373:25
-enum-told-4 : tie.Need-enum-told-4
-enum-told-4 c = search needs
-
--- src/plan.rt:373:25
-concat-requires : tie.Need-concat-requires
-concat-requires c κs = ?
-
--- src/plan.rt:374:50
-enum-told-5 : tie.Need-enum-told-5
-enum-told-5 c = search needs
-
--- src/plan.rt:374:50
-number-requires : tie.Need-number-requires
-number-requires c κs = ?
-
--- src/plan.rt:374:22
-arguments-requires : tie.Need-arguments-requires
-arguments-requires c κs = search needs
-
--- src/plan.rt:375:51
-enum-told-6 : tie.Need-enum-told-6
-enum-told-6 c = search needs
-
--- src/plan.rt:375:51
-number-requires-2 : tie.Need-number-requires-2
-number-requires-2 c κs = ?
-
--- src/plan.rt:375:23
-arguments-requires-2 : tie.Need-arguments-requires-2
-arguments-requires-2 c κs = search needs
-
--- src/plan.rt:377:16
-enum-told-7 : tie.Need-enum-told-7
-enum-told-7 c = search needs
-
--- src/plan.rt:377:16
-is-named-requires : tie.Need-is-named-requires
-is-named-requires c κs = ?
-
--- src/plan.rt:378:17
-named-requires : tie.Need-named-requires
-named-requires c κs = ?
-
--- src/plan.rt:378:17
 returns : tie.Need-returns
-returns c = ?
+unfolding plan-form
+returns c es at w st h set =
+    let k = c .before .before .before in
+    rw (headed (k .before .before) _ (k .enum-told7 .given .1) es at) (c .named .ensures _ _ es at w st h set)
 
--- src/plan.rt:380:13
-unnamed-requires : tie.Need-unnamed-requires
-unnamed-requires c κs = ?
-
--- src/plan.rt:356:1
 returns-2 : tie.Need-returns-2
-returns-2 c = ?
+unfolding plan-form
+returns-2 c es at w st h set =
+    let is = headed (c .before .before .before) _ (c .before .enum-told .given .1) es at in
+    rw is (c .ns .ensures _ _ es at is w st h set)
 
--- src/plan.rt:356:1
 returns-3 : tie.Need-returns-3
-returns-3 c = ?
+unfolding plan-form
+returns-3 c es at w st h set = rw (headed (c .before .before .before) _ (c .before .enum-told2 .given .1) es at) (c .define .ensures _ _ es at w st h set)
 
--- src/plan.rt:356:1
 returns-4 : tie.Need-returns-4
-returns-4 c = ?
+unfolding plan-form
+returns-4 c es at w st h set = rw (headed (c .before .before) _ (c .enum-told3 .given .1) es at) (refuses 12)
 
--- src/plan.rt:356:1
 returns-5 : tie.Need-returns-5
-returns-5 c = ?
+unfolding plan-form
+returns-5 c es at w st h set = rw (headed (c .before .before .before) _ (c .before .enum-told4 .given .1) es at) (c .concat .ensures _ _ _ es at w st h set)
 
--- src/plan.rt:356:1
 returns-6 : tie.Need-returns-6
-returns-6 c = ?
+unfolding plan-form
+returns-6 c es at w st h set =
+    rw (headed (c .before .before .before .before) _ (c .before .before .enum-told5 .given .1) es at, c .before .number .ensures es (λ n. plan-arg n (h .arguments)) at)
+    (c .arguments .ensures _ _ w _ _ _ _ _ _ (set .arguments))
 
--- src/plan.rt:356:1
 returns-7 : tie.Need-returns-7
-returns-7 c = ?
+unfolding plan-form
+returns-7 c es at w st h set =
+    rw (headed (c .before .before .before .before) _ (c .before .before .enum-told6 .given .1) es at, c .before .number2 .ensures es (λ n. plan-rest n (h .arguments)) at)
+    (c .arguments2 .ensures _ _ w _ _ _ _ _ _ (set .arguments))
 
--- src/plan.rt:356:1
 returns-8 : tie.Need-returns-8
-returns-8 c = ?
+unfolding plan-form
+returns-8 c es at w st h set =
+    let k = c .before .before .before in
+    rw (headed (k .before .before) _ (k .enum-told7 .given .1) es at) (c .unnamed .ensures _ _ _ es at w st h set)
 
 pub branch-spec : {M : Type 1} → statement M
 branch-spec =
     tie.close
     (tie.spec
-    word-requires
-    enum-told
-    ns-requires
-    enum-told-2
-    define-requires
-    enum-told-3
-    enum-told-4
-    concat-requires
-    enum-told-5
-    number-requires
-    arguments-requires
-    enum-told-6
-    number-requires-2
-    arguments-requires-2
-    enum-told-7
-    is-named-requires
-    named-requires
+    (λ c κs. some-nodes (c .before .before))
+    (λ c. search needs)
+    (λ c κs. (_, _, c .before .before .before .before .before .pre))
+    (λ c. search needs)
+    (λ c κs. (_, _, c .before .before .before .before .before .pre))
+    (λ c. search needs)
+    (λ c. search needs)
+    (λ c κs. some-nodes (c .before .before .before .before .before))
+    (λ c. search needs)
+    (λ c κs. some-nodes (c .before .before .before .before .before))
+    (λ c κs. search needs)
+    (λ c. search needs)
+    (λ c κs. some-nodes (c .before .before .before .before .before))
+    (λ c κs. search needs)
+    (λ c. search needs)
+    (λ c κs. (_, _, some-nodes (c .before .before .before .before .before) .at))
+    (λ c κs. ((_, _, c .before .before .before .before .before .before .before .pre), λ es at. sym (c .before .is-named .ensures _ es at) ∙ c .if1 .taken))
     returns
-    unnamed-requires
+    (λ c κs. (some-nodes (c .before .before .before .before .before .before .before), λ es at. sym (c .before .is-named .ensures _ es at) ∙ c .if1 .left))
     returns-2
     returns-3
     returns-4

@@ -41,9 +41,9 @@ module _ (c : tie.After-shared-slice-known) where
   fits l = leaf-fits (all-bytes (start .args .s .now) (λ i. c .shared-slice-known .given i .fits)) (l .here)
 
 -- what its key found
-found : (c : tie.After-look-up) → let k = c .before .before .before in
+found : (c : tie.After-look-up) {es : Nodes} → let k = c .before .before .before in
     let a = start k .args in
-    {es : Nodes} (l : Led k es) (w : List ℕ) (floor : ℕ) (ds : Definitions) → Shows (a .s .now) (a .table .now) w floor (latest (a .definitions .now) (a .here .scope .defined)) ds
+    (l : Led k es) (w : List ℕ) (floor : ℕ) (ds : Definitions) → Shows (a .s .now) (a .table .now) w floor (latest (a .definitions .now) (a .here .scope .defined)) ds
     → Answers (a .s .now) (a .table .now) w floor (latest (a .definitions .now) (a .here .scope .defined)) (c .look-up .result) (look-up (l .marker) (l .name) ds)
 found c l w floor ds shows =
     let k = c .before .before .before in
