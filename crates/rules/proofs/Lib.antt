@@ -4,3 +4,8 @@ pub mod Borne
 pub mod Shown
 pub mod Expecting
 pub mod Associating
+pub mod Defining
+pub mod Joining
+pub mod Passing
+pub mod Naming
+pub mod Heading
