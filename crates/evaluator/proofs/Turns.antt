@@ -18,8 +18,7 @@ use Rattle.laws.proofs.Singles.{append-none, eval-within, eval-stays, eval-scop
 use Rattle.laws.proofs.Values.{FitsNode, FitsNodes, eval-sound, run-code-sound}
 use Rattle.laws.proofs.Holding.{and-hold-same, and-hold-twice, hold-reached, hold-list-empty, hold-list}
 use Rattle.rows.specs.Rows.{next, NodeAt, NodesAt, row-of}
-use Rattle.rows.specs.Forms.{starting-at, IsNode}
-use Rattle.rows.specs.declared.forms.Form.{Form}
+use Rattle.rows.specs.Forms.{IsNode}
 use Rattle.rows.specs.declared.forms.Node.{Node as Ranged}
 use Rattle.rows.proofs.Nodes.{MoreAt, append-nodes, markers-append, nodes-done, nodes-more, nodes-append, node-row, node-next-in}
 use Rattle.rows.proofs.Slices.{slice-split}
@@ -67,7 +66,7 @@ sees-in p x = record { definitions = x .definitions; few = x .few; associations 
 -- The list
 
 -- what the nodes that are listed answer as a whole
-abbrev pub held-list : {s t w args : List ℕ} {v : View} {st : State} {at : Seen} {f : Form} → SomeReady s t w args v st at f → Held Left
+abbrev pub held-list : {s t w args : List ℕ} {v : View} {st : State} {at : Seen} {first end : ℕ} → SomeReady s t w args v st at first end → Held Left
 held-list {st = st} y = hold (st .steps) (st .room) (in-list (run-code (y .codes)) (y .nodes) (y .here))
 
 -- what a list leaves, behind values that it left before
@@ -80,20 +79,20 @@ left-of-none (reached a steps work) = refl
 left-of-none (ceased v r) = refl
 
 -- `held` is what the list answers as a whole; before the expression at a row, the values `passed` stand, and the rest is to be evaluated
-pub record Going (s t : List ℕ) (bound codes : ℕ) (args : List ℕ) (f : Form) (w₀ w : List ℕ) (v : View) (st₀ st : State) (at : Seen) (row : ℕ) (held : Held Left) : Type 0 where
+pub record Going (s t : List ℕ) (bound codes : ℕ) (args : List ℕ) (end : ℕ) (w₀ w : List ℕ) (v : View) (st₀ st : State) (at : Seen) (row : ℕ) (held : Held Left) : Type 0 where
   pub rest : Nodes
   pub here : Here
   pub passed : Exprs
   pub is : held ≡ left-of passed (hold (st .steps) (st .room) (in-list (run-code codes) rest here))
-  pub ready : Ready s t bound codes w args v st at (starting-at row f) rest here
+  pub ready : Ready s t bound codes w args v st at row end rest here
   pub stand : Stand w (st₀ .top) (st .top) passed
   pub others : Untouched w₀ w (st₀ .top) (st₀ .floor)
   pub lower : st .floor ≤ st₀ .floor
   pub fewer : st .steps ≤ st₀ .steps
 
-module _ {s t : List ℕ} {bound codes : ℕ} {args : List ℕ} {f : Form} where
-  pub going-start : {w : List ℕ} {v : View} {st : State} {at : Seen} {es : Nodes} {h : Here} → Ready s t bound codes w args v st at f es h
-      → Going s t bound codes args f w w v st st at (f .first) (hold (st .steps) (st .room) (in-list (run-code codes) es h))
+module _ {s t : List ℕ} {bound codes : ℕ} {args : List ℕ} {end : ℕ} where
+  pub going-start : {w : List ℕ} {v : View} {st : State} {at : Seen} {first : ℕ} {es : Nodes} {h : Here} → Ready s t bound codes w args v st at first end es h
+      → Going s t bound codes args end w w v st st at first (hold (st .steps) (st .room) (in-list (run-code codes) es h))
   going-start {w} {st = st} {es = es} {h = h} r = record {
     rest = es;
     here = h;
@@ -106,14 +105,14 @@ module _ {s t : List ℕ} {bound codes : ℕ} {args : List ℕ} {f : Form} where
     fewer = omega arith;
   }
 
-  module _ {w₀ w : List ℕ} {v : View} {st₀ st : State} {at : Seen} {row : ℕ} {held : Held Left} (g : Going s t bound codes args f w₀ w v st₀ st at row held) where
+  module _ {w₀ w : List ℕ} {v : View} {st₀ st : State} {at : Seen} {row : ℕ} {held : Held Left} (g : Going s t bound codes args end w₀ w v st₀ st at row held) where
     -- no expression is left
-    pub going-over : f .end ≤ row → (floor : ℕ) → floor ≡ st₀ .floor → Over w₀ w st₀ held (with-floor st floor)
+    pub going-over : end ≤ row → (floor : ℕ) → floor ≡ st₀ .floor → Over w₀ w st₀ held (with-floor st floor)
     going-over h floor e =
         let r = g .ready in
         record {
           left = record { values = g .passed; here = g .here };
-          is = g .is ∙ rw (nodes-done s t row (f .end) (g .rest) (r .nodes) h, hold-list-empty (run-code codes) (g .here) (st .steps) (st .room), append-none (g .passed));
+          is = g .is ∙ rw (nodes-done s t row end (g .rest) (r .nodes) h, hold-list-empty (run-code codes) (g .here) (st .steps) (st .room), append-none (g .passed));
           stand = g .stand;
           others = g .others;
           floor = e;
@@ -121,9 +120,9 @@ module _ {s t : List ℕ} {bound codes : ℕ} {args : List ℕ} {f : Form} where
         }
 
     -- one is next
-    module _ (on : row < f .end) where
-      pub going-more : MoreAt s t row (f .end) (g .rest)
-      going-more = nodes-more s t row (f .end) (g .rest) (g .ready .nodes) on
+    module _ (on : row < end) where
+      pub going-more : MoreAt s t row end (g .rest)
+      going-more = nodes-more s t row end (g .rest) (g .ready .nodes) on
 
       -- what it answers
       abbrev pub held-next : Held Left
@@ -136,6 +135,9 @@ module _ {s t : List ℕ} {bound codes : ℕ} {args : List ℕ} {f : Form} where
       fits-next : FitsNode bound (going-more .head) × FitsNodes bound (going-more .rest)
       fits-next = subst (λ (es : Nodes). FitsNodes bound es) (going-more .is) (g .ready .fit)
 
+      pub going-fits : FitsNode bound (going-more .head)
+      going-fits = fits-next .0
+
       pub row-next : row-of (going-more .head) ≡ row
       row-next = node-row s t row (going-more .head) (going-more .node)
 
@@ -144,7 +146,7 @@ module _ {s t : List ℕ} {bound codes : ℕ} {args : List ℕ} {f : Form} where
         is = is;
         setting = rw row-next (g .ready .setting);
         fitting = g .ready .fitting;
-        fit = fits-next .0;
+        fit = going-fits;
         sound = g .ready .sound;
       }
 
@@ -168,7 +170,7 @@ module _ {s t : List ℕ} {bound codes : ℕ} {args : List ℕ} {f : Form} where
 
       -- it leaves something, and the list goes on
       pub going-on : {w′ : List ℕ} {v′ : View} {st′ : State} (sc′ : Scope) {past : ℕ} → past ≡ next t row → LeftAt s t w w′ v′ st held-next st′
-          → Going s t bound codes args f w₀ w′ v′ st₀ st′ (showing sc′ at) past held
+          → Going s t bound codes args end w₀ w′ v′ st₀ st′ (showing sc′ at) past held
       going-on {w′} {v′} {st′} sc′ e l =
           let r = g .ready in
           let run = run-code codes in
@@ -177,7 +179,7 @@ module _ {s t : List ℕ} {bound codes : ℕ} {args : List ℕ} {f : Form} where
           let order = g .stand .order in
           let size = l .others .size in
           let ends = hold-reached (st .steps) (st .room) _ one (st′ .steps) (st′ .room) (l .is) in
-          let sound = rw (ends .0) at (eval-sound bound run (run-code-sound bound codes) e₁ (fits-next .0) (g .here) (r .sound) .holds) in
+          let sound = rw (ends .0) at (eval-sound bound run (run-code-sound bound codes) e₁ going-fits (g .here) (r .sound) .holds) in
           rw e (record {
             rest = going-more .rest;
             here = onward e₁ (one .here);
