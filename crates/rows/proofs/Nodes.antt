@@ -8,7 +8,7 @@ use lib.Seq.{slice, length-slice, drop-drop, drop-at}
 use native.Mathlib.Omega.{arith}
 use Rattle.spec.specs.Expr.{Atom, nil, array, int, ref, atom-bytes}
 use Rattle.spec.specs.Reading.{atom-kind, row-width}
-use Rattle.spec.specs.Nodes.{Node, leaf, branch, Nodes, empty, cons, elements, markers, markers-all}
+use Rattle.spec.specs.Nodes.{Node, leaf, branch, Nodes, empty, cons, markers, markers-all}
 use Rattle.laws.specs.Demands.{Bytes}
 use Rattle.laws.specs.Grammar.{SpellsArray, small, generic}
 use Rattle.laws.proofs.Fits.{bytes-take, bytes-drop, Fits}
@@ -36,7 +36,7 @@ kind-ref (array bs) h = absurd (omega arith)
 kind-ref (int v) h = absurd (omega arith)
 kind-ref (ref m n) h = (m, n, refl)
 
-no-form : (a : Atom) → atom-kind a ≡ 1 → ⊥
+pub no-form : (a : Atom) → atom-kind a ≡ 1 → ⊥
 no-form nil h = omega arith
 no-form (array bs) h = omega arith
 no-form (int v) h = omega arith
@@ -85,12 +85,10 @@ module _ {s t : List ℕ} {r : ℕ} where
   unfolding atom-bytes
   leaf-ref l = l .spells .2
 
-  leaf-spelled : {a : Atom} → Bytes s → LeafAt s t r a → Fits a × (length (atom-bytes a) ≤ length (slice (cell t r 1) (cell t r 2) s))
-  leaf-spelled {a} b l =
-      spelled-fits a (slice (cell t r 1) (cell t r 2) s) (bytes-drop (cell t r 1) (take (cell t r 2) s) (bytes-take (cell t r 2) s b)) (l .spells)
-
   pub leaf-fits : {a : Atom} → Bytes s → LeafAt s t r a → Fits a
-  leaf-fits b l = leaf-spelled b l .0
+  leaf-fits {a} b l =
+      let own = bytes-drop (cell t r 1) (take (cell t r 2) s) (bytes-take (cell t r 2) s b) in
+      spelled-fits a (slice (cell t r 1) (cell t r 2) s) own (l .spells) .0
 
 -- Nodes, one after the other
 
@@ -163,22 +161,21 @@ module _ (s t : List ℕ) (r : ℕ) where
   form-nodes q es n = n .2
 
   -- the row of a node stands, whatever its kind
-  pub node-stands : (e : Node) → NodeAt s t r e → RowAt s t r (cell t r 0)
+  node-stands : (e : Node) → NodeAt s t r e → RowAt s t r (cell t r 0)
   node-stands (leaf q a) n = let l = leaf-at q a n in subst (RowAt s t r) (leaf-kind l) (l .row)
   node-stands (branch q es) n = let row = form-row q es n in subst (RowAt s t r) (sym (row .kind-is)) row
 
   pub node-whole : (e : Node) → NodeAt s t r e → (row-width * r + row-width ≤ length t) × (r < 65536)
   node-whole e n = let row = node-stands e n in (row .inside, row .few)
 
+  pub more-whole : {end : ℕ} {es : Nodes} → MoreAt s t r end es → (row-width * r + row-width ≤ length t) × (r < 65536)
+  more-whole f = node-whole (f .head) (f .node)
+
   pub node-next-in : (e : Node) → NodeAt s t r e → r < next t r
   node-next-in (leaf q a) n = omega (arith, leaf-at q a n .on)
   node-next-in (branch q es) n = omega (arith, nodes-order s t (r + 1) (next t r) es (form-nodes q es n))
 
-  -- what the kind tells of a node
-  pub kind-form : (e : Node) → NodeAt s t r e → cell t r 0 ≡ 1 → e ≡ branch r (elements e)
-  kind-form (leaf q a) n h = absurd (no-form a (leaf-kind (leaf-at q a n) ∙ h))
-  kind-form (branch q es) n h = ap (λ (k : ℕ). branch k es) (node-row (branch q es) n)
-
+  -- what is no form is an atom
   pub kind-leaf : (e : Node) → NodeAt s t r e → (cell t r 0 ≡ 1 → ⊥) → (a : Atom) × (e ≡ leaf r a) × LeafAt s t r a
   kind-leaf (leaf q a) n h = (a, ap (λ (k : ℕ). leaf k a) (node-row (leaf q a) n), leaf-at q a n)
   kind-leaf (branch q es) n h = absurd (h (form-row q es n .kind-is))

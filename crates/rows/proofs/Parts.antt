@@ -1,22 +1,24 @@
--- What code finds out of a form by its rows: its head, how many elements it has, and where the second and the third are.
+-- What code finds out of nodes by their rows: what is at a row, whether a reference leads them, and which they are if they are two or three.
 -- Document 01: "elements in ns, define, concat, arg, rest, counted as written". Assumes nothing.
-use Prim.Native.Nat.{ℕ, _+_, _*_, _≤_, _<_}
+use Prim.Native.Nat.{ℕ, _≤_, _<_}
 use mathlib.Core.Path.{_≡_, refl, sym, ap, _∙_, subst}
 use mathlib.Core.List.{List}
-use lib.ListN.{length}
-use lib.Dec.{leb}
-use borrow.Author.Tests.{le-leb, lt-leb}
+use mathlib.Core.Bool.{Bool, true, false}
+use lib.Dec.{leb, eqb}
+use borrow.Author.Tests.{leb-true, leb-false}
 use native.Mathlib.Omega.{arith}
-use Rattle.spec.specs.Expr.{if_then_else_, nil, array, int, ref}
-use Rattle.spec.specs.Reading.{row-width}
-use Rattle.spec.specs.Nodes.{Node, leaf, branch, Nodes, empty, cons, elements}
-use Rattle.rows.specs.Rows.{cell, next, LeafAt, NodeAt, NodesAt, parts-of, key-of, no-key, head-key}
+use Rattle.spec.specs.Expr.{nil, array, int, ref}
+use Rattle.spec.specs.Nodes.{plain, Node, leaf, branch, Nodes, empty, cons, elements, head-word}
+use Rattle.laws.specs.Demands.{Bytes}
+use Rattle.laws.proofs.Basics.{impossible}
+use Rattle.rows.specs.Rows.{cell, next, LeafAt, NodeAt, NodesAt, row-of, parts-of, key-of}
+use Rattle.rows.specs.Forms.{written, IsNode, is-leaf, is-branch, row-named, led-by-reference}
+use Rattle.rows.specs.declared.forms.Form.{Form}
+use Rattle.rows.specs.declared.forms.Node.{Node as Ranged}
+use Rattle.rows.specs.declared.forms.Node.the-variants.{Leaf, Branch}
 use Rattle.rows.specs.declared.forms.Parts.{Parts}
-use Rattle.rows.proofs.Nodes.{kind-ref, leaf-kind, MoreAt, nodes-done, nodes-more, node-row, form-nodes, node-whole, kind-form, kind-leaf}
-
--- some nodes, whichever they are
-abbrev pub SomeAt : List ℕ → List ℕ → ℕ → ℕ → Type 0
-SomeAt s t r end = (es : Nodes) × NodesAt s t r end es
+use Rattle.rows.proofs.Nodes.{kind-ref, no-form, leaf-kind, leaf-fits, nodes-first, node-row, kind-leaf}
+use Rattle.rows.proofs.Keys.{word-of, word-again}
 
 -- a node that is a reference
 pub record ReferenceAt (s t : List ℕ) (r : ℕ) (e : Node) : Type 0 where
@@ -25,23 +27,46 @@ pub record ReferenceAt (s t : List ℕ) (r : ℕ) (e : Node) : Type 0 where
   pub is : e ≡ leaf r (ref marker name)
   pub here : LeafAt s t r (ref marker name)
 
--- how many elements end at row `end`, and the second's and the third's row, by the rows of the first four
-abbrev pub parts-from : ℕ → ℕ → ℕ → ℕ → ℕ → Parts
-parts-from end r p q u =
-    if leb end r then record { count = 0; second = 0; third = 0 } else
-    if leb end p then record { count = 1; second = 0; third = 0 } else
-    if leb end q then record { count = 2; second = p; third = 0 } else
-    record { count = if leb end u then 3 else 4; second = p; third = q }
+-- nodes led by a reference
+pub record LedAt (s t : List ℕ) (r end : ℕ) (es : Nodes) : Type 0 where
+  pub marker : ℕ
+  pub name : ℕ
+  pub rest : Nodes
+  pub is : es ≡ cons (leaf r (ref marker name)) rest
+  pub here : LeafAt s t r (ref marker name)
+  pub nodes : NodesAt s t (next t r) end rest
+
+-- The code's nodes
+
+module _ {s t : List ℕ} where
+  pub node-named : {n : Ranged} {e : Node} → IsNode s t n e → row-named n ≡ row-of e
+  node-named (is-leaf row a l) = refl
+  node-named (is-branch f es h) = refl
+
+  pub node-atom : {row : ℕ} {e : Node} → IsNode s t (Leaf row) e → plain ≡ head-word (elements e)
+  node-atom (is-leaf row a l) = refl
+
+  pub node-elements : {f : Form} {e : Node} → IsNode s t (Branch f) e → NodesAt s t (f .first) (f .end) (elements e)
+  node-elements (is-branch f es h) = h
+
+-- what a test for the end of a range tells
+module _ {first end : ℕ} {b : Bool} (e : b ≡ leb end first) where
+  pub at-end : b ≡ true → end ≤ first
+  at-end h = leb-true end first (sym e ∙ h)
+
+  pub before-end : b ≡ false → first < end
+  before-end h = leb-false end first (sym e ∙ h)
+
+-- a head that is no reference
+pub unled : (es : Nodes) → false ≡ led-by-reference es → plain ≡ head-word es
+unled empty h = refl
+unled (cons (leaf q nil) es) h = refl
+unled (cons (leaf q (array bs)) es) h = refl
+unled (cons (leaf q (int v)) es) h = refl
+unled (cons (leaf q (ref m n)) es) h = impossible (cc)
+unled (cons (branch q fs) es) h = refl
 
 module _ (s t : List ℕ) where
-  -- SomeAt
-
-  pub some-inside : (r end : ℕ) → SomeAt s t r end → r < end → row-width * r + row-width ≤ length t
-  some-inside r end h l = let f = nodes-more s t r end (h .0) (h .1) l in node-whole s t r (f .head) (f .node) .0
-
-  pub some-next : (r end p : ℕ) → SomeAt s t r end → r < end → p ≡ next t r → SomeAt s t p end
-  some-next r end p h l e = let f = nodes-more s t r end (h .0) (h .1) l in rw e (f .rest, f .nodes)
-
   -- kinds
 
   pub reference-at : (r : ℕ) (e : Node) → NodeAt s t r e → cell t r 0 ≡ 4 → ReferenceAt s t r e
@@ -50,78 +75,103 @@ module _ (s t : List ℕ) where
       let m = kind-ref (l .0) (leaf-kind (l .2) ∙ k) in
       record { marker = m .0; name = m .1; is = l .1 ∙ ap (leaf r) (m .2); here = subst (LeafAt s t r) (m .2) (l .2) }
 
-  elements-at : (r : ℕ) (e : Node) → NodeAt s t r e → cell t r 0 ≡ 1 → NodesAt s t (r + 1) (next t r) (elements e)
-  elements-at r e h k = form-nodes s t r r (elements e) (subst (NodeAt s t r) (kind-form s t r e h k) h)
+  -- a row as the code's node
 
-  -- head-key
-
-  pub head-of-atom : (r : ℕ) (e : Node) → NodeAt s t r e → (cell t r 0 ≡ 1 → ⊥) → head-key (elements e) ≡ no-key
-  head-of-atom r e h k = ap (λ (x : Node). head-key (elements x)) (kind-leaf s t r e h k .1)
-
-  head-other : (r : ℕ) (e : Node) (es : Nodes) → NodeAt s t r e → (cell t r 0 ≡ 4 → ⊥) → head-key (cons e es) ≡ no-key
+  pub form-node : (r : ℕ) (e : Node) → NodeAt s t r e → cell t r 0 ≡ 1 → IsNode s t (Branch (written t r)) e
   unfolding NodeAt
-  head-other r (leaf q nil) es h k = refl
-  head-other r (leaf q (array bs)) es h k = refl
-  head-other r (leaf q (int v)) es h k = refl
-  head-other r (leaf q (ref m n)) es h k = absurd (k (h .1 .row .kind-is))
-  head-other r (branch q fs) es h k = refl
+  form-node r (leaf q a) h k = absurd (no-form a (leaf-kind (h .1) ∙ k))
+  form-node r (branch q es) h k =
+      subst (λ (j : ℕ). IsNode s t (Branch (written t r)) (branch j es)) (sym (h .0)) (is-branch (written t r) es (h .2))
 
-  module _ (r : ℕ) (e : Node) (h : NodeAt s t r e) (form : cell t r 0 ≡ 1) where
-    pub head-of-none : next t r ≤ r + 1 → head-key (elements e) ≡ no-key
-    head-of-none l = ap head-key (nodes-done s t (r + 1) (next t r) (elements e) (elements-at r e h form) l)
+  pub leaf-node : (r : ℕ) (e : Node) → NodeAt s t r e → (cell t r 0 ≡ 1 → ⊥) → IsNode s t (Leaf r) e
+  leaf-node r e h k = let l = kind-leaf s t r e h k in rw (l .1) (is-leaf r (l .0) (l .2))
 
-    module _ (some : r + 1 < next t r) where
-      pub head-at : MoreAt s t (r + 1) (next t r) (elements e)
-      head-at = nodes-more s t (r + 1) (next t r) (elements e) (elements-at r e h form) some
+  -- the head
 
-      pub head-of-other : (cell t (r + 1) 0 ≡ 4 → ⊥) → head-key (elements e) ≡ no-key
-      head-of-other k = ap head-key (head-at .is) ∙ head-other (r + 1) (head-at .head) (head-at .rest) (head-at .node) k
+  module _ (r end : ℕ) where
+    pub led-kind : (es : Nodes) → NodesAt s t r end es → r < end → eqb (cell t r 0) 4 ≡ led-by-reference es
+    unfolding NodeAt
+    led-kind empty h l = absurd (omega arith)
+    led-kind (cons (leaf q nil) es) h l = rw (h .2 .1 .row .kind-is)
+    led-kind (cons (leaf q (array bs)) es) h l = rw (h .2 .1 .row .kind-is)
+    led-kind (cons (leaf q (int v)) es) h l = rw (h .2 .1 .row .kind-is)
+    led-kind (cons (leaf q (ref m n)) es) h l = rw (h .2 .1 .row .kind-is)
+    led-kind (cons (branch q fs) es) h l = rw (h .2 .1 .kind-is)
 
-      module _ (reference : cell t (r + 1) 0 ≡ 4) where
-        pub head-reference : ReferenceAt s t (r + 1) (head-at .head)
-        head-reference = reference-at (r + 1) (head-at .head) (head-at .node) reference
+    pub led-at : (es : Nodes) → NodesAt s t r end es → true ≡ led-by-reference es → LedAt s t r end es
+    unfolding NodeAt
+    led-at empty h l = impossible (cc)
+    led-at (cons (leaf q nil) es) h l = impossible (cc)
+    led-at (cons (leaf q (array bs)) es) h l = impossible (cc)
+    led-at (cons (leaf q (int v)) es) h l = impossible (cc)
+    led-at (cons (leaf q (ref m n)) es) h l = record {
+      marker = m;
+      name = n;
+      rest = es;
+      is = ap (λ (k : ℕ). cons (leaf k (ref m n)) es) (h .2 .0);
+      here = h .2 .1;
+      nodes = h .3;
+    }
+    led-at (cons (branch q fs) es) h l = impossible (cc)
 
-        -- what is the key of every reference there
-        pub head-of-reference : (k : ℕ) → ((m n : ℕ) → LeafAt s t (r + 1) (ref m n) → k ≡ key-of m n) → k ≡ head-key (elements e)
-        head-of-reference k f =
-            let q = head-reference in
-            f (q .marker) (q .name) (q .here)
-            ∙ sym (ap head-key (head-at .is) ∙ ap (λ (x : Node). head-key (cons x (head-at .rest))) (q .is))
+    -- its word, by what is the key of every reference there
+    pub led-word : {es : Nodes} → Bytes s → LedAt s t r end es → (k : ℕ) → ((m n : ℕ) → LeafAt s t r (ref m n) → k ≡ key-of m n) → word-of k ≡ head-word es
+    led-word b l k f = rw (l .is, f (l .marker) (l .name) (l .here)) (word-again (l .marker) (l .name) (leaf-fits b (l .here) .2))
 
-  -- parts-of
+-- A form's elements, by its parts
 
-  parts-next : (r end : ℕ) (es : Nodes) → NodesAt s t r end es
-      → parts-of es ≡ parts-from end r (next t r) (next t (next t r)) (next t (next t (next t r)))
-  unfolding NodeAt
-  parts-next r end empty h = rw (le-leb end r (omega arith))
-  parts-next r end (cons a empty) h = rw (lt-leb end r (omega arith), le-leb end (next t r) (omega arith))
-  parts-next r end (cons a (cons b empty)) h =
-      let p : ℕ = next t r in
-      rw (lt-leb end r (omega arith), lt-leb end p (omega arith), le-leb end (next t p) (omega arith), node-row s t p b (h .3 .2))
-  parts-next r end (cons a (cons b (cons c empty))) h =
-      let p : ℕ = next t r in
-      let q : ℕ = next t p in
-      rw (
-        lt-leb end r (omega arith),
-        lt-leb end p (omega arith),
-        lt-leb end q (omega arith),
-        le-leb end (next t q) (omega arith),
-        node-row s t p b (h .3 .2),
-        node-row s t q c (h .3 .3 .2),
-      )
-  parts-next r end (cons a (cons b (cons c (cons d es)))) h =
-      let p : ℕ = next t r in
-      let q : ℕ = next t p in
-      rw (
-        lt-leb end r (omega arith),
-        lt-leb end p (omega arith),
-        lt-leb end q (omega arith),
-        lt-leb end (next t q) (omega arith),
-        node-row s t p b (h .3 .2),
-        node-row s t q c (h .3 .3 .2),
-      )
+-- a head and one more
+pub record OneAt (s t : List ℕ) (p : Parts) (es : Nodes) : Type 0 where
+  pub head : Node
+  pub first : Node
+  pub is : es ≡ cons head (cons first empty)
+  pub at : NodeAt s t (p .second) first
 
-  -- the parts of a form at row r, as its rows are gone through
-  pub form-parts : (r end p q u k : ℕ) (es : Nodes) → NodeAt s t r (branch k es) → end ≡ next t r → p ≡ next t (r + 1) → q ≡ next t p → u ≡ next t q
-      → parts-of es ≡ parts-from end (r + 1) p q u
-  form-parts r end p q u k es h a b c d = rw (d, c, b, a) (parts-next (r + 1) (next t r) es (form-nodes s t r k es h))
+-- a head and two more
+pub record TwoAt (s t : List ℕ) (r end : ℕ) (p : Parts) (es : Nodes) : Type 0 where
+  pub head : Node
+  pub first : Node
+  pub second : Node
+  pub is : es ≡ cons head (cons first (cons second empty))
+  pub begins : NodeAt s t r head
+  pub one : NodeAt s t (p .second) first
+  pub two : NodeAt s t (p .third) second
+  pub from-one : NodesAt s t (p .second) end (cons first (cons second empty))
+  pub from-two : NodesAt s t (p .third) end (cons second empty)
+  pub behind-head : p .second ≡ next t r
+  pub behind-one : p .third ≡ next t (p .second)
+
+module _ (s t : List ℕ) (r end : ℕ) where
+  pub one-at : (es : Nodes) (p : Parts) → NodesAt s t r end es → p ≡ parts-of es → p .count ≡ 2 → OneAt s t p es
+  one-at empty p h e n = absurd (omega (arith, ap (λ (x : Parts). x .count) e))
+  one-at (cons x empty) p h e n = absurd (omega (arith, ap (λ (x : Parts). x .count) e))
+  one-at (cons x (cons a empty)) p h e n =
+      let one = nodes-first s t (next t r) end a empty (nodes-first s t r end x (cons a empty) h .2) in
+      record { head = x; first = a; is = refl; at = rw (ap (λ (y : Parts). y .second) e ∙ node-row s t (next t r) a (one .1)) (one .1) }
+  one-at (cons x (cons a (cons b empty))) p h e n = absurd (omega (arith, ap (λ (x : Parts). x .count) e))
+  one-at (cons x (cons a (cons b (cons d es)))) p h e n = absurd (omega (arith, ap (λ (x : Parts). x .count) e))
+
+  pub two-at : (es : Nodes) (p : Parts) → NodesAt s t r end es → p ≡ parts-of es → p .count ≡ 3 → TwoAt s t r end p es
+  two-at empty p h e n = absurd (omega (arith, ap (λ (x : Parts). x .count) e))
+  two-at (cons x empty) p h e n = absurd (omega (arith, ap (λ (x : Parts). x .count) e))
+  two-at (cons x (cons a empty)) p h e n = absurd (omega (arith, ap (λ (x : Parts). x .count) e))
+  two-at (cons x (cons a (cons b empty))) p h e n =
+      let begin = nodes-first s t r end x (cons a (cons b empty)) h in
+      let one = nodes-first s t (next t r) end a (cons b empty) (begin .2) in
+      let two = nodes-first s t (next t (next t r)) end b empty (one .2) in
+      let second : p .second ≡ next t r = ap (λ (x : Parts). x .second) e ∙ node-row s t (next t r) a (one .1) in
+      let third : p .third ≡ next t (next t r) = ap (λ (x : Parts). x .third) e ∙ node-row s t (next t (next t r)) b (two .1) in
+      record {
+        head = x;
+        first = a;
+        second = b;
+        is = refl;
+        begins = begin .1;
+        one = rw second (one .1);
+        two = rw third (two .1);
+        from-one = rw second (begin .2);
+        from-two = rw third (one .2);
+        behind-head = second;
+        behind-one = third ∙ sym (ap (next t) second);
+      }
+  two-at (cons x (cons a (cons b (cons d es)))) p h e n = absurd (omega (arith, ap (λ (x : Parts). x .count) e))

@@ -1,4 +1,4 @@
--- `evaluator::arrays::body` meets its contract. Assumes nothing.
+-- `rows::arrays::body` meets its contract. Assumes nothing.
 use borrow.Author.Needs.{needs}
 use native.Mathlib.Omega.{arith}
 use Rattle.rows.proofs.Bodies.{body-small, body-generic, one-end}

@@ -1,4 +1,4 @@
--- `evaluator::arrays::length_end` meets its contract: the innermost length, and what stands around it.
+-- `rows::arrays::length_end` meets its contract: the innermost length, and what stands around it.
 -- Assumes nothing.
 use borrow.Author.Needs.{needs}
 use Prim.Native.Nat.{ℕ, _+_, _-_}

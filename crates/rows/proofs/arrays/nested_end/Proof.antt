@@ -1,4 +1,4 @@
--- `evaluator::arrays::nested_end` meets its contract. The invariant: as many arrays as are still to be passed stand around the length so far.
+-- `rows::arrays::nested_end` meets its contract. The invariant: as many arrays as are still to be passed stand around the length so far.
 -- Assumes nothing.
 use mathlib.Core.Path.{refl}
 use native.Mathlib.Omega.{arith}

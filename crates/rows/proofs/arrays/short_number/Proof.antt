@@ -1,4 +1,4 @@
--- `evaluator::arrays::short_number` meets its contract. Assumes nothing.
+-- `rows::arrays::short_number` meets its contract. Assumes nothing.
 use borrow.Author.Needs.{needs}
 use native.Mathlib.Omega.{arith}
 use Rattle.rows.proofs.Bodies.{last-three}

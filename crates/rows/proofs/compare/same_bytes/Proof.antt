@@ -1,4 +1,4 @@
--- `evaluator::compare::same_bytes` meets its contract: the bytes that are left are the same if all are. Assumes nothing.
+-- `rows::compare::same_bytes` meets its contract: the bytes that are left are the same if all are. Assumes nothing.
 use borrow.Author.Needs.{needs}
 use Prim.Native.Nat.{ℕ, _-_}
 use mathlib.Core.Path.{_≡_, refl, _∙_}

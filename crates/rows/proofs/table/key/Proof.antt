@@ -1,4 +1,4 @@
--- `evaluator::rows::key` meets its contract: the bytes that it reads are those of `RefAt`.
+-- `rows::table::key` meets its contract: the bytes that it reads are those of `RefAt`.
 -- Assumes nothing.
 use borrow.Author.Needs.{needs}
 use Prim.Native.Nat.{ℕ, _-_, _≤_}

@@ -1,4 +1,4 @@
--- `evaluator::rows::small` meets its contract.
+-- `rows::table::small` meets its contract.
 -- Assumes nothing.
 use borrow.Author.Needs.{needs}
 use Prim.Native.Nat.{ℕ, _+_}
