@@ -1,4 +1,4 @@
--- Laws of places in the workspace: parts one behind the other, what is written and what that leaves as it was, and a move byte for byte.
+-- Laws of parts of the workspace: one behind the other, what is written and what that leaves as it was, and a move byte for byte.
 -- Document 01: "Workspace" says how much; where in it is the code's own. Assumes nothing.
 use Prim.Native.Nat.{ℕ, zero, suc, _+_, _-_, _≤_, _<_}
 use mathlib.Core.Path.{_≡_, refl, sym, ap, _∙_}
@@ -9,7 +9,8 @@ use native.Mathlib.Omega.{arith}
 use native.Mathlib.Numerals.{add-one}
 use Rattle.writer.specs.Bytes.{put-at, Put}
 use Rattle.writer.proofs.Puts.{length-upto, length-put-at, put-at-more, stored}
-use Rattle.spec.specs.Expr.{Exprs, none, canonical}
+use Rattle.spec.specs.Expr.{Exprs, none, append, canonical}
+use Rattle.laws.proofs.Canonical.{canonical-append}
 use Rattle.rows.proofs.Slices.{slice-split, slice-take}
 use Rattle.workspace.specs.Completed.{Stand, Untouched}
 
@@ -21,6 +22,14 @@ stand-size {w} {from} {to} there = ap length (sym (there .bytes)) ∙ length-sli
 pub stand-none : {w : List ℕ} (a : ℕ) → a ≤ length w → Stand w a a none
 unfolding canonical
 stand-none {w} a h = record { order = omega arith; inside = h; bytes = slice-empty a w }
+
+-- values one after the other
+pub stand-append : {w : List ℕ} {a b c : ℕ} {vs us : Exprs} → Stand w a b vs → Stand w b c us → Stand w a c (append vs us)
+stand-append {w} {a} {b} {c} {vs} {us} x y = record {
+  order = omega (arith, x .order, y .order);
+  inside = y .inside;
+  bytes = slice-split a b c w (x .order) (y .order) (y .inside) ∙ rw (x .bytes, y .bytes) (sym (canonical-append vs us));
+}
 
 pub stand-part : {w : List ℕ} {from to : ℕ} {vs : Exprs} → Stand w from to vs → take (to - from) (drop from w) ≡ canonical vs
 stand-part {w} {from} {to} there = sym (slice-take from to w) ∙ there .bytes
@@ -97,6 +106,12 @@ module _ (w : List ℕ) (at : ℕ) (bs : List ℕ) (room : at + length bs ≤ le
       ap (drop at) (append-assoc (take at w) bs (drop (at + length bs) w))
       ∙ drop-at (take at w) (bs ++ drop (at + length bs) w) at (length-take-le at w (omega arith))
 
+pub put-none : (w : List ℕ) (at : ℕ) → Put w at [] w at
+unfolding put-at
+put-none w at =
+    let here : at + 0 ≡ at = omega arith in
+    record { place = omega arith; is = rw (here, append-nil (take at w)) (sym (take-append-drop at w)) }
+
 pub put-length : {w : List ℕ} {at : ℕ} {bs w′ : List ℕ} {past : ℕ} → at + length bs ≤ length w → Put w at bs w′ past → length w′ ≡ length w
 put-length {w} {at} {bs} room put = ap (λ (l : List ℕ). length l) (put .is) ∙ length-put-at w at bs room
 
@@ -121,11 +136,8 @@ slice-one a b w h h′ = rw (h, add-one a) (slice-cons a (suc a) w 0 (omega arit
 abbrev pub moved : List ℕ → ℕ → ℕ → ℕ → List ℕ
 moved w from to at = put-at w at (slice from to w)
 
-pub moved-none : (w : List ℕ) (from to at : ℕ) → from ≡ to → moved w from to at ≡ w
-unfolding put-at
-moved-none w from to at h =
-    let here : at + 0 ≡ at = omega arith in
-    rw (h, slice-empty to w, here, append-nil (take at w)) (take-append-drop at w)
+pub moved-none : (w : List ℕ) (from to at : ℕ) → from ≡ to → w ≡ moved w from to at
+moved-none w from to at h = rw (h, slice-empty to w) (put-none w at .is)
 
 -- the bytes from one place up to another are moved; i of n are or are left
 pub record Moving (w₀ w : List ℕ) (i n from to at : ℕ) : Type 0 where

@@ -1,23 +1,28 @@
 -- Laws of completing a value: its bytes written where all that stood there ends, or no room for them; of values that stand in the workspace
--- already; of an atom and of an `ns` form in the stream; and of a definition's values.
+-- already; of a definition's values; of a form's value; of an atom of the stream, and of atoms one after the other.
 -- Document 01: "when an expression's value is complete, its canonical length is charged". Assumes nothing.
-use Prim.Native.Nat.{ℕ, _+_, _-_, _≤_, _<_}
+use Prim.Native.Nat.{ℕ, _+_, _-_, _*_, _≤_, _<_, max}
 use mathlib.Core.Path.{_≡_, refl, sym, ap, _∙_}
 use mathlib.Core.List.{List, [], _∷_, _++_, append-assoc, append-nil}
-use lib.ListN.{length, take, drop, length-append}
+use lib.ListN.{length, set, take, drop, length-append, length-take, length-drop}
 use lib.Seq.{slice, length-slice}
+use mathlib.Core.Bool.{Bool, true, false}
+use lib.Dec.{eqb}
 use native.Mathlib.Omega.{arith}
-use Rattle.spec.specs.Expr.{Atom, nil, array, int, ref, if-array, atom, Exprs, only, deepest, marker-bytes, atom-bytes, bytes, depth, canonical}
+use Rattle.spec.specs.Expr.{if_then_else_, Atom, nil, array, int, ref, if-array, atom, form, Exprs, only, depth, deepest, array-head, atom-bytes, bytes, canonical}
 use Rattle.spec.specs.Reading.{atom-kind}
-use Rattle.spec.specs.Evaluation.{ns-form}
+use Rattle.spec.specs.Nodes.{leaf, branch, Nodes, empty, cons, unnumbered, unnumbered-all}
+use Rattle.laws.proofs.Atoms.{head-bounds}
 use Rattle.atoms.specs.Tokens.{atom-head}
 use Rattle.writer.specs.Bytes.{put-at, with-head}
-use Rattle.rows.specs.Rows.{cell, LeafAt}
-use Rattle.workspace.specs.Completed.{Fitting, Stand, with-top, Complete, Incomplete, too-long, ns-front, ns-bytes, Defined}
+use Rattle.writer.proofs.Puts.{length-put-at, put-at-more, stored}
+use Rattle.rows.specs.Rows.{cell, LeafAt, NodeAt, NodesAt}
+use Rattle.workspace.specs.Completed.{Fitting, Stand, with-top, Complete, Incomplete, too-deep, too-long, BodyOf, Atoms, Stored}
 use Rattle.workspace.specs.declared.values.State.{State}
-use Rattle.rows.proofs.Nodes.{leaf-array, leaf-nil, leaf-int, leaf-ref}
+use Rattle.workspace.specs.declared.values.Body.{Body}
+use Rattle.rows.proofs.Nodes.{leaf-array, leaf-nil, leaf-int, leaf-ref, nodes-done, nodes-first, leaf-at, leaf-skipped}
 use Rattle.rows.proofs.Slices.{slice-take}
-use Rattle.workspace.proofs.Areas.{stand-size, put-untouched, slice-put, moved}
+use Rattle.workspace.proofs.Areas.{stand-size, put-untouched, slice-put, put-before, moved}
 
 -- Any values
 
@@ -50,10 +55,10 @@ part-sized shallow there = record { shallow = shallow; size = stand-size there }
 
 -- A definition's values
 
-pub defined : {w w′ : List ℕ} {st : State} (start : ℕ) → Fitting w st → start ≤ st .top → let floor : ℕ = st .floor - (st .top - start) in
+pub moved-below : {w w′ : List ℕ} {st : State} (start : ℕ) → Fitting w st → start ≤ st .top → let floor : ℕ = st .floor - (st .top - start) in
     w′ ≡ moved w start (st .top) floor
-    → Defined w w′ st start (record { steps = st .steps; room = st .room; top = start; floor = floor; names = st .names })
-defined {w} {w′} {st} start fits h put =
+    → Stored w w′ st start (record { steps = st .steps; room = st .room; top = start; floor = floor })
+moved-below {w} {w′} {st} start fits h put =
     let floor : ℕ = st .floor - (st .top - start) in
     let bs = slice start (st .top) w in
     let size = length-slice start (st .top) w (omega (arith, fits .paid, fits .below)) in
@@ -64,75 +69,167 @@ defined {w} {w′} {st} start fits h put =
       room = refl;
       top = refl;
       floor = omega (arith, fits .paid);
-      names = refl;
       bytes = ap (λ (k : ℕ). slice floor k w′) (sym past) ∙ rw put (slice-put w floor bs room);
       others = rw put (put-untouched w floor bs room start (st .floor) (omega (arith, fits .paid)) (omega (arith, past)));
     }
 
+-- A form's value
+
+form-bytes : (vs : Exprs) → canonical (only (form vs)) ≡ 0x01 ∷ (canonical vs ++ (0x02 ∷ []))
+unfolding bytes
+form-bytes vs = append-nil (0x01 ∷ (canonical vs ++ (0x02 ∷ [])))
+
+form-depth : (vs : Exprs) → deepest (only (form vs)) ≡ 1 + deepest vs
+unfolding depth
+form-depth vs = omega arith
+
+pub form-deep : (vs : Exprs) {st : State} {row : ℕ} → 63 < deepest vs → (row ≡ row) × Incomplete st (only (form vs)) 6
+form-deep vs h = (refl, too-deep (omega (arith, form-depth vs)))
+
+module _ (vs : Exprs) (n : ℕ) (size : length (canonical vs) ≡ n) where
+  pub form-sized : deepest vs ≤ 63 → Sized (only (form vs)) (n + 2)
+  form-sized h = record {
+    shallow = omega (arith, form-depth vs);
+    size = ap length (form-bytes vs) ∙ simp length-append (omega arith);
+  }
+
+  -- the values written, then 01 before and 02 behind them
+  pub form-written : (w : List ℕ) {w₁ : List ℕ} (start : ℕ) → start + (n + 2) ≤ length w → w₁ ≡ put-at w (start + 1) (canonical vs)
+      → set (set w₁ start 0x01) (start + (n + 2) - 1) 0x02 ≡ put-at w start (canonical (only (form vs)))
+  form-written w {w₁} start room is =
+      let bs = canonical vs in
+      let opened : List ℕ = 0x01 ∷ bs in
+      let upper : start + 1 + length bs ≤ length w = omega arith in
+      let front : set w₁ start 0x01 ≡ put-at w start opened =
+      rw is (stored (put-at w (start + 1) bs) start (0x01 ∷ []) (omega (arith, length-put-at w (start + 1) bs upper)) .is
+      ∙ put-before w start (0x01 ∷ []) bs upper) in
+      let past : start + (n + 2) - 1 ≡ start + length opened = omega arith in
+      let lower : start + length opened ≤ length w = omega arith in
+      rw (front, past, form-bytes vs)
+      (stored (put-at w start opened) (start + length opened) (0x02 ∷ []) (omega (arith, length-put-at w start opened lower)) .is
+      ∙ put-at-more w start opened lower (0x02 ∷ []))
+
 -- An atom of the stream
 
--- the bytes of an atom of that kind are those between two places, with the head that an array has
-pub record Own (s : List ℕ) (kind from to : ℕ) (a : Atom) : Type 0 where
-  pub order : from ≤ to
-  pub inside : to ≤ length s
-  pub short : length s ≤ 65536
-  pub is : with-head kind (take (to - from) (drop from s)) ≡ atom-bytes a
-  pub size : length (atom-bytes a) ≡ length (atom-head kind (to - from)) + (to - from)
-
-pub leaf-own : {s t : List ℕ} {r kind from to : ℕ} (a : Atom) → LeafAt s t r a → kind ≡ cell t r 0
-    → from ≡ if-array a (λ bs. cell t r 2 - length bs) (cell t r 1) → to ≡ cell t r 2 → Own s kind from to a
+pub leaf-body : {s t : List ℕ} {r : ℕ} {b : Body} (a : Atom) → LeafAt s t r a → b .kind ≡ cell t r 0
+    → b .from ≡ if-array a (λ bs. cell t r 2 - length bs) (cell t r 1) → b .to ≡ cell t r 2 → BodyOf s a b
 unfolding atom-bytes
-leaf-own {s} {t} {r} a l k f e = rw (k ∙ l .row .kind-is, f, e) (go a l)
+leaf-body {s} {t} {r} {b} a l k f e = go a l (k ∙ l .row .kind-is) f
   where
-    part : {x : List ℕ} (b : Atom) (from : ℕ) → LeafAt s t r b → from ≤ cell t r 2 → slice from (cell t r 2) s ≡ x
-        → with-head (atom-kind b) x ≡ atom-bytes b → Own s (atom-kind b) from (cell t r 2) b
-    part {x} b from l h is own =
-        let n : length x ≡ cell t r 2 - from = ap length (sym is) ∙ length-slice from (cell t r 2) s (l .row .ends) in
-        record {
-          order = h;
-          inside = l .row .ends;
-          short = l .row .short;
-          is = ap (with-head (atom-kind b)) (sym (slice-take from (cell t r 2) s) ∙ is) ∙ own;
-          size = ap length (sym own) ∙ length-append (atom-head (atom-kind b) (length x)) x ∙ rw n;
-        }
+    part : (x : List ℕ) (a : Atom) → LeafAt s t r a → b .kind ≡ atom-kind a → b .from ≤ b .to → slice (b .from) (cell t r 2) s ≡ x
+        → with-head (atom-kind a) x ≡ atom-bytes a → BodyOf s a b
+    part x a l k h is own = record {
+      order = h;
+      inside = omega (arith, e, l .row .ends);
+      short = l .row .short;
+      is = rw (k, e) (ap (with-head (atom-kind a)) (sym (slice-take (b .from) (cell t r 2) s) ∙ is) ∙ own);
+    }
 
-    go : (b : Atom) → LeafAt s t r b → Own s (atom-kind b) (if-array b (λ bs. cell t r 2 - length bs) (cell t r 1)) (cell t r 2) b
-    go nil l = part nil (cell t r 1) l (omega (arith, l .row .starts)) (leaf-nil l) refl
-    go (array bs) l = part (array bs) (cell t r 2 - length bs) l (omega arith) (leaf-array l .0) refl
-    go (int v) l = part (int v) (cell t r 1) l (omega (arith, l .row .starts)) (leaf-int l) refl
-    go (ref m n) l = part (ref m n) (cell t r 1) l (omega (arith, l .row .starts)) (leaf-ref l) refl
+    go : (a : Atom) → LeafAt s t r a → b .kind ≡ atom-kind a → b .from ≡ if-array a (λ bs. cell t r 2 - length bs) (cell t r 1) → BodyOf s a b
+    go nil l k f = part (atom-bytes nil) nil l k (omega (arith, e, l .row .starts)) (rw f (leaf-nil l)) refl
+    go (array bs) l k f = part bs (array bs) l k (omega (arith, e)) (rw f (leaf-array l .0)) refl
+    go (int v) l k f = part (atom-bytes (int v)) (int v) l k (omega (arith, e, l .row .starts)) (rw f (leaf-int l)) refl
+    go (ref m n) l k f = part (atom-bytes (ref m n)) (ref m n) l k (omega (arith, e, l .row .starts)) (rw f (leaf-ref l)) refl
+
+head-short : (kind n : ℕ) → length (atom-head kind n) ≤ 4
+head-short kind n = go (eqb kind 2)
+  where
+    go : (b : Bool) → length (if b then array-head n else []) ≤ 4
+    go true = head-bounds n .1
+    go false = omega arith
 
 -- an atom alone
 pub only-atom : (a : Atom) → (canonical (only (atom a)) ≡ atom-bytes a) × (deepest (only (atom a)) ≤ 64)
 unfolding bytes depth
 only-atom a = (append-nil (atom-bytes a), omega arith)
 
-module _ {s : List ℕ} {kind from to : ℕ} {a : Atom} (own : Own s kind from to a) where
-  pub atom-sized : {n : ℕ} → n ≡ length (atom-head kind (to - from)) + (to - from) → Sized (only (atom a)) n
-  atom-sized size = record { shallow = only-atom a .1; size = ap length (only-atom a .0) ∙ own .size ∙ sym size }
+module _ {s : List ℕ} {a : Atom} {b : Body} (of : BodyOf s a b) where
+  pub body-size : length (atom-bytes a) ≡ length (atom-head (b .kind) (b .to - b .from)) + (b .to - b .from)
+  body-size =
+      let x = take (b .to - b .from) (drop (b .from) s) in
+      let n : length x ≡ b .to - b .from = simp (length-take, length-drop) (omega (arith, of .order, of .inside)) in
+      ap length (sym (of .is)) ∙ length-append (atom-head (b .kind) (length x)) x ∙ rw n
 
-  pub atom-is : with-head kind (take (to - from) (drop from s)) ≡ canonical (only (atom a))
-  atom-is = own .is ∙ sym (only-atom a .0)
+  pub body-short : length (atom-bytes a) ≤ 65540
+  body-short = omega (arith, body-size, of .inside, of .short, head-short (b .kind) (b .to - b .from))
 
--- An `ns` form, of a reference and an array in the stream
+pub atom-sized : {a : Atom} {n : ℕ} → n ≡ length (atom-bytes a) → Sized (only (atom a)) n
+atom-sized {a} size = record { shallow = only-atom a .1; size = ap length (only-atom a .0) ∙ sym size }
 
-only-ns : (m n : ℕ) (id : List ℕ)
-    → (canonical (ns-form m n id) ≡ ns-front ++ atom-bytes (ref m n) ++ atom-bytes (array id) ++ (0x02 ∷ [])) × (deepest (ns-form m n id) ≤ 64)
-unfolding bytes depth atom-bytes marker-bytes
-only-ns m n id =
-    let a = atom-bytes (ref m n) in
-    let b = atom-bytes (array id) in (
-      append-nil (ns-front ++ (a ++ (b ++ [])) ++ (0x02 ∷ []))
-          ∙ rw (append-nil b) (ap (λ (l : List ℕ). l ++ (0x02 ∷ [])) (sym (append-assoc ns-front a b))),
-      omega arith,
-    )
+-- Atoms of the stream, one after the other
 
-module _ {s : List ℕ} {r p i e : ℕ} {m n : ℕ} {id : List ℕ} (a : Own s 4 r p (ref m n)) (b : Own s 2 i e (array id)) where
-  pub ns-sized : {k : ℕ} → k ≡ 4 + (p - r) + (length (atom-head 2 (e - i)) + (e - i)) → Sized (ns-form m n id) k
-  ns-sized size = record {
-    shallow = only-ns m n id .1;
-    size = ap length (only-ns m n id .0) ∙ simp length-append (omega (arith, a .size, b .size, size));
-  }
+leaf-short : (s t : List ℕ) (r : ℕ) (a : Atom) → LeafAt s t r a → length (atom-bytes a) ≤ 65540
+leaf-short s t r a l =
+    let from : ℕ = if-array a (λ bs. cell t r 2 - length bs) (cell t r 1) in
+    body-short (leaf-body {b = record { kind = cell t r 0; from = from; to = cell t r 2 }} a l refl refl refl)
 
-  pub ns-is : ns-bytes (take (p - r) (drop r s)) (take (e - i) (drop i s)) ≡ canonical (ns-form m n id)
-  ns-is = rw (a .is, b .is) (sym (only-ns m n id .0))
+module _ (s t : List ℕ) where
+  -- they are few, and none is long
+  atoms-below : (r end : ℕ) (es : Nodes) → NodesAt s t r end es → Atoms es
+      → length (canonical (unnumbered-all es)) + 65540 * r ≤ 65540 * max r 65536
+  unfolding unnumbered bytes
+  atoms-below r end empty at atoms = omega arith
+  atoms-below r end (cons (leaf q a) es) at atoms =
+      let l = leaf-at s t r q a (nodes-first s t r end (leaf q a) es at .1) in
+      let rest = atoms-below (r + 1) end es (leaf-skipped s t r end q a es at) atoms in
+      simp length-append (omega (arith, leaf-short s t r a l, l .row .few))
+  atoms-below r end (cons (branch q fs) es) at atoms = absurd atoms
+
+  pub atoms-short : (r end : ℕ) (es : Nodes) → NodesAt s t r end es → Atoms es → length (canonical (unnumbered-all es)) ≤ 65540 * 65536
+  atoms-short r end es at atoms = omega (arith, atoms-below r end es at atoms)
+
+pub atoms-flat : (es : Nodes) → Atoms es → deepest (unnumbered-all es) ≡ 0
+unfolding unnumbered depth
+atoms-flat empty atoms = refl
+atoms-flat (cons (leaf q a) es) atoms = omega (arith, atoms-flat es atoms)
+atoms-flat (cons (branch q fs) es) atoms = absurd atoms
+
+-- of the bytes of the atoms es the first are done; those of the atoms from a row on are left
+pub record Upto (s t : List ℕ) (row end : ℕ) (es : Nodes) (Done : List ℕ → Type 0) : Type 0 where
+  pub done : List ℕ
+  pub told : Done done
+  pub left : Nodes
+  pub at : NodesAt s t row end left
+  pub atoms : Atoms left
+  pub is : canonical (unnumbered-all es) ≡ done ++ canonical (unnumbered-all left)
+
+-- the same of all atoms that may stand from row `first` on
+abbrev pub Partly : List ℕ → List ℕ → ℕ → ℕ → ℕ → (List ℕ → Type 0) → Type 0
+Partly s t first row end Done = (es : Nodes) → NodesAt s t first end es → Atoms es → Upto s t row end es Done
+
+pub atoms-start : {s t : List ℕ} {first end : ℕ} {Done : List ℕ → Type 0} → Done [] → Partly s t first first end Done
+atoms-start told es at atoms = record { done = []; told = told; left = es; at = at; atoms = atoms; is = refl }
+
+-- an atom stands at the row
+pub record AtomNext (s t : List ℕ) (row end : ℕ) (es : Nodes) (done : List ℕ) : Type 1 where
+  pub own : Atom
+  pub leaf : LeafAt s t row own
+  pub fits : length done + length (atom-bytes own) ≤ length (canonical (unnumbered-all es))
+  pub next : (Done : List ℕ → Type 0) → Done (done ++ atom-bytes own) → Upto s t (row + 1) end es Done
+
+module _ {s t : List ℕ} {row end : ℕ} {es : Nodes} {Done : List ℕ → Type 0} (u : Upto s t row end es Done) where
+  pub atoms-end : end ≤ row → Done (canonical (unnumbered-all es))
+  unfolding unnumbered bytes
+  atoms-end h = rw (rw (nodes-done s t row end (u .left) (u .at) h, append-nil (u .done)) at (u .is)) (u .told)
+
+  pub atoms-next : row < end → AtomNext s t row end es (u .done)
+  unfolding NodeAt unnumbered bytes
+  atoms-next h = go (u .left) (u .at) (u .atoms) (u .is)
+    where
+      go : (left : Nodes) → NodesAt s t row end left → Atoms left → canonical (unnumbered-all es) ≡ u .done ++ canonical (unnumbered-all left)
+          → AtomNext s t row end es (u .done)
+      go empty at atoms is = absurd (omega (arith, at))
+      go (cons (leaf q a) left) at atoms is = record {
+        own = a;
+        leaf = leaf-at s t row q a (nodes-first s t row end (leaf q a) left at .1);
+        fits = rw is (simp length-append (omega arith));
+        next = λ Done told. record {
+          done = u .done ++ atom-bytes a;
+          told = told;
+          left = left;
+          at = leaf-skipped s t row end q a left at;
+          atoms = atoms;
+          is = is ∙ sym (append-assoc (u .done) (atom-bytes a) (canonical (unnumbered-all left)));
+        };
+      }
+      go (cons (branch q fs) left) at atoms is = absurd atoms

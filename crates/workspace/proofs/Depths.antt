@@ -1,4 +1,4 @@
--- How many forms are open at once in the canonical bytes of values, token by token: the law behind the loop of `forms::shallow`.
+-- How many forms are open at once in the canonical bytes of values, token by token: the law behind the loop of `made::shallow`.
 -- Document 01: "in evaluation, a value with over 64 forms one inside another". Assumes nothing.
 use Prim.Native.Nat.{ℕ, _+_, _-_, _≤_, _<_}
 use mathlib.Core.Path.{_≡_, sym, subst}

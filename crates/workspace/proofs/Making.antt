@@ -1,5 +1,4 @@
--- Laws of values made of others that stand in the workspace: the form of values, and the join of two arrays.
--- Document 01: "The value is the form of the values.", "both arrays; their bytes joined". Assumes nothing.
+-- Laws of the join of two arrays that stand in the workspace. Document 01: "both arrays; their bytes joined". Assumes nothing.
 use Prim.Native.Nat.{ℕ, suc, _+_, _-_, _≤_, _<_}
 use mathlib.Core.Path.{_≡_, refl, sym, ap, _∙_, subst}
 use mathlib.Core.List.{List, [], _∷_, _++_, append-assoc, append-nil, head-eq-of-cons-eq}
@@ -29,44 +28,6 @@ use Rattle.rows.proofs.Slices.{slice-take}
 use Rattle.workspace.proofs.Areas.{stand-size, untouched-then, slice-below, put-untouched, slice-put, put-before, moved}
 use Rattle.workspace.proofs.Completing.{Sized, written, only-atom}
 use Rattle.workspace.proofs.Spread.{slice-rest}
-
--- The form of values
-
-form-bytes : (vs : Exprs) → canonical (only (form vs)) ≡ 0x01 ∷ (canonical vs ++ (0x02 ∷ []))
-unfolding bytes
-form-bytes vs = append-nil (0x01 ∷ (canonical vs ++ (0x02 ∷ [])))
-
-form-depth : (vs : Exprs) → deepest (only (form vs)) ≡ 1 + deepest vs
-unfolding depth
-form-depth vs = omega arith
-
-module _ {w : List ℕ} {from to : ℕ} {vs : Exprs} (there : Stand w from to vs) where
-  pub form-deep : {st : State} {row : ℕ} → leb (deepest vs) 63 ≡ false → (row ≡ row) × Incomplete st (only (form vs)) 6
-  form-deep h = (refl, too-deep (omega (arith, form-depth vs, leb-false (deepest vs) 63 h)))
-
-  pub form-sized : leb (deepest vs) 63 ≡ true → Sized (only (form vs)) (to - from + 2)
-  form-sized h = record {
-    shallow = omega (arith, form-depth vs, leb-true (deepest vs) 63 h);
-    size = ap length (form-bytes vs) ∙ simp length-append (omega (arith, stand-size there));
-  }
-
-  -- the values moved one place up at least, then 01 before and 02 behind them
-  pub form-written : {w₁ : List ℕ} (start : ℕ) → start ≤ from → to + 2 ≤ length w → w₁ ≡ moved w from to (start + 1)
-      → let n : ℕ = to - from + 2 in set (set w₁ start 0x01) (start + n - 1) 0x02 ≡ put-at w start (canonical (only (form vs)))
-  form-written {w₁} start h room is =
-      let bs = slice from to w in
-      let opened : List ℕ = 0x01 ∷ bs in
-      let order = there .order in
-      let size : length bs ≡ to - from = length-slice from to w (omega arith) in
-      let upper : start + 1 + length bs ≤ length w = omega (arith, size) in
-      let front : set w₁ start 0x01 ≡ put-at w start opened =
-      rw is (stored (put-at w (start + 1) bs) start (0x01 ∷ []) (omega (arith, length-put-at w (start + 1) bs upper)) .is
-      ∙ put-before w start (0x01 ∷ []) bs upper) in
-      let past : start + (to - from + 2) - 1 ≡ start + length opened = omega (arith, size) in
-      let lower : start + length opened ≤ length w = omega (arith, size) in
-      rw (front, past, form-bytes vs, ← there .bytes)
-      (stored (put-at w start opened) (start + length opened) (0x02 ∷ []) (omega (arith, length-put-at w start opened lower, size)) .is
-      ∙ put-at-more w start opened lower (0x02 ∷ []))
 
 -- The join of two arrays
 

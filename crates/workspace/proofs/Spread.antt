@@ -1,12 +1,12 @@
--- Where values stand one after the other, and that the places are packed: the law behind the loop of `forms::spread`.
+-- Where arguments stand, one after the other: the law behind the loop of `made::spread`, and where one of them is found again.
 -- Document 01: "argument n", "the arguments without the first n". Assumes nothing.
-use Prim.Native.Nat.{ℕ, _+_, _-_, _≤_, _<_}
+use Prim.Native.Nat.{ℕ, zero, suc, _+_, _-_, _≤_, _<_}
 use mathlib.Core.Path.{_≡_, refl, sym, ap, _∙_, subst}
 use mathlib.Core.List.{List, [], _++_, append-assoc, append-nil}
 use native.Mathlib.Omega.{arith}
 use lib.ListN.{length, drop, getD, set, length-drop, take-append-drop}
 use lib.Seq.{slice, take-at, drop-drop, drop-append-le, getD-set-same, getD-set-other}
-use Rattle.spec.specs.Expr.{Exprs, none, more, size, rows-all, deepest, bytes, canonical}
+use Rattle.spec.specs.Expr.{Exprs, none, more, size, first, without, rows-all, deepest, bytes, canonical}
 use Rattle.spec.specs.Reading.{tokens, check, rows-of}
 use Rattle.spec.specs.Calls.{row-at}
 use Rattle.laws.specs.Grammar.{Spells, SpellsAll}
@@ -18,9 +18,11 @@ use Rattle.laws.proofs.Steps.{split-size, split-rest, tokens-from}
 use Rattle.laws.proofs.Items.{all-rows-count, rows-expr, spelled-rows, expr-first}
 use Rattle.reader.specs.Passes.{RightFrom}
 use Rattle.reader.proofs.Finding.{spelled-some}
-use Rattle.rules.specs.Scope.{pack}
-use Rattle.workspace.specs.Completed.{ArgumentsAt}
-use Rattle.rows.proofs.Slices.{slice-take}
+use Rattle.workspace.specs.Packed.{pack, packed-from, packed-to}
+use Rattle.workspace.specs.Completed.{Stand, ArgumentsAt}
+use Rattle.rows.proofs.Slices.{slice-split, slice-take}
+use Rattle.workspace.proofs.Packing.{from-packed, to-packed}
+use Rattle.workspace.proofs.Areas.{stand-none}
 
 -- values with these bytes that can be read
 pub record Values (s : List ℕ) (vs : Exprs) : Type 0 where
@@ -170,3 +172,34 @@ module _ (s : List ℕ) (base : ℕ) (args : List ℕ) (p n : ℕ) (f : Spreadin
             each = λ vs v. passed vs inside v .2;
           };
         }
+
+-- Arguments found again
+
+pub arguments-stand : (w args : List ℕ) (i from to : ℕ) (vs : Exprs) → to ≤ length w → ArgumentsAt w args i from to vs → Stand w from to vs
+unfolding ArgumentsAt canonical
+arguments-stand w args i from to none h a = rw a (stand-none to h)
+arguments-stand w args i from to (more v vs) h a =
+    let rest = arguments-stand w args (i + 1) (a .0) to vs h (a .5) in
+    let first = a .1 in
+    let later = a .2 in
+    record { order = omega arith; inside = h; bytes = slice-split from (a .0) to w (omega arith) later h ∙ rw (a .3, rest .bytes) }
+
+-- an argument, whose part is packed, and with it those behind it, which end at `to`
+pub record ArgumentAt (w : List ℕ) (packed to : ℕ) (vs : Exprs) : Type 0 where
+  pub own : Stand w (packed-from packed) (packed-to packed) (first 1 vs)
+  pub all : Stand w (packed-from packed) to vs
+
+pub argument-at : (w args : List ℕ) (i from to : ℕ) (vs : Exprs) (n j : ℕ) → to ≤ length w → length w ≤ 65536 → ArgumentsAt w args i from to vs
+    → n < size vs → j ≡ i + n → j < 64 → ArgumentAt w (getD args j 0) to (without n vs)
+unfolding ArgumentsAt canonical size without first
+argument-at w args i from to none n j h g a l e k = absurd (omega arith)
+argument-at w args i from to (more v vs) zero j h g a l e k =
+    let here : j ≡ i = omega arith in
+    let order = a .1 in
+    let mid = a .2 in
+    let begins = from-packed from (a .0) order (omega arith) in
+    rw (here, a .4 (omega arith)) record {
+      own = rw (begins, to-packed from (a .0) order (omega arith)) record { order = omega arith; inside = omega arith; bytes = a .3 ∙ sym (append-nil (bytes v)) };
+      all = rw begins (arguments-stand w args i from to (more v vs) h a);
+    }
+argument-at w args i from to (more v vs) (suc n) j h g a l e k = argument-at w args (i + 1) (a .0) to vs n j h g (a .5) (omega arith) (omega arith) k

@@ -6,12 +6,14 @@ use mathlib.Core.Path.{_≡_}
 use mathlib.Core.List.{List, [], _∷_, _++_}
 use lib.ListN.{length, take, drop, getD}
 use lib.Seq.{slice}
-use Rattle.spec.specs.Expr.{array, Expr, atom, Exprs, none, more, only, deepest, bytes, canonical}
+use Rattle.spec.specs.Expr.{Atom, array, Expr, atom, Exprs, none, more, only, deepest, atom-bytes, bytes, canonical}
 use Rattle.spec.specs.Nodes.{leaf, branch, Nodes, empty, cons}
+use Rattle.writer.specs.Bytes.{with-head}
 use Rattle.rows.specs.Rows.{NodesAt}
 use Rattle.rows.specs.declared.forms.Form.{Form}
 use Rattle.workspace.specs.Packed.{pack}
 use Rattle.workspace.specs.declared.values.State.{State}
+use Rattle.workspace.specs.declared.values.Body.{Body}
 use Rattle.workspace.specs.declared.values.Out.{Out}
 use Rattle.workspace.specs.declared.values.Out.the-variants.{Done, Refused}
 
@@ -57,6 +59,13 @@ pub record Complete (w w′ : List ℕ) (st : State) (start : ℕ) (vs : Exprs) 
 pub data Incomplete (st : State) (vs : Exprs) : ℕ → Type 0 where
   too-deep : 64 < deepest vs → Incomplete st vs 6
   too-long : deepest vs ≤ 64 → st .room < length (canonical vs) → Incomplete st vs 17
+
+-- behind the head that an array has, the bytes of an atom
+pub record BodyOf (s : List ℕ) (a : Atom) (b : Body) : Type 0 where
+  pub order : b .from ≤ b .to
+  pub inside : b .to ≤ length s
+  pub short : length s ≤ 65536
+  pub is : with-head (b .kind) (take (b .to - b .from) (drop (b .from) s)) ≡ atom-bytes a
 
 -- the elements of a form that are all atoms
 abbrev pub Atoms : Nodes → Type 0

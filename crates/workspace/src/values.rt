@@ -9,12 +9,12 @@ ghost use mathlib.Core.List.{List};
 ghost use Prim.Native.Nat.{ℕ, _+_, _-_, _≤_};
 ghost use lib.ListN.{length};
 ghost use lib.Dec.{eqb};
-ghost use Rattle.spec.specs.Expr.{if_then_else_, if-array, Atom, atom, form, Exprs, only, deepest, canonical};
+ghost use Rattle.spec.specs.Expr.{if_then_else_, Atom, atom, form, Exprs, only, deepest, atom-bytes, canonical};
 ghost use Rattle.spec.specs.Nodes.{Nodes, unnumbered-all};
-ghost use Rattle.rows.specs.Rows.{cell, LeafAt, NodesAt};
-ghost use Rattle.writer.specs.Bytes.{put-at};
+ghost use Rattle.rows.specs.Rows.{LeafAt, NodesAt};
+ghost use Rattle.writer.specs.Bytes.{put-at, Put};
 ghost use Rattle.workspace.specs.declared.values.Out.the-variants.{Done, Refused};
-ghost use Rattle.workspace.specs.Completed.{Fitting, Stand, with-top, with-floor, stepped, Completed, Stored, Atoms, SomeAtoms};
+ghost use Rattle.workspace.specs.Completed.{Fitting, Stand, with-top, with-floor, stepped, BodyOf, Completed, Stored, Atoms, SomeAtoms};
 
 // Steps and workspace that are left, where the finished values end, and where the definitions' begin.
 pub struct State {
@@ -73,15 +73,53 @@ pub fn charged(state: State, n: usize, top: usize) -> Out
     })
 }
 
-// Where an atom's body begins: an array's bytes, or all bytes of another atom.
-fn body(s: &[u8], table: &[u32], row: usize) -> usize
-    requires { ⌜ ((a : Atom) × LeafAt (now s) (now table) row a) ⌝ }
-    ensures { λ r. ⌜ ((a : Atom) → LeafAt (now (s .entry)) (now (table .entry)) row a → r ≡ if-array a (λ bs. cell (now (table .entry)) row 2 - length bs) (cell (now (table .entry)) row 1)) ⌝ }
-{
-    if table::kind(table, row) == Kind::ARRAY {
-        return arrays::body(s, table, row);
+// The body of an atom of that kind: an array's bytes, or all bytes of another atom.
+struct Body {
+    kind: u32,
+    from: usize,
+    to: usize,
+}
+
+impl Body {
+    // How many bytes the atom has, as it is written canonically.
+    fn size(self) -> usize
+        requires { ⌜ ((s : List ℕ) × (a : Atom) × BodyOf s a self) ⌝ }
+        ensures { λ r. ⌜ ((s : List ℕ) (a : Atom) → BodyOf s a self → r ≡ length (atom-bytes a)) ⌝ }
+    {
+        writer::atom_size(self.kind, self.to - self.from)
     }
-    table::start(table, row)
+
+    // Writes the atom; gives where its bytes end.
+    fn put(self, s: &[u8], w: &mut [u8], at: usize) -> usize
+        requires { ⌜ length (now w) ≤ 65536 ⌝ }
+        requires { ⌜ ((a : Atom) × BodyOf (now s) a self × (at + length (atom-bytes a) ≤ length (now w))) ⌝ }
+        ensures { λ r. ⌜ ((a : Atom) → BodyOf (now (s .entry)) a self → Put (now (w .entry)) at (atom-bytes a) (now (w .exit)) r) ⌝ }
+    {
+        let from = self.from;
+        let to = self.to;
+        writer::put_atom(self.kind, &s[from..to], w, at)
+    }
+}
+
+// The body of the atom at a row.
+fn body_at(s: &[u8], table: &[u32], row: usize) -> Body
+    requires { ⌜ ((a : Atom) × LeafAt (now s) (now table) row a) ⌝ }
+    ensures { λ r. ⌜ ((a : Atom) → LeafAt (now (s .entry)) (now (table .entry)) row a → BodyOf (now (s .entry)) a r) ⌝ }
+{
+    let kind = table::kind(table, row);
+    let to = table::end(table, row);
+    if kind == Kind::ARRAY {
+        return Body {
+            kind,
+            from: arrays::body(s, table, row),
+            to,
+        };
+    }
+    Body {
+        kind,
+        from: table::start(table, row),
+        to,
+    }
 }
 
 // The value of an atom that stands for itself.
@@ -90,15 +128,13 @@ pub fn own(s: &[u8], table: &[u32], w: &mut [u8], state: State, row: usize) -> O
     requires { ⌜ ((a : Atom) × LeafAt (now s) (now table) row a) ⌝ }
     ensures { λ r. ⌜ ((a : Atom) → LeafAt (now (s .entry)) (now (table .entry)) row a → Completed (now (w .entry)) (now (w .exit)) state (state .top) row (only (atom a)) r) ⌝ }
 {
-    let kind = table::kind(table, row);
-    let from = body(s, table, row);
-    let to = table::end(table, row);
-    let n = writer::atom_size(kind, to - from);
+    let body = body_at(s, table, row);
+    let n = body.size();
     let top = state.top;
     if state.room < n {
         return Out::Refused(17, row);
     }
-    writer::put_atom(kind, &s[from..to], w, top);
+    body.put(s, w, top);
     charged(state, n, top + n)
 }
 
@@ -111,8 +147,7 @@ fn atoms_size(s: &[u8], table: &[u32], form: Form) -> usize
     let mut row = form.first;
     let mut n: usize = 0;
     while row < end {
-        let from = body(s, table, row);
-        n += writer::atom_size(table::kind(table, row), table::end(table, row) - from);
+        n += body_at(s, table, row).size();
         row += 1;
     }
     n
@@ -128,9 +163,7 @@ fn put_atoms(s: &[u8], table: &[u32], w: &mut [u8], at: usize, form: Form)
     let mut row = form.first;
     let mut to = at;
     while row < end {
-        let from = body(s, table, row);
-        let past = table::end(table, row);
-        to = writer::put_atom(table::kind(table, row), &s[from..past], w, to);
+        to = body_at(s, table, row).put(s, w, to);
         row += 1;
     }
 }
@@ -146,8 +179,8 @@ pub fn itself(s: &[u8], table: &[u32], w: &mut [u8], state: State, range: Form) 
     if state.room < n {
         return Out::Refused(17, range.row);
     }
-    w[top] = 0x01;
     put_atoms(s, table, w, top + 1, range);
+    w[top] = 0x01;
     w[top + n - 1] = 0x02;
     charged(state, n, top + n)
 }

@@ -1,4 +1,4 @@
--- `evaluator::forms::array_at` meets its contract: what it is told of the token that stands there, if there is one.
+-- `workspace::made::array_at` meets its contract: what it is told of the token that stands there, if there is one.
 -- Assumes nothing.
 use borrow.Author.Needs.{needs}
 use mathlib.Core.Path.{_≡_, sym, ap, _∙_}

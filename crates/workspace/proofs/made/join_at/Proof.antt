@@ -1,4 +1,4 @@
--- `evaluator::forms::join_at` meets its contract: refused if there is no room, else put together above the top and moved down.
+-- `workspace::made::join_at` meets its contract: refused if there is no room, else put together above the top and moved down.
 -- Assumes nothing.
 use borrow.Author.Needs.{needs}
 use native.Mathlib.Omega.{arith}

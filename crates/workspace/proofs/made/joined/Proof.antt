@@ -1,4 +1,4 @@
--- `evaluator::forms::joined` meets its contract: refused unless both values are arrays, else their join.
+-- `workspace::made::joined` meets its contract: refused unless both values are arrays, else their join.
 -- Assumes nothing.
 use borrow.Author.Needs.{needs}
 use mathlib.Core.Path.{_≡_, sym, _∙_}

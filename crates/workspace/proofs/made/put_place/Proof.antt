@@ -1,10 +1,10 @@
--- `evaluator::forms::put_place` meets its contract: behind the last element nothing is set.
+-- `workspace::made::put_place` meets its contract: behind the last element nothing is set.
 -- Assumes nothing.
 use borrow.Author.Needs.{needs}
 use mathlib.Core.Path.{sym}
 use native.Mathlib.Omega.{arith}
 use lib.Seq.{set-out}
-use Rattle.rules.specs.Scope.{pack}
+use Rattle.workspace.specs.Packed.{pack}
 use Rattle.workspace.proofs.made.put_place.Statement.{statement}
 use Rattle.workspace.proofs.made.put_place.Tie as tie
 

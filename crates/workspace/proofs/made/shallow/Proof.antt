@@ -1,4 +1,4 @@
--- `evaluator::forms::shallow` meets its contract: the invariant is `Nesting`, which each token keeps and few bytes left decide. Assumes nothing.
+-- `workspace::made::shallow` meets its contract: the invariant is `Nesting`, which each token keeps and few bytes left decide. Assumes nothing.
 use borrow.Author.Needs.{needs}
 use Prim.Native.Nat.{_-_, _<_}
 use mathlib.Core.Path.{_≡_, sym, _∙_}

@@ -1,4 +1,4 @@
--- `evaluator::forms::spread` meets its contract. The invariant is `Spreading`, which each value that is passed keeps.
+-- `workspace::made::spread` meets its contract. The invariant is `Spreading`, which each value that is passed keeps.
 -- Assumes nothing.
 use Prim.Native.Nat.{_-_}
 use native.Mathlib.Omega.{arith}

@@ -1,4 +1,4 @@
--- `evaluator::forms::wrapped` meets its contract: refused if too deep or if there is no room, else moved and closed in by 01 and 02.
+-- `workspace::made::wrapped` meets its contract: refused if too deep or if there is no room, else moved and closed in by 01 and 02.
 -- Assumes nothing.
 use borrow.Author.Needs.{needs}
 use Prim.Native.Nat.{_+_, _-_}
@@ -6,13 +6,12 @@ use mathlib.Core.Path.{_≡_, sym, ap, _∙_}
 use native.Mathlib.Omega.{arith}
 use lib.ListN.{length, length-set}
 use lib.Dec.{leb}
-use borrow.Author.Tests.{not-true, not-false}
+use borrow.Author.Tests.{leb-true, leb-false, not-true, not-false}
 use Rattle.spec.specs.Expr.{form, Exprs, only, deepest}
 use Rattle.laws.proofs.Fits.{FitsAll}
 use Rattle.workspace.specs.Completed.{Stand}
 use Rattle.workspace.proofs.Areas.{stand-size, stand-part}
-use Rattle.workspace.proofs.Completing.{Sized, unpaid, written}
-use Rattle.workspace.proofs.Making.{form-deep, form-sized, form-written}
+use Rattle.workspace.proofs.Completing.{Sized, unpaid, written, form-deep, form-sized, form-written}
 use Rattle.workspace.proofs.made.wrapped.Statement.{statement}
 use Rattle.workspace.proofs.made.wrapped.Tie as tie
 
@@ -28,12 +27,13 @@ told-depth : (c : tie.After-shallow) → let a = c .before .before .before .befo
 told-depth c vs there fits = c .shallow .ensures vs (stand-part there) fits
 
 returns : tie.Need-returns
-returns c vs there fits = form-deep there (sym (told-depth (c .before) vs there fits) ∙ not-true _ (c .if1 .taken))
+returns c vs there fits = form-deep vs (leb-false (deepest vs) 63 (sym (told-depth (c .before) vs there fits) ∙ not-true _ (c .if1 .taken)))
 
 -- no deeper than they may be
 sized : (c : tie.Else1) → let a = c .before .before .before .before .before .args in (vs : Exprs) → Stand (a .w .now) (a .from) (a .state .top) vs
     → FitsAll vs → Sized (only (form vs)) (a .state .top - a .from + 2)
-sized c vs there fits = form-sized there (sym (told-depth (c .before) vs there fits) ∙ not-false _ (c .if1 .left))
+sized c vs there fits =
+    form-sized vs _ (stand-size there) (leb-true (deepest vs) 63 (sym (told-depth (c .before) vs there fits) ∙ not-false _ (c .if1 .left)))
 
 returns-2 : tie.Need-returns-2
 returns-2 c vs there fits = unpaid (sized (c .before .before) vs there fits) (c .if2 .taken)
@@ -46,7 +46,7 @@ returns-3 c vs there fits =
     let p = start .pre .0 in
     rw (c .charged .ensures)
     (written (sized k vs there fits) (p .0) (omega (arith, there .order)) (omega arith)
-    (form-written there (start .args .start) (p .1) (omega (arith, there .order, p .0 .paid, p .0 .below)) (m .move-bytes .ensures)))
+    (form-written vs _ (stand-size there) _ (start .args .start) (omega (arith, there .order, p .0 .paid, p .0 .below)) (rw (there .bytes) at (m .move-bytes .ensures))))
 
 pub wrapped-spec : {M : Type 1} → statement M
 wrapped-spec =

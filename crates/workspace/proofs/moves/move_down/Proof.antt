@@ -1,7 +1,7 @@
--- `evaluator::moves::move_down` meets its contract: a loop that moves one byte more each turn. Assumes nothing.
+-- `workspace::moves::move_down` meets its contract: a loop that moves one byte more each turn. Assumes nothing.
 use borrow.Author.Needs.{needs}
 use Prim.Native.Nat.{_+_, _-_}
-use mathlib.Core.Path.{_≡_, refl, sym}
+use mathlib.Core.Path.{_≡_, refl}
 use native.Mathlib.Omega.{arith}
 use lib.ListN.{length-set}
 use Rattle.workspace.proofs.Areas.{moved-none, Moving, moved-next}
@@ -17,7 +17,7 @@ abbrev μ-loop : tie.MeasureT-loop
 loop-holds : tie.Need-loop-holds Inv-loop μ-loop
 loop-holds c =
     let a = c .args in
-    record { few = omega arith; size = refl; is = sym (moved-none (a .w .now) (a .from) (a .from + 0) (a .at) (omega arith)) }
+    record { few = omega arith; size = refl; is = moved-none (a .w .now) (a .from) (a .from + 0) (a .at) (omega arith) }
 
 loop-again : tie.Need-loop-again Inv-loop μ-loop
 loop-again c =

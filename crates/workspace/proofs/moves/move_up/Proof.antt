@@ -1,7 +1,7 @@
--- `evaluator::moves::move_up` meets its contract: a loop that moves one byte more each turn, the last one first. Assumes nothing.
+-- `workspace::moves::move_up` meets its contract: a loop that moves one byte more each turn, the last one first. Assumes nothing.
 use borrow.Author.Needs.{needs}
 use Prim.Native.Nat.{ℕ, _+_, _-_}
-use mathlib.Core.Path.{_≡_, refl, sym}
+use mathlib.Core.Path.{_≡_, refl}
 use native.Mathlib.Omega.{arith}
 use lib.ListN.{length-set}
 use Rattle.workspace.proofs.Areas.{moved-none, Moving, moved-before}
@@ -18,7 +18,7 @@ loop-holds : tie.Need-loop-holds Inv-loop μ-loop
 loop-holds c =
     let a = c .args in
     let n : ℕ = a .to - a .from in
-    record { few = omega arith; size = refl; is = sym (moved-none (a .w .now) (a .from + n) (a .to) (a .at + n) (omega arith)) }
+    record { few = omega arith; size = refl; is = moved-none (a .w .now) (a .from + n) (a .to) (a .at + n) (omega arith) }
 
 loop-again : tie.Need-loop-again Inv-loop μ-loop
 loop-again c =

@@ -1,4 +1,4 @@
--- `evaluator::values::copied` meets its contract: a move to where those before it end, if there is room. Assumes nothing.
+-- `workspace::values::copied` meets its contract: a move to where those before it end, if there is room. Assumes nothing.
 use borrow.Author.Needs.{needs}
 use native.Mathlib.Omega.{arith}
 use Rattle.workspace.proofs.Completing.{unpaid, written, part-sized}
