@@ -1,5 +1,5 @@
--- Laws of a scope's entries: packed parts, one more definition, fewer of them, the same of them, and what a key finds.
--- Document 01: "the latest visible definition of that marker and name". Assumes nothing.
+-- Laws of what a scope shows of the lent arrays: how much it is, less of it, one entry more, and that what is written past it changes nothing of it;
+-- and of what a key finds. Document 01: "a list of definitions that are visible at each place", "the latest visible definition". Assumes nothing.
 use Prim.Native.Nat.{ℕ, zero, suc, _+_, _-_, _≤_, _<_}
 use mathlib.Core.Path.{_≡_, refl, sym, ap, _∙_}
 use mathlib.Core.List.{List, _∷_}
@@ -8,82 +8,101 @@ use native.Mathlib.Numerals.{add-one}
 use lib.ListN.{length, getD, set, drop}
 use lib.Seq.{getD-set-same, getD-set-other}
 use borrow.Author.Tests.{eq-eqb, ne-eqb}
-use Rattle.rules.specs.Scope.{pack, packed-from, packed-to, function-bit, Entry, entries-at, find}
+use Rattle.workspace.specs.Packed.{packed-from, packed-to}
+use Rattle.rules.specs.Entries.{function-bit, key-in, content-in}
+use Rattle.rules.specs.Scope.{latest, View, view, find}
+use Rattle.rules.specs.declared.scope.Scope.{Scope}
 use Rattle.rules.specs.declared.scope.Found.the-variants.{Value, Function}
 
--- Packed parts
+-- The first n numbers of an array
 
-pub from-packed : (from to : ℕ) → from < to → to ≤ 65536 → packed-from (pack from to) ≡ from
-from-packed from to h h′ = omega arith
+module _ (numbers : List ℕ) where
+  pub latest-length : (n : ℕ) → length (latest numbers n) ≡ n
+  unfolding latest
+  latest-length zero = refl
+  latest-length (suc n) = ap suc (latest-length n)
 
-pub to-packed : (from to : ℕ) → from < to → to ≤ 65536 → packed-to (pack from to) ≡ to
-to-packed from to h h′ = omega arith
+  -- the latest is the last
+  pub latest-first : (n : ℕ) → 0 < n → latest numbers n ≡ getD numbers (n - 1) 0 ∷ latest numbers (n - 1)
+  unfolding latest
+  latest-first zero h = absurd (omega arith)
+  latest-first (suc n) h = let back : suc n - 1 ≡ n = omega arith in rw back
 
--- More and fewer
+  latest-back : (k n len : ℕ) → k + n ≡ len → latest numbers n ≡ drop k (latest numbers len)
+  unfolding latest
+  latest-back zero n len h = let all : n ≡ len = omega arith in ap (latest numbers) all
+  latest-back (suc k) n zero h = absurd (omega arith)
+  latest-back (suc k) n (suc len) h = latest-back k n len (omega arith)
 
-module _ (keys places : List ℕ) where
-  pub entries-length : (n : ℕ) → length (entries-at keys places n) ≡ n
-  unfolding entries-at
-  entries-length zero = refl
-  entries-length (suc n) = ap suc (entries-length n)
+  pub latest-fewer : (n len : ℕ) → n ≤ len → latest numbers n ≡ drop (len - n) (latest numbers len)
+  latest-fewer n len h = latest-back (len - n) n len (omega arith)
 
-  abbrev pub entry-at : ℕ → Entry
-  entry-at i = record { key = getD keys i 0; place = getD places i 0 }
+  module _ (i x : ℕ) where
+    -- what is stored at i changes none before it
+    latest-kept : (n : ℕ) → n ≤ i → latest (set numbers i x) n ≡ latest numbers n
+    unfolding latest
+    latest-kept zero h = refl
+    latest-kept (suc n) h = rw (getD-set-other numbers i n x 0 (λ e. omega arith), latest-kept n (omega arith))
 
-  -- of the first n the latest is the last
-  pub entries-latest : (n : ℕ) → 0 < n → entries-at keys places n ≡ entry-at (n - 1) ∷ entries-at keys places (n - 1)
-  unfolding entries-at
-  entries-latest zero h = absurd (omega arith)
-  entries-latest (suc n) h = let back : suc n - 1 ≡ n = omega arith in rw back
+    latest-added : i < length numbers → latest (set numbers i x) (i + 1) ≡ x ∷ latest numbers i
+    unfolding latest
+    latest-added h = rw (add-one i, getD-set-same numbers i x 0 h, latest-kept i (omega arith))
 
-  entries-back : (k n len : ℕ) → k + n ≡ len → entries-at keys places n ≡ drop k (entries-at keys places len)
-  unfolding entries-at
-  entries-back zero n len h = let all : n ≡ len = omega arith in ap (entries-at keys places) all
-  entries-back (suc k) n zero h = absurd (omega arith)
-  entries-back (suc k) n (suc len) h = entries-back k n len (omega arith)
+-- if the first `len` are the same in two arrays, so are the first n of them
+latest-under : (a b : List ℕ) (n len : ℕ) → n ≤ len → latest a len ≡ latest b len → latest a n ≡ latest b n
+latest-under a b n len h e = latest-fewer a n len h ∙ ap (drop (len - n)) e ∙ sym (latest-fewer b n len h)
 
-  pub entries-fewer : (n len : ℕ) → n ≤ len → entries-at keys places n ≡ drop (len - n) (entries-at keys places len)
-  entries-fewer n len h = entries-back (len - n) n len (omega arith)
+-- Views
 
-  module _ (i key place : ℕ) where
-    -- what is stored at i changes no entry before it
-    entries-stored : (n : ℕ) → n ≤ i → entries-at (set keys i key) (set places i place) n ≡ entries-at keys places n
-    unfolding entries-at
-    entries-stored zero h = refl
-    entries-stored (suc n) h =
-        let other : n ≡ i → ⊥ = λ e. omega arith in
-        rw (getD-set-other keys i n key 0 other, getD-set-other places i n place 0 other, entries-stored n (omega arith))
+-- one definition more, one association more
+abbrev pub with-definition : ℕ → View → View
+with-definition x v = record { definitions = x ∷ v .definitions; associations = v .associations }
 
-    pub entries-added : i < length keys → i < length places
-        → entries-at (set keys i key) (set places i place) (i + 1) ≡ record { key = key; place = place } ∷ entries-at keys places i
-    unfolding entries-at
-    entries-added h h′ =
-        rw (add-one i, getD-set-same keys i key 0 h, getD-set-same places i place 0 h′, entries-stored i (omega arith))
+abbrev pub with-association : ℕ → View → View
+with-association x v = record { definitions = v .definitions; associations = x ∷ v .associations }
 
--- The same in other arrays
+module _ (associations definitions : List ℕ) (sc : Scope) (x : ℕ) where
+  abbrev added : List ℕ
+  added = set definitions (sc .defined) x
 
-module _ (keys places keys′ places′ : List ℕ) where
-  -- if the first `len` are the same, so are the first n of them
-  pub entries-under : (n len : ℕ) → n ≤ len → entries-at keys places len ≡ entries-at keys′ places′ len → entries-at keys places n ≡ entries-at keys′ places′ n
-  entries-under n len h e = entries-fewer keys places n len h ∙ ap (drop (len - n)) e ∙ sym (entries-fewer keys′ places′ n len h)
+  abbrev associated : List ℕ
+  associated = set associations (sc .associated) x
 
-  -- one more leaves the others
-  pub entries-behind : (len : ℕ) (e : Entry) → entries-at keys places (len + 1) ≡ e ∷ entries-at keys′ places′ len → entries-at keys places len ≡ entries-at keys′ places′ len
-  entries-behind len e h =
-      let one : len + 1 - len ≡ 1 = omega arith in
-      entries-fewer keys places len (len + 1) (omega arith) ∙ ap (drop (len + 1 - len)) h ∙ rw one
+  pub view-added : sc .defined < length definitions
+      → view associations added (record { defined = sc .defined + 1; associated = sc .associated }) ≡ with-definition x (view associations definitions sc)
+  view-added h = rw (latest-added definitions (sc .defined) x h)
+
+  pub view-associated : sc .associated < length associations
+      → view associated definitions (record { defined = sc .defined; associated = sc .associated + 1 }) ≡ with-association x (view associations definitions sc)
+  view-associated h = rw (latest-added associations (sc .associated) x h)
+
+  -- what was visible before stays
+  pub view-before-added : view associations added sc ≡ view associations definitions sc
+  view-before-added = rw (latest-kept definitions (sc .defined) x (sc .defined) (omega arith))
+
+  pub view-before-associated : view associated definitions sc ≡ view associations definitions sc
+  view-before-associated = rw (latest-kept associations (sc .associated) x (sc .associated) (omega arith))
+
+-- what a scope shows stays if what a larger one shows does
+pub view-under : (associations definitions associations′ definitions′ : List ℕ) (outer sc : Scope) → outer .defined ≤ sc .defined → outer .associated ≤ sc .associated
+    → view associations′ definitions′ sc ≡ view associations definitions sc → view associations′ definitions′ outer ≡ view associations definitions outer
+view-under associations definitions associations′ definitions′ outer sc h h′ same =
+    rw (
+      latest-under definitions′ definitions (outer .defined) (sc .defined) h (ap (λ (v : View). v .definitions) same),
+      latest-under associations′ associations (outer .associated) (sc .associated) h′ (ap (λ (v : View). v .associations) same),
+    )
 
 -- What a key finds
 
-module _ (key : ℕ) (e : Entry) (es : List Entry) where
-  pub find-value : e .key ≡ key → Value (packed-from (e .place)) (packed-to (e .place)) ≡ find key (e ∷ es)
+module _ (key e : ℕ) (es : List ℕ) where
+  pub find-value : key-in e ≡ key → Value (packed-from (content-in e)) (packed-to (content-in e)) ≡ find key (e ∷ es)
   unfolding find
-  find-value h = rw (eq-eqb (e .key) key h)
+  find-value h = rw (eq-eqb (key-in e) key h)
 
-  pub find-function : e .key ≡ key + function-bit → Function (e .place) (length es) ≡ find key (e ∷ es)
+  pub find-function : key-in e ≡ key + function-bit → Function (content-in e) (length es) ≡ find key (e ∷ es)
   unfolding find
-  find-function h = rw (ne-eqb (e .key) key (λ h′. omega (arith, h, h′)), eq-eqb (e .key) (key + function-bit) h)
+  find-function h = rw (ne-eqb (key-in e) key (λ h′. omega (arith, h, h′)), eq-eqb (key-in e) (key + function-bit) h)
 
-  pub find-other : (e .key ≡ key → ⊥) → (e .key ≡ key + function-bit → ⊥) → find key es ≡ find key (e ∷ es)
+  pub find-other : (key-in e ≡ key → ⊥) → (key-in e ≡ key + function-bit → ⊥) → find key es ≡ find key (e ∷ es)
   unfolding find
-  find-other h h′ = rw (ne-eqb (e .key) key h, ne-eqb (e .key) (key + function-bit) h′)
+  find-other h h′ = rw (ne-eqb (key-in e) key h, ne-eqb (key-in e) (key + function-bit) h′)

@@ -1,95 +1,96 @@
--- Laws of the array of namespaces: what is left of it while code goes from the latest to the first, and one more namespace. And of `same`:
--- byte by byte, and of arrays by their rows. Document 01: "associates ref's marker with id", "id used before". Assumes nothing.
-use Prim.Native.Nat.{ℕ, suc, _+_, _-_, _/_, _%_, _≤_, _<_}
+-- Laws of associations: what an entry tells of its marker and id, what is left of them while code goes from the latest to the first, and one more.
+-- Document 01: "associates ref's marker with id", "id used before". Assumes nothing.
+use Prim.Native.Nat.{ℕ, suc, _+_, _-_, _≤_, _<_}
 use mathlib.Core.Path.{_≡_, refl, sym, ap, _∙_}
 use mathlib.Core.List.{List, [], _∷_}
-use mathlib.Core.Bool.{Bool, true, false, _&&_}
+use mathlib.Core.Bool.{Bool, true, false}
 use native.Mathlib.Omega.{arith}
-use native.Mathlib.Numerals.{add-one}
-use lib.ListN.{length, take, drop, getD, set, drop-of-length-le}
-use lib.Seq.{drop-cons, getD-set-same, getD-set-other}
-use lib.Dec.{eqb}
-use borrow.Author.Tests.{eq-eqb, ne-eqb}
-use Rattle.spec.specs.Expr.{same, some, array}
+use lib.ListN.{length, take, drop, getD}
+use Rattle.spec.specs.Expr.{some}
 use Rattle.spec.specs.Plan.{Namespace}
-use Rattle.rows.specs.Rows.{cell, LeafAt}
-use Rattle.rules.specs.Associations.{named, Named}
-use Rattle.rows.proofs.Nodes.{leaf-array}
 use Rattle.rows.proofs.Slices.{slice-take}
+use Rattle.rules.specs.Entries.{stream, id, association, marker-in, place-in, size-in}
+use Rattle.rules.specs.Scope.{latest}
+use Rattle.rules.specs.Associations.{AssociationAt, Linked}
+use Rattle.rules.proofs.Latest.{latest-first}
 
--- A marker and a row in one number
+-- What an entry tells
 
-named-marker : (m row : ℕ) → row < 65536 → named m row / 65536 ≡ m
-named-marker m row h = omega arith
+module _ (marker place size : ℕ) (inside : place < 65536) (some : 1 ≤ size) (few : size ≤ 64) where
+  association-marker : marker-in (association marker (id stream place size)) ≡ marker
+  association-marker = omega arith
 
-named-row : (m row : ℕ) → row < 65536 → named m row % 65536 ≡ row
-named-row m row h = omega arith
+  association-place : place-in (association marker (id stream place size)) ≡ place
+  association-place = omega arith
+
+  association-size : size-in (association marker (id stream place size)) ≡ size
+  association-size = omega arith
+
+module _ {s : List ℕ} {e : ℕ} {k : Namespace} (at : AssociationAt s e k) where
+  id-starts : at .place < 65536
+  id-starts = omega (arith, at .some-bytes, at .inside, at .short)
+
+  pub marked : marker-in e ≡ k .marker
+  marked = rw (at .is) (association-marker (k .marker) (at .place) (length (k .id)) id-starts (at .some-bytes) (at .few-bytes))
+
+  -- the id's bytes, by the place and the size that the entry has
+  pub id-part : (p n : ℕ) → p ≡ place-in e → n ≡ size-in e → (p + n ≤ length s) × (take (p + n - p) (drop p s) ≡ k .id)
+  id-part p n h h′ =
+      let begins : p ≡ at .place = h ∙ rw (at .is) (association-place (k .marker) (at .place) (length (k .id)) id-starts (at .some-bytes) (at .few-bytes)) in
+      let size : n ≡ length (k .id) = h′ ∙ rw (at .is) (association-size (k .marker) (at .place) (length (k .id)) id-starts (at .some-bytes) (at .few-bytes)) in
+      (omega (arith, at .inside), rw (begins, size) (sym (slice-take (at .place) (at .place + length (k .id)) s) ∙ at .bytes))
 
 -- What is left
 
--- the first i namespaces, when the test of all of them is that of these
-pub record Left (s t names : List ℕ) (test : Namespace → Bool) (all : Bool) (i : ℕ) : Type 0 where
+-- the first i associations, when the test of all of them is that of these
+pub record Left (s associations : List ℕ) (test : Namespace → Bool) (all : Bool) (i : ℕ) : Type 0 where
   pub rest : List Namespace
-  pub stand : Named s t names rest
-  pub count : i ≡ length rest
+  pub linked : Linked s (latest associations i) rest
   pub tells : all ≡ some test rest
 
--- the latest of them, by the number that stands for it
-pub record Latest (s t names : List ℕ) (test : Namespace → Bool) (all : Bool) (i : ℕ) : Type 0 where
+-- the latest of them
+pub record Latest (s associations : List ℕ) (test : Namespace → Bool) (all : Bool) (i : ℕ) : Type 0 where
   pub is : Namespace
-  pub marked : getD names i 0 / 65536 ≡ is .marker
-  pub id-at : LeafAt s t (getD names i 0 % 65536) (array (is .id))
+  pub at : AssociationAt s (getD associations i 0) is
   pub passes : test is ≡ true → true ≡ all
-  pub fails : test is ≡ false → Left s t names test all i
+  pub fails : test is ≡ false → Left s associations test all i
 
-module _ {s t names : List ℕ} {test : Namespace → Bool} {i : ℕ} where
-  pub left-all : (ks : List Namespace) → Named s t names ks → i ≡ length ks → Left s t names test (some test ks) i
-  left-all ks n e = record { rest = ks; stand = n; count = e; tells = refl }
+module _ {s associations : List ℕ} {test : Namespace → Bool} where
+  pub left-all : {i : ℕ} (ks : List Namespace) → Linked s (latest associations i) ks → Left s associations test (some test ks) i
+  left-all ks n = record { rest = ks; linked = n; tells = refl }
 
-  pub left-latest : {all : Bool} → Left s t names test all i → 0 < i → Latest s t names test all (i - 1)
-  unfolding Named some
-  left-latest {all} l h = go (l .rest) (l .stand) (l .count) (l .tells)
-    where
-      go : (ks : List Namespace) → Named s t names ks → i ≡ length ks → all ≡ some test ks → Latest s t names test all (i - 1)
-      go [] n e q = absurd (omega arith)
-      go (k ∷ ks) ((row, is, leaf), n) e q =
-          let at : i - 1 ≡ length ks = omega arith in
-          let few = leaf .row .few in
-          rw at record {
-            is = k;
-            marked = rw is (named-marker (k .marker) row few);
-            id-at = rw (is, named-row (k .marker) row few) leaf;
-            passes = λ p. sym (rw p at q);
-            fails = λ p. record { rest = ks; stand = n; count = refl; tells = rw p at q };
-          }
+  module _ {i : ℕ} {all : Bool} (l : Left s associations test all i) where
+    pub left-latest : 0 < i → Latest s associations test all (i - 1)
+    unfolding Linked some
+    left-latest h = go (l .rest) (rw (latest-first associations i h) at (l .linked)) (l .tells)
+      where
+        go : (ks : List Namespace) → Linked s (getD associations (i - 1) 0 ∷ latest associations (i - 1)) ks → all ≡ some test ks → Latest s associations test all (i - 1)
+        go [] n q = absurd n
+        go (k ∷ ks) (at, n) q = record {
+          is = k;
+          at = at;
+          passes = λ p. sym (rw p at q);
+          fails = λ p. record { rest = ks; linked = n; tells = rw p at q };
+        }
 
-  pub left-none : {all : Bool} → Left s t names test all i → i ≤ 0 → false ≡ all
-  unfolding some
-  left-none {all} l h = go (l .rest) (l .count) (l .tells)
-    where
-      go : (ks : List Namespace) → i ≡ length ks → all ≡ some test ks → false ≡ all
-      go [] e q = sym q
-      go (k ∷ ks) e q = absurd (omega arith)
+    pub left-none : i ≤ 0 → false ≡ all
+    unfolding Linked some latest
+    left-none h = let z : i ≡ 0 = omega arith in go (l .rest) (rw z at (l .linked)) (l .tells)
+      where
+        go : (ks : List Namespace) → Linked s [] ks → all ≡ some test ks → false ≡ all
+        go [] n q = sym q
+        go (k ∷ ks) n q = absurd n
 
 -- One more
 
-module _ (s t : List ℕ) where
-  -- what is stored behind the namespaces changes none of them
-  named-kept : (names : List ℕ) (i v : ℕ) (ks : List Namespace) → length ks ≤ i → Named s t names ks → Named s t (set names i v) ks
-  unfolding Named
-  named-kept names i v [] h n = tt
-  named-kept names i v (k ∷ ks) h ((row, is, leaf), n) =
-      let kept = getD-set-other names i (length ks) v 0 (λ e. omega arith) in
-      ((row, kept ∙ is, leaf), named-kept names i v ks (omega arith) n)
+module _ (s : List ℕ) where
+  pub linked-length : (es : List ℕ) (ks : List Namespace) → Linked s es ks → length es ≡ length ks
+  unfolding Linked
+  linked-length [] [] n = refl
+  linked-length [] (k ∷ ks) n = absurd n
+  linked-length (e ∷ es) [] n = absurd n
+  linked-length (e ∷ es) (k ∷ ks) n = ap suc (linked-length es ks (n .1))
 
-  pub named-added : (names : List ℕ) (ks : List Namespace) (m row : ℕ) (id : List ℕ) → Named s t names ks → length ks < length names
-      → LeafAt s t row (array id) → Named s t (set names (length ks) (named m row)) (record { marker = m; id = id } ∷ ks)
-  unfolding Named
-  named-added names ks m row id n h leaf =
-      ((row, getD-set-same names (length ks) (named m row) 0 h, leaf), named-kept names (length ks) (named m row) ks (omega arith) n)
-
--- an array's bytes, by where they begin and end
-pub array-part : {s t : List ℕ} {r : ℕ} {bs : List ℕ} → LeafAt s t r (array bs) → {p e : ℕ} → p ≡ cell t r 2 - length bs → e ≡ cell t r 2
-    → (p ≤ e) × (e ≤ length s) × (take (e - p) (drop p s) ≡ bs)
-array-part {s} l {p} {e} begins ends =
-    (omega arith, omega (arith, l .row .ends), sym (slice-take p e s) ∙ rw (begins, ends) (leaf-array l .0))
+  pub linked-more : (e : ℕ) (es : List ℕ) (k : Namespace) (ks : List Namespace) → AssociationAt s e k → Linked s es ks → Linked s (e ∷ es) (k ∷ ks)
+  unfolding Linked
+  linked-more e es k ks at n = (at, n)

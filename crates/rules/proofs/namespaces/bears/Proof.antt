@@ -1,4 +1,4 @@
--- `evaluator::namespaces::bears` meets its contract: only a reference's row is of kind 4, and its key has its marker. Assumes nothing.
+-- `rules::namespaces::bears` meets its contract: only a reference's row is of kind 4, and its key has its marker. Assumes nothing.
 use mathlib.Core.Path.{refl, sym, _∙_}
 use native.Mathlib.Omega.{arith}
 use Rattle.laws.proofs.Steps.{all-bytes}

@@ -1,4 +1,4 @@
--- `evaluator::namespaces::borne` meets its contract: the rows that are left bear the marker if any does. Assumes nothing.
+-- `rules::namespaces::borne` meets its contract: the rows that are left bear the marker if any does. Assumes nothing.
 use borrow.Author.Needs.{needs}
 use Prim.Native.Nat.{_-_}
 use mathlib.Core.Path.{sym, _∙_}

@@ -1,0 +1,11 @@
+-- `rules::scope::Scope::associate` meets its contract. Assumes nothing.
+use borrow.Author.Needs.{needs}
+use mathlib.Core.Path.{refl}
+use Rattle.rules.proofs.scope.Scope.associate.Statement.{statement}
+use Rattle.rules.proofs.scope.Scope.associate.Tie as tie
+
+returns : tie.Need-returns
+returns c = (rw (c .association .ensures), refl)
+
+pub associate-spec : {M : Type 1} → statement M
+associate-spec = tie.close (tie.spec (λ c κs. search needs) (λ c. search needs) (λ c. search needs) (λ c. search needs) returns)
