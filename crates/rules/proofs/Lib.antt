@@ -2,5 +2,3 @@ pub mod Latest
 pub mod Linking
 pub mod Borne
 pub mod Shown
-pub mod Rules
-pub mod Heads

@@ -2,11 +2,11 @@
 use Prim.Native.Nat.{ℕ, _+_, _-_, _≤_, _<_}
 use mathlib.Core.Path.{_≡_}
 use mathlib.Core.List.{List}
-use mathlib.Core.Bool.{false}
+use mathlib.Core.Bool.{Bool, true, false}
 use lib.ListN.{length, drop}
 use Rattle.spec.specs.Expr.{Atom, ref, atom, form, Exprs, only}
-use Rattle.spec.specs.Nodes.{rest, Node, Nodes, empty, cons, unnumbered-all, elements, headed-by}
-use Rattle.spec.specs.Plan.{function, Scope as Definitions, Namespace, Within, element, inner, Here as Known, Finish, as-form, as-definition, as-concat, as-call, Plan, refuse, leave, associate, define-function, inside, plan}
+use Rattle.spec.specs.Nodes.{rest, Node, branch, Nodes, empty, cons, unnumbered-all, elements, headed-by}
+use Rattle.spec.specs.Plan.{function, Scope as Definitions, Namespace, Within, element, inner, Arguments, Here as Known, Finish, as-form, as-definition, as-concat, as-call, Plan, refuse, leave, associate, define-function, inside, plan-arg, plan-rest}
 use Rattle.laws.specs.Holding.{skip}
 use Rattle.laws.proofs.Fits.{Fits}
 use Rattle.rows.specs.Rows.{LeafAt, NodesAt, row-of, key-of}
@@ -20,6 +20,8 @@ use Rattle.rules.specs.Scope.{View}
 use Rattle.rules.specs.Associations.{AssociationAt}
 use Rattle.rules.specs.Settings.{CodeAt, Shows, Setting}
 use Rattle.rules.specs.declared.scope.Scope.{Scope}
+use Rattle.rules.specs.declared.here.Within.{Within as Among}
+use Rattle.rules.specs.declared.here.Within.the-variants.{Element, Inner}
 use Rattle.rules.specs.declared.here.Here.{Here}
 use Rattle.rules.specs.declared.plan.Making.{Making}
 use Rattle.rules.specs.declared.plan.Making.the-variants.{Form as Wrap, Define, Concat}
@@ -28,6 +30,22 @@ use Rattle.rules.specs.declared.plan.After.{After}
 use Rattle.rules.specs.declared.plan.After.the-variants.{Make, Call}
 use Rattle.rules.specs.declared.plan.Task.{Task}
 use Rattle.rules.specs.declared.plan.Task.the-variants.{Refuse, Own, Again, Ns, Function, Inside}
+
+-- what list the values are of that are made into others
+abbrev pub within-made : Making → Among
+within-made Wrap = Element
+within-made (Define key) = Inner
+within-made Concat = Inner
+
+-- and those of whatever becomes of them
+abbrev pub within-of : After → Among
+within-of (Make m) = within-made m
+within-of (Call c) = Inner
+
+-- the rule of rest, or of arg, with an n
+abbrev pub passing : Bool → ℕ → Arguments → Plan
+passing true n xs = plan-rest n xs
+passing false n xs = plan-arg n xs
 
 -- the elements of a define: its head, its reference, and a value that is no `rest` form
 pub data OneMore : Nodes → Type 0 where
@@ -78,3 +96,7 @@ pub record Planning (s t args : List ℕ) (v : View) (at : Here) (node : Ranged)
 abbrev pub Answers : List ℕ → List ℕ → List ℕ → View → Here → Node → (Known → Plan) → Task → Type 0
 Answers s t args v at e rule task =
     (w : List ℕ) (st : State) (h : Known) → Setting s t w args st v at (row-of e) h → Planned s t w (st .floor) v (at .scope) e task (rule h)
+
+-- the same for the form whose elements stand in a range, by a rule for them
+abbrev pub AnswersForm : List ℕ → List ℕ → List ℕ → View → Here → Form → (Nodes → Known → Plan) → Task → Type 0
+AnswersForm s t args v at f rule task = (es : Nodes) → NodesAt s t (f .first) (f .end) es → Answers s t args v at (branch (f .row) es) (rule es) task

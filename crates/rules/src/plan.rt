@@ -17,11 +17,23 @@ use rows::table;
 use rows::words::Core;
 use rows::words::Word;
 use workspace::packed;
-ghost use Rattle.spec.specs.Nodes.{Node as Expression};
-ghost use Rattle.spec.specs.Plan.{plan};
-ghost use Rattle.rows.specs.Forms.{IsNode};
-ghost use Rattle.rules.specs.Scope.{view};
-ghost use Rattle.rules.specs.Planned.{Planning, Answers};
+ghost use mathlib.Core.Path.{_≡_};
+ghost use mathlib.Core.List.{List};
+ghost use mathlib.Core.Bool.{true, false};
+ghost use Prim.Native.Nat.{ℕ};
+ghost use lib.Dec.{leb};
+ghost use Rattle.spec.specs.Expr.{if_then_else_, Atom};
+ghost use Rattle.spec.specs.Nodes.{ns, subst, rest, is, Node as Expression, leaf, branch, Nodes, head-word};
+ghost use Rattle.spec.specs.Plan.{Arguments, Here as Known, Plan, refuse, expect-one, expect-int, plan-ns, plan-definition, plan-define, plan-concat, plan-other, plan};
+ghost use Rattle.rows.specs.Rows.{LeafAt, NodesAt};
+ghost use Rattle.rows.specs.Forms.{meant, IsNode, SomeNodes, led-by-reference};
+ghost use Rattle.rows.specs.declared.forms.Node.the-variants.{Leaf, Branch};
+ghost use Rattle.rules.specs.Scope.{View, view};
+ghost use Rattle.rules.specs.Settings.{CodeAt, ArgumentsOf};
+ghost use Rattle.rules.specs.Planned.{within-made, within-of, passing, Planned, Planning, Answers, AnswersForm};
+ghost use Rattle.rules.specs.declared.here.Within.the-variants.{Top, Inner};
+ghost use Rattle.rules.specs.declared.plan.After.the-variants.{Make, Call};
+ghost use Rattle.rules.specs.declared.plan.Task.the-variants.{Inside};
 
 // What the values of a list are made into.
 pub enum Making {
@@ -43,7 +55,9 @@ pub enum After {
 }
 
 impl Making {
-    fn within(self) -> Within {
+    fn within(self) -> Within
+        ensures { λ r. ⌜ r ≡ within-made self ⌝ }
+    {
         match self {
             Making::Form => Within::Element,
             Making::Define { key: _ } => Within::Inner,
@@ -54,7 +68,9 @@ impl Making {
 
 impl After {
     // What list the values are of.
-    pub fn within(self) -> Within {
+    pub fn within(self) -> Within
+        ensures { λ r. ⌜ r ≡ within-of self ⌝ }
+    {
         match self {
             After::Make(making) => making.within(),
             After::Call(_) => Within::Inner,
@@ -77,22 +93,48 @@ pub enum Task {
     Inside { list: Form, after: After },
 }
 
-fn make(list: Form, making: Making) -> Task {
+fn make(list: Form, making: Making) -> Task
+    ensures { λ r. ⌜ r ≡ Inside list (Make making) ⌝ }
+{
     Task::Inside {
         list,
         after: After::Make(making),
     }
 }
 
-fn call(list: Form, body: Form, scope: Scope) -> Task {
+fn call(list: Form, body: Form, scope: Scope) -> Task
+    ensures { λ r. ⌜ r ≡ Inside list (Call (record { body = body; scope = scope })) ⌝ }
+{
     Task::Inside {
         list,
         after: After::Call(Callee { body, scope }),
     }
 }
 
+fn is_subst(word: Word) -> bool
+    ensures { λ r. ⌜ r ≡ is (meant word) subst ⌝ }
+{
+    match word {
+        Word::Subst => true,
+        _ => false,
+    }
+}
+
+fn is_rest(word: Word) -> bool
+    ensures { λ r. ⌜ r ≡ is (meant word) rest ⌝ }
+{
+    match word {
+        Word::Rest => true,
+        _ => false,
+    }
+}
+
 // The atom at a row.
-fn leaf(s: &[u8], table: &[u32], definitions: &[u64; 256], scope: Scope, row: usize) -> Task {
+fn leaf(s: &[u8], table: &[u32], definitions: &[u64; 256], here: Here, row: usize) -> Task
+    requires { ⌜ ((associations : List ℕ) × (args : List ℕ) × Planning (now s) (now table) args (view associations (now definitions) (here .scope)) here (Leaf row)) ⌝ }
+    ensures { λ r. ⌜ ((associations args : List ℕ) (a : Atom) → LeafAt (now (s .entry)) (now (table .entry)) row a
+        → Answers (now (s .entry)) (now (table .entry)) args (view associations (now (definitions .entry)) (here .scope)) here (leaf row a) (plan (leaf row a)) r) ⌝ }
+{
     if table::kind(table, row) != Kind::REFERENCE {
         return Task::Own;
     }
@@ -100,7 +142,7 @@ fn leaf(s: &[u8], table: &[u32], definitions: &[u64; 256], scope: Scope, row: us
     if Core::is_function(key) {
         return Task::Refuse(12);
     }
-    match scope.look_up(definitions, key) {
+    match here.scope.look_up(definitions, key) {
         Found::Value { from, to } => Task::Again { from, to },
         Found::Function {
             code: _,
@@ -110,40 +152,12 @@ fn leaf(s: &[u8], table: &[u32], definitions: &[u64; 256], scope: Scope, row: us
     }
 }
 
-// An ns form of a reference and an array.
-fn associate(
-    s: &[u8],
-    table: &[u32],
-    associations: &[u64; 64],
-    scope: Scope,
-    form: Form,
-    p: Parts,
-) -> Task {
-    let to = table::end(table, p.third);
-    let from = arrays::body(s, table, p.third);
-    let size = to - from;
-    if size < 1 {
-        return Task::Refuse(11);
-    }
-    if 64 < size {
-        return Task::Refuse(11);
-    }
-    let marker = table::key(s, table, p.second) / 256;
-    if namespaces::clash(s, table, associations, scope, form.row, marker, from, to) {
-        return Task::Refuse(14);
-    }
-    if 64 <= scope.associated {
-        return Task::Refuse(19);
-    }
-    Task::Ns {
-        form,
-        marker,
-        id: entries::id(entries::STREAM, from, size),
-    }
-}
-
-// An ns form where it is allowed.
-fn namespace(s: &[u8], table: &[u32], associations: &[u64; 64], scope: Scope, form: Form) -> Task {
+// An ns form at the top level.
+fn namespace(s: &[u8], table: &[u32], associations: &[u64; 64], here: Here, form: Form) -> Task
+    requires { ⌜ (here .within ≡ Top) × ((definitions : List ℕ) × (args : List ℕ) × Planning (now s) (now table) args (view (now associations) definitions (here .scope)) here (Branch form)) ⌝ }
+    ensures { λ r. ⌜ ((definitions args : List ℕ) (es : Nodes) → NodesAt (now (s .entry)) (now (table .entry)) (form .first) (form .end) es → head-word es ≡ ns
+        → Answers (now (s .entry)) (now (table .entry)) args (view (now (associations .entry)) definitions (here .scope)) here (branch (form .row) es) (λ h. plan-ns (h .within) es h) r) ⌝ }
+{
     let p = form.parts(table);
     if p.count != 3 {
         return Task::Refuse(11);
@@ -154,19 +168,44 @@ fn namespace(s: &[u8], table: &[u32], associations: &[u64; 64], scope: Scope, fo
     if table::kind(table, p.third) != Kind::ARRAY {
         return Task::Refuse(11);
     }
-    associate(s, table, associations, scope, form, p)
+    let to = table::end(table, p.third);
+    let from = arrays::body(s, table, p.third);
+    let size = to - from;
+    if size < 1 {
+        return Task::Refuse(11);
+    }
+    if 64 < size {
+        return Task::Refuse(11);
+    }
+    let marker = table::key(s, table, p.second) / 256;
+    if namespaces::clash(s, table, associations, here.scope, form.row, marker, from, to) {
+        return Task::Refuse(14);
+    }
+    if 64 <= here.scope.associated {
+        return Task::Refuse(19);
+    }
+    let id = entries::id(entries::STREAM, from, size);
+    Task::Ns { form, marker, id }
 }
 
-fn ns(s: &[u8], table: &[u32], associations: &[u64; 64], here: Here, form: Form) -> Task {
+fn ns(s: &[u8], table: &[u32], associations: &[u64; 64], here: Here, form: Form) -> Task
+    requires { ⌜ ((definitions : List ℕ) × (args : List ℕ) × Planning (now s) (now table) args (view (now associations) definitions (here .scope)) here (Branch form)) ⌝ }
+    ensures { λ r. ⌜ ((definitions args : List ℕ) (es : Nodes) → NodesAt (now (s .entry)) (now (table .entry)) (form .first) (form .end) es → head-word es ≡ ns
+        → Answers (now (s .entry)) (now (table .entry)) args (view (now (associations .entry)) definitions (here .scope)) here (branch (form .row) es) (λ h. plan-ns (h .within) es h) r) ⌝ }
+{
     let within = here.within;
     match within {
-        Within::Top => namespace(s, table, associations, here.scope, form),
+        Within::Top => namespace(s, table, associations, here, form),
         _ => Task::Refuse(13),
     }
 }
 
 // A define form where it is allowed.
-fn definition(s: &[u8], table: &[u32], associations: &[u64; 64], scope: Scope, form: Form) -> Task {
+fn definition(s: &[u8], table: &[u32], associations: &[u64; 64], here: Here, form: Form) -> Task
+    requires { ⌜ ((definitions : List ℕ) × (args : List ℕ) × Planning (now s) (now table) args (view (now associations) definitions (here .scope)) here (Branch form)) ⌝ }
+    ensures { λ r. ⌜ ((definitions args : List ℕ)
+        → AnswersForm (now (s .entry)) (now (table .entry)) args (view (now (associations .entry)) definitions (here .scope)) here form plan-definition r) ⌝ }
+{
     let p = form.parts(table);
     if p.count != 3 {
         return Task::Refuse(11);
@@ -175,70 +214,60 @@ fn definition(s: &[u8], table: &[u32], associations: &[u64; 64], scope: Scope, f
         return Task::Refuse(11);
     }
     let word = forms::word_at(s, table, p.third);
-    let key = table::key(s, table, p.second);
-    match word {
-        Word::Rest => Task::Refuse(11),
-        Word::Subst => defining(
-            associations,
-            scope,
-            key,
-            Task::Function {
-                key: key + entries::FUNCTION,
-                code: p.third as u32,
-            },
-        ),
-        _ => defining(
-            associations,
-            scope,
-            key,
-            make(form.starting_at(p.third), Making::Define { key }),
-        ),
+    if is_rest(word) {
+        return Task::Refuse(11);
     }
-}
-
-// What defines a key, if that is allowed.
-fn defining(associations: &[u64; 64], scope: Scope, key: u32, task: Task) -> Task {
-    if namespaces::undefinable(associations, scope, key / 256) {
+    let key = table::key(s, table, p.second);
+    if namespaces::undefinable(associations, here.scope, key / 256) {
         return Task::Refuse(14);
     }
-    if 256 <= scope.defined {
+    if 256 <= here.scope.defined {
         return Task::Refuse(19);
     }
-    task
+    if is_subst(word) {
+        return Task::Function {
+            key: key + entries::FUNCTION,
+            code: p.third as u32,
+        };
+    }
+    make(form.starting_at(p.third), Making::Define { key })
 }
 
-fn define(s: &[u8], table: &[u32], associations: &[u64; 64], here: Here, form: Form) -> Task {
+fn define(s: &[u8], table: &[u32], associations: &[u64; 64], here: Here, form: Form) -> Task
+    requires { ⌜ ((definitions : List ℕ) × (args : List ℕ) × Planning (now s) (now table) args (view (now associations) definitions (here .scope)) here (Branch form)) ⌝ }
+    ensures { λ r. ⌜ ((definitions args : List ℕ)
+        → AnswersForm (now (s .entry)) (now (table .entry)) args (view (now (associations .entry)) definitions (here .scope)) here form (λ es h. plan-define (h .within) es h) r) ⌝ }
+{
     let within = here.within;
     match within {
         Within::Inner => Task::Refuse(13),
-        _ => definition(s, table, associations, here.scope, form),
+        _ => definition(s, table, associations, here, form),
     }
 }
 
-// Whether the expression at a row is a form headed by `rest`.
-fn is_rest(s: &[u8], table: &[u32], row: usize) -> bool {
-    match forms::word_at(s, table, row) {
-        Word::Rest => true,
-        _ => false,
-    }
-}
-
-fn concat(s: &[u8], table: &[u32], form: Form) -> Task {
+fn concat(s: &[u8], table: &[u32], form: Form) -> Task
+    requires { ⌜ SomeNodes (now s) (now table) form ⌝ }
+    ensures { λ r. ⌜ ((args : List ℕ) (v : View) (here : Here) → AnswersForm (now (s .entry)) (now (table .entry)) args v here form (λ es h. plan-concat es) r) ⌝ }
+{
     let p = form.parts(table);
     if p.count != 3 {
         return Task::Refuse(11);
     }
-    if is_rest(s, table, p.second) {
+    if is_rest(forms::word_at(s, table, p.second)) {
         return Task::Refuse(11);
     }
-    if is_rest(s, table, p.third) {
+    if is_rest(forms::word_at(s, table, p.third)) {
         return Task::Refuse(11);
     }
     make(form.starting_at(p.second), Making::Concat)
 }
 
 // The n of an arg or a rest form, or 64 if the form is not a head and a small integer.
-fn number(s: &[u8], table: &[u32], form: Form) -> usize {
+fn number(s: &[u8], table: &[u32], form: Form) -> usize
+    requires { ⌜ SomeNodes (now s) (now table) form ⌝ }
+    ensures { λ r. ⌜ ((es : Nodes) (rule : ℕ → Plan) → NodesAt (now (s .entry)) (now (table .entry)) (form .first) (form .end) es
+        → expect-one es (λ a. expect-int a rule) ≡ (if leb 64 r then refuse 11 else rule r)) ⌝ }
+{
     let p = form.parts(table);
     if p.count != 2 {
         return 64;
@@ -250,7 +279,10 @@ fn number(s: &[u8], table: &[u32], form: Form) -> usize {
 }
 
 // An arg form, or a rest form, with this n.
-fn arguments(args: &[u32; 64], frame: Frame, n: usize, rest: bool) -> Task {
+fn arguments(args: &[u32; 64], frame: Frame, n: usize, rest: bool) -> Task
+    ensures { λ r. ⌜ ((s t w : List ℕ) (floor top : ℕ) (v : View) (sc : Scope) (e : Expression) (xs : Arguments) → ArgumentsOf w (now (args .entry)) frame top xs
+        → Planned s t w floor v sc e r (if leb 64 n then refuse 11 else passing rest n xs)) ⌝ }
+{
     if 64 <= n {
         return Task::Refuse(11);
     }
@@ -279,31 +311,46 @@ fn arguments(args: &[u32; 64], frame: Frame, n: usize, rest: bool) -> Task {
 }
 
 // The elements of the code of the form at a row: what follows its head.
-fn code_at(table: &[u32], row: usize) -> Form {
+fn code_at(table: &[u32], row: usize) -> Form
+    requires { ⌜ ((s : List ℕ) × (es : Nodes) × CodeAt s (now table) row es) ⌝ }
+    ensures { λ r. ⌜ ((s : List ℕ) (es : Nodes) → CodeAt s (now (table .entry)) row es → NodesAt s (now (table .entry)) (r .first) (r .end) es) ⌝ }
+{
     forms::written(table, row).rest(table)
 }
 
 // A form whose head is a plain reference: a call of a function, or data.
-fn named(s: &[u8], table: &[u32], definitions: &[u64; 256], scope: Scope, form: Form) -> Task {
+fn named(s: &[u8], table: &[u32], definitions: &[u64; 256], here: Here, form: Form) -> Task
+    requires { ⌜ ((associations : List ℕ) × (args : List ℕ) × Planning (now s) (now table) args (view associations (now definitions) (here .scope)) here (Branch form)) ⌝ }
+    requires { ⌜ ((es : Nodes) → NodesAt (now s) (now table) (form .first) (form .end) es → led-by-reference es ≡ true) ⌝ }
+    ensures { λ r. ⌜ ((associations args : List ℕ)
+        → AnswersForm (now (s .entry)) (now (table .entry)) args (view associations (now (definitions .entry)) (here .scope)) here form (λ es h. plan-other es (h .scope)) r) ⌝ }
+{
     let key = table::key(s, table, form.first);
-    match scope.look_up(definitions, key) {
-        Found::Function { code, visible } => {
-            call(form.rest(table), code_at(table, code), scope.up_to(visible))
-        }
+    match here.scope.look_up(definitions, key) {
+        Found::Function { code, visible } => call(
+            form.rest(table),
+            code_at(table, code),
+            here.scope.up_to(visible),
+        ),
         _ => make(form, Making::Form),
     }
 }
 
 // A form whose head is no reference: a call of a `subst` form, or data.
-fn unnamed(s: &[u8], table: &[u32], scope: Scope, form: Form) -> Task {
+fn unnamed(s: &[u8], table: &[u32], scope: Scope, form: Form) -> Task
+    requires { ⌜ SomeNodes (now s) (now table) form ⌝ }
+    requires { ⌜ ((es : Nodes) → NodesAt (now s) (now table) (form .first) (form .end) es → led-by-reference es ≡ false) ⌝ }
+    ensures { λ r. ⌜ ((associations definitions args : List ℕ) (here : Here) → here .scope ≡ scope
+        → AnswersForm (now (s .entry)) (now (table .entry)) args (view associations definitions scope) here form (λ es h. plan-other es (h .scope)) r) ⌝ }
+{
     if form.is_empty() {
         return make(form, Making::Form);
     }
     let first = form.first;
-    match forms::word_at(s, table, first) {
-        Word::Subst => call(form.rest(table), code_at(table, first), scope),
-        _ => make(form, Making::Form),
+    if is_subst(forms::word_at(s, table, first)) {
+        return call(form.rest(table), code_at(table, first), scope);
     }
+    make(form, Making::Form)
 }
 
 fn branch(
@@ -314,7 +361,11 @@ fn branch(
     definitions: &[u64; 256],
     here: Here,
     form: Form,
-) -> Task {
+) -> Task
+    requires { ⌜ Planning (now s) (now table) (now args) (view (now associations) (now definitions) (here .scope)) here (Branch form) ⌝ }
+    ensures { λ r. ⌜ AnswersForm (now (s .entry)) (now (table .entry)) (now (args .entry)) (view (now (associations .entry)) (now (definitions .entry)) (here .scope)) here form
+        (λ es. plan (branch (form .row) es)) r ⌝ }
+{
     match form.word(s, table) {
         Word::Ns => ns(s, table, associations, here, form),
         Word::Define => define(s, table, associations, here, form),
@@ -324,7 +375,7 @@ fn branch(
         Word::Rest => arguments(args, here.frame, number(s, table, form), true),
         Word::Plain => {
             if form.is_named(table) {
-                return named(s, table, definitions, here.scope, form);
+                return named(s, table, definitions, here, form);
             }
             unnamed(s, table, here.scope, form)
         }
@@ -346,7 +397,7 @@ pub fn plan(
         → Answers (now (s .entry)) (now (table .entry)) (now (args .entry)) (view (now (associations .entry)) (now (definitions .entry)) (here .scope)) here e (plan e) r) ⌝ }
 {
     match node {
-        Node::Leaf { row } => leaf(s, table, definitions, here.scope, row),
+        Node::Leaf { row } => leaf(s, table, definitions, here, row),
         Node::Branch(form) => branch(s, table, associations, args, definitions, here, form),
     }
 }
