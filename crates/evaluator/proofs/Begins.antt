@@ -1,210 +1,205 @@
 -- Laws of an expression's step: what it leaves when its values are completed, its evaluation by its plan, and what each task leaves.
 -- Document 01: "Steps", and "In one expression: 16, 13, 12, 11, 14, 15, 19 (for define, before its value), its contents, then 6, 17." Assumes nothing.
 use Prim.Native.Nat.{ℕ, _+_, _-_, _≤_, _<_}
-use mathlib.Core.Path.{_≡_, refl, sym, _∙_}
+use mathlib.Core.Path.{_≡_, refl, sym, _∙_, subst}
 use mathlib.Core.List.{List}
 use lib.ListN.{length, set}
+use lib.Dec.{eqb}
+use borrow.Author.Tests.{eqb-true, eqb-false}
 use native.Mathlib.Omega.{arith}
-use Rattle.spec.specs.Expr.{Atom, array, ref, atom, Exprs, only}
-use Rattle.spec.specs.Nodes.{Node, leaf, branch, Nodes, elements}
+use Rattle.spec.specs.Expr.{if_then_else_, Atom, atom, form, Exprs, none, only}
+use Rattle.spec.specs.Nodes.{Node, leaf, branch, Nodes, unnumbered-all, elements}
 use Rattle.spec.specs.Runs.{step, before, ceased, hold}
-use Rattle.spec.specs.Plan.{function, Here, Plan, refuse, leave, associate, plan}
-use Rattle.spec.specs.Evaluation.{add-namespace, complete, Call, ns-form, perform, eval, eval-all}
+use Rattle.spec.specs.Plan.{Definition, Namespace, Within, Here, Finish, Plan, refuse, leave, associate, define-function, inside, plan}
+use Rattle.spec.specs.Evaluation.{add-namespace, add-definition, complete, Call, perform, eval, eval-all}
+use Rattle.laws.specs.Holding.{skip}
+use Rattle.laws.proofs.Basics.{impossible, by-test}
 use Rattle.laws.proofs.Holding.{hold-give, hold-stop, hold-step, hold-step-none, hold-complete, hold-complete-deep, hold-complete-none}
-use Rattle.laws.proofs.Singles.{plan-counted}
 use Rattle.laws.proofs.Values.{plan-sound}
-use Rattle.rows.specs.Rows.{LeafAt, NodeAt}
-use Rattle.rules.specs.Scope.{function-bit, Entry}
-use Rattle.rules.specs.Associations.{named, Named}
-use Rattle.workspace.specs.Completed.{Fitting, Stand, Incomplete, too-deep, too-long, Completed, stepped}
-use Rattle.rules.specs.Planned.{function-at, Planned, refuses, owns, repeats, associates, defines, goes-inside}
-use Rattle.evaluator.specs.Listed.{LeftDefinition, LeftBy, GoesInside, Begun, Beginning, as-left}
-use Rattle.evaluator.specs.Performed.{one-named, Performing, going}
+use Rattle.rows.specs.Rows.{LeafAt, NodesAt, row-of}
+use Rattle.rows.specs.Forms.{IsNode, is-leaf, is-branch, row-named}
+use Rattle.rows.specs.declared.forms.Form.{Form}
+use Rattle.rows.specs.declared.forms.Node.{Node as Ranged}
+use Rattle.workspace.specs.Completed.{Fitting, Stand, Incomplete, too-deep, too-long, Atoms, Completed, stepped}
 use Rattle.workspace.specs.declared.values.State.{State}
 use Rattle.workspace.specs.declared.values.Out.{Out}
 use Rattle.workspace.specs.declared.values.Out.the-variants.{Done, Refused}
-use Rattle.rules.specs.declared.here.Within.{Stands}
-use Rattle.rules.specs.declared.here.Frame.{Code}
+use Rattle.workspace.proofs.Areas.{stand-none, untouched-none}
+use Rattle.rules.specs.Entries.{definition, association}
+use Rattle.rules.specs.Scope.{View, view}
+use Rattle.rules.specs.Associations.{AssociationAt}
+use Rattle.rules.specs.Settings.{EntryAt, Sees}
+use Rattle.rules.specs.Planned.{Finishes, Planned, refuses, owns, repeats, associates, defines, goes-inside}
+use Rattle.rules.specs.declared.scope.Scope.{Scope}
+use Rattle.rules.specs.declared.here.Here.{Here as Seen}
 use Rattle.rules.specs.declared.plan.After.{After}
-use Rattle.rules.specs.declared.plan.After.the-variants.{Form, Define, Concat, Call as Enters}
 use Rattle.rules.specs.declared.plan.Task.{Task}
 use Rattle.rules.specs.declared.plan.Task.the-variants.{Refuse, Own, Again, Ns, Function, Inside}
-use Rattle.rows.proofs.Nodes.{node-row}
-use Rattle.rules.proofs.Linking.{named-added}
-use Rattle.workspace.proofs.Areas.{untouched-none}
+use Rattle.rules.proofs.Latest.{latest-length, view-added, view-associated}
+use Rattle.rules.proofs.Shown.{function-entry, sees-kept, sees-defined, sees-associated}
+use Rattle.evaluator.specs.Listed.{LeftAt, Extends, LeftBy, GoesInside, Beginning, as-left}
+use Rattle.evaluator.specs.Performed.{Performing}
+use Rattle.evaluator.specs.declared.element.Left.the-variants.{Done as Ended}
 
 -- Values completed
 
 -- `from` is the state before all that the values replace
-pub completed-left : (s t w w′ names′ : List ℕ) (sc : List Entry) (from st : State) (row : ℕ) (vs : Exprs) (h h′ : Here) (out : Out)
-    → from .floor ≡ st .floor → Fitting w st → from .top ≤ st .top → h′ .scope ≡ h .scope → Named s t names′ (h′ .namespaces)
-    → st .names ≡ length (h′ .namespaces) → st .names ≤ 64 → Completed w w′ st (from .top) row vs out
-    → LeftBy s t w w′ names′ sc from h (hold (st .steps) (st .room) (complete row vs h′)) (as-left out)
-completed-left s t w w′ names′ sc from st row vs h h′ (Done st′) floor fits order scope named counted most k =
-    rw (k .state) record {
-      over = record {
-        left = record { values = vs; here = h′ };
-        is = hold-complete (st .steps) (st .room) row vs h′ (k .shallow) (k .charged);
-        stand = k .stand;
-        others = rw floor (k .others);
-        floor = sym floor;
-        paid = omega (arith, fits .paid, k .charged);
-        namespaces = named;
-        counted = counted;
-        most = most;
-      };
-      scope = scope;
-    }
-completed-left s t w w′ names′ sc from st row vs h h′ (Refused number at) floor fits order scope named counted most (is, why) = rw is (go number why)
+pub completed-left : (s t w w′ : List ℕ) (see : Scope → View) (sc sc′ : Scope) (from st : State) (row : ℕ) (vs : Exprs) (h : Here) (out : Out)
+    → from .floor ≡ st .floor → Fitting w st → from .top ≤ st .top → Extends sc sc′ → Sees s t w (st .floor) (see sc′) h
+    → Completed w w′ st (from .top) row vs out → LeftBy s t w w′ see sc from (hold (st .steps) (st .room) (complete row vs h)) (as-left sc′ out)
+completed-left s t w w′ see sc sc′ from st row vs h (Done st′) floor fits order more sees k =
+    rw (k .state) (record {
+      left = record { values = vs; here = h };
+      is = hold-complete (st .steps) (st .room) row vs h (k .shallow) (k .charged);
+      stand = k .stand;
+      others = rw floor (k .others);
+      lower = omega (arith, floor);
+      paid = omega (arith, fits .paid, k .charged);
+      sees = sees-kept sees (k .others);
+    }, more)
+completed-left s t w w′ see sc sc′ from st row vs h (Refused number at) floor fits order more sees (is, why) = rw is (go number why)
   where
-    go : (number : ℕ) → Incomplete st vs number → hold (st .steps) (st .room) (complete row vs h′) ≡ ceased number row
-    go _ (too-deep deep) = hold-complete-deep (st .steps) (st .room) row vs h′ deep
-    go _ (too-long shallow long) = hold-complete-none (st .steps) (st .room) row vs h′ shallow long
+    go : (number : ℕ) → Incomplete st vs number → hold (st .steps) (st .room) (complete row vs h) ≡ ceased number row
+    go _ (too-deep deep) = hold-complete-deep (st .steps) (st .room) row vs h deep
+    go _ (too-long shallow long) = hold-complete-none (st .steps) (st .room) row vs h shallow long
+
+-- nothing more is visible
+pub extends-none : (sc : Scope) → Extends sc sc
+extends-none sc = record { defined = omega arith; associated = omega arith }
 
 -- Evaluation by the plan
 
-module _ (s t : List ℕ) (row : ℕ) (run : Call) (h : Here) where
-  eval-plan : (e : Node) → NodeAt s t row e → eval run e h ≡ before (step row) (perform run row (eval-all run (elements e)) h (plan e h))
+module _ (run : Call) (h : Here) where
+  eval-plan : (e : Node) → eval run e h ≡ before (step (row-of e)) (perform run (row-of e) (eval-all run (elements e)) h (plan e h))
   unfolding eval
-  eval-plan (leaf r a) n = rw (node-row s t row (leaf r a) n)
-  eval-plan (branch r es) n = rw (node-row s t row (branch r es) n)
+  eval-plan (leaf r a) = refl
+  eval-plan (branch r es) = refl
 
-  module _ (e : Node) (n : NodeAt s t row e) (steps w : ℕ) where
+  module _ (e : Node) (steps w : ℕ) where
     -- "16", at its start
-    pub eval-none : steps ≡ 0 → hold steps w (eval run e h) ≡ ceased 16 row
-    eval-none z = rw (eval-plan e n) (hold-step-none steps w row _ z)
+    pub eval-none : steps ≡ 0 → hold steps w (eval run e h) ≡ ceased 16 (row-of e)
+    eval-none z = rw (eval-plan e) (hold-step-none steps w (row-of e) _ z)
 
-    pub eval-step : 0 < steps → hold steps w (eval run e h) ≡ hold (steps - 1) w (perform run row (eval-all run (elements e)) h (plan e h))
-    eval-step l = rw (eval-plan e n) (hold-step steps w row _ l)
+    pub eval-step : 0 < steps → hold steps w (eval run e h) ≡ hold (steps - 1) w (perform run (row-of e) (eval-all run (elements e)) h (plan e h))
+    eval-step l = rw (eval-plan e) (hold-step steps w (row-of e) _ l)
+
+-- Steps
+
+abbrev step-out : State → ℕ → Out
+step-out st row = if eqb (st .steps) 0 then Refused 16 row else Done (stepped st)
+
+pub no-step : (st : State) (row number at : ℕ) → step-out st row ≡ Refused number at → (st .steps ≡ 0) × (number ≡ 16) × (at ≡ row)
+no-step st row number at =
+    by-test (λ (out : Out). out ≡ Refused number at → (st .steps ≡ 0) × (number ≡ 16) × (at ≡ row)) (eqb (st .steps) 0)
+    (λ t q. (eqb-true (st .steps) 0 t, cc, cc)) (λ t q. impossible (cc))
+
+pub one-step : (st : State) (row : ℕ) (st′ : State) → step-out st row ≡ Done st′ → (0 < st .steps) × (st′ ≡ stepped st)
+one-step st row st′ =
+    by-test (λ (out : Out). out ≡ Done st′ → (0 < st .steps) × (st′ ≡ stepped st)) (eqb (st .steps) 0)
+    (λ t q. impossible (cc)) (λ t q. (omega (arith, eqb-false (st .steps) 0 t), cc))
+
+named-row : {s t : List ℕ} {node : Ranged} {e : Node} → IsNode s t node e → row-named node ≡ row-of e
+named-row (is-leaf row a l) = refl
+named-row (is-branch f es nodes) = refl
 
 -- Tasks
 
--- steps and namespaces take no part in it
-fits-with : {w : List ℕ} {st : State} (steps names : ℕ) → Fitting w st
-    → Fitting w (record { steps = steps; room = st .room; top = st .top; floor = st .floor; names = names })
-fits-with steps names f = record { paid = f .paid; below = f .below; short = f .short }
+module _ (s t w : List ℕ) (floor : ℕ) (v : View) (sc : Scope) (e : Node) where
+  -- what a task says of the plan
+  abbrev pub Does : Task → Plan → Type 0
+  Does (Refuse n) q = q ≡ refuse n
+  Does Own q = (a : Atom) × LeafAt s t (row-of e) a × (q ≡ leave (only (atom a)))
+  Does (Again from to) q = (vs : Exprs) × Stand w from to vs × (q ≡ leave vs)
+  Does (Ns f marker id) q =
+      (es : Nodes) × (k : Namespace) × (f .row ≡ row-of e) × NodesAt s t (f .first) (f .end) es × Atoms es × AssociationAt s (association marker id) k
+      × (length (v .associations) < 64) × (q ≡ associate (only (form (unnumbered-all es))) k)
+  Does (Function key code) q =
+      (d : Definition) × EntryAt s t w floor (definition key code) (d .marker) (d .name) (d .content) × (length (v .definitions) < 256) × (q ≡ define-function d)
+  Does (Inside f after) q =
+      (k : ℕ) × (p : Within) × (g : Finish) × NodesAt s t (f .first) (f .end) (skip k (elements e)) × Finishes s t w floor v sc (elements e) after k p g × (q ≡ inside k p g)
 
--- an `ns` form's reference and id
-pub record Associates (s t : List ℕ) (row entry : ℕ) (q : Plan) : Type 0 where
-  pub marker : ℕ
-  pub name : ℕ
-  pub id : List ℕ
-  pub reference : LeafAt s t (row + 2) (ref marker name)
-  pub id-at : LeafAt s t (row + 3) (array id)
-  pub is : entry ≡ named marker (row + 3)
-  pub plan-is : q ≡ associate marker name id
-
--- what each task says of the plan
-module _ {s t w : List ℕ} {floor : ℕ} {sc : List Entry} {row : ℕ} {es : Nodes} where
-  refuse-plan : {n : ℕ} {q : Plan} → Planned s t w floor sc row es (Refuse n) q → q ≡ refuse n
-  refuse-plan (refuses _) = refl
-
-  pub own-leaf : {q : Plan} → Planned s t w floor sc row es Own q → (a : Atom) × LeafAt s t row a × (q ≡ leave (only (atom a)))
-  own-leaf (owns a l) = (a, l, refl)
-
-  pub again-stands : {from to : ℕ} {q : Plan} → Planned s t w floor sc row es (Again from to) q → (vs : Exprs) × Stand w from to vs × (q ≡ leave vs)
-  again-stands (repeats _ _ vs stand) = (vs, stand, refl)
-
-  pub ns-associates : {entry : ℕ} {q : Plan} → Planned s t w floor sc row es (Ns entry) q → Associates s t row entry q
-  ns-associates (associates m n id r a) =
-      record { marker = m; name = n; id = id; reference = r; id-at = a; is = refl; plan-is = refl }
-
-  -- a function's key and its code's row are numbers of 32 bits
-  pub function-small : {key code : ℕ} {q : Plan} → Planned s t w floor sc row es (Function key code) q → (key < function-bit) × (code < 65536)
-  function-small (defines m n _ body fits few c) = (omega (arith, fits .0, fits .1, fits .2), c .form .few)
+  pub does : {task : Task} {q : Plan} → Planned s t w floor v sc e task q → Does task q
+  does (refuses n) = refl
+  does (owns a l) = (a, l, refl)
+  does (repeats from to vs stand) = (vs, stand, refl)
+  does (associates f es marker id k row nodes atoms at few) = (es, k, row, nodes, atoms, at, few, refl)
+  does (defines m n code body fits few c) = (_, function-entry fits code c, few, refl)
+  does (goes-inside f k p g after nodes finishes) = (k, p, g, nodes, finishes, refl)
 
 -- what is left
-module _ {s t w names : List ℕ} {sc : List Entry} {st : State} {row : ℕ} {e : Node} {h : Here} where
-  pub fits-stepped : {task : Task} → Performing s t w names sc st task row e h → Fitting w (stepped st)
-  fits-stepped p = fits-with (st .steps - 1) (st .names) (p .fitting)
+module _ {s t w : List ℕ} {v : View} {sc : Scope} {st : State} {row : ℕ} {e : Node} {h : Here} where
+  pub done-by : {task : Task} → Performing s t w v sc st task row e h → Does s t w (st .floor) v sc e task (plan e h)
+  done-by p = does s t w (st .floor) v sc e (p .planned)
+
+  -- steps take no part in it
+  pub fits-stepped : {task : Task} → Performing s t w v sc st task row e h → Fitting w (stepped st)
+  fits-stepped p = record { paid = p .fitting .paid; below = p .fitting .below; short = p .fitting .short }
 
   module _ (run : Call) where
-    performed : {task : Task} → Performing s t w names sc st task row e h
+    performed : {task : Task} → Performing s t w v sc st task row e h
         → hold (st .steps) (st .room) (eval run e h) ≡ hold (st .steps - 1) (st .room) (perform run row (eval-all run (elements e)) h (plan e h))
-    performed p = eval-step s t row run h e (p .node) (st .steps) (st .room) (p .steps)
+    performed p = rw (p .at) (eval-step run h e (st .steps) (st .room) (p .steps))
 
-    pub refuse-begun : {n : ℕ} → Performing s t w names sc st (Refuse n) row e h → hold (st .steps) (st .room) (eval run e h) ≡ ceased n row
-    refuse-begun {n} p = performed p ∙ rw (refuse-plan (p .planned)) (hold-stop (st .steps - 1) (st .room) n row)
+    pub refuse-begun : {n : ℕ} → Performing s t w v sc st (Refuse n) row e h → hold (st .steps) (st .room) (eval run e h) ≡ ceased n row
+    refuse-begun {n} p = performed p ∙ rw (done-by p) (hold-stop (st .steps - 1) (st .room) n row)
 
-    pub leave-begun : {task : Task} (vs : Exprs) (w′ : List ℕ) (out : Out) → Performing s t w names sc st task row e h → plan e h ≡ leave vs
-        → Completed w w′ (stepped st) (st .top) row vs out → LeftBy s t w w′ names sc st h (hold (st .steps) (st .room) (eval run e h)) (as-left out)
-    leave-begun vs w′ out p is c =
-        rw (performed p, is)
-        (completed-left s t w w′ names sc st (stepped st) row vs h h out refl (fits-stepped p) (omega arith) refl (p .namespaces) (p .counted) (p .most) c)
+    pub inside-begun : {f : Form} {after : After} → Performing s t w v sc st (Inside f after) row e h → GoesInside s t w w v sc st (stepped st) f e h after
+    inside-begun p =
+        let d = done-by p in
+        record { skipped = d .0; within = d .1; finish = d .2; some-steps = p .steps; state = refl; plan-is = d .5; nodes = d .3; finishes = d .4; same = refl }
 
-    pub associate-begun : {entry : ℕ} (w′ : List ℕ) (out : Out) → length names ≡ 64 → Performing s t w names sc st (Ns entry) row e h
-        → (a : Associates s t row entry (plan e h))
-        → Completed w w′ (one-named (stepped st)) (st .top) row (ns-form (a .marker) (a .name) (a .id)) out
-        → LeftBy s t w w′ (set names (st .names) entry) sc st h (hold (st .steps) (st .room) (eval run e h)) (as-left out)
-    associate-begun {entry} w′ out size p a c =
-        let m = a .marker in
-        let id = a .id in
-        let few : st .names < 64 = p .fewer m (a .name) id (a .plan-is) in
-        let more = named-added s t names (h .namespaces) m (row + 3) id (p .namespaces) (omega (arith, p .counted)) (a .id-at) in
-        rw (performed p, a .plan-is)
-        (completed-left s t w w′ (set names (st .names) entry) sc st (one-named (stepped st)) row (ns-form m (a .name) id) h
-        (add-namespace (record { marker = m; id = id }) h) out refl (fits-with (st .steps - 1) (st .names + 1) (p .fitting)) (omega arith) refl
-        (rw (p .counted, a .is) more) (omega (arith, p .counted)) (omega arith) c)
+module _ {s t w : List ℕ} {sc : Scope} {st : State} {row : ℕ} {e : Node} {h : Here} (run : Call) where
+  pub leave-begun : {task : Task} (see : Scope → View) (vs : Exprs) (w′ : List ℕ) (out : Out) → Performing s t w (see sc) sc st task row e h → plan e h ≡ leave vs
+      → Completed w w′ (stepped st) (st .top) row vs out → LeftBy s t w w′ see sc st (hold (st .steps) (st .room) (eval run e h)) (as-left sc out)
+  leave-begun see vs w′ out p is c =
+      rw (performed run p, is)
+      (completed-left s t w w′ see sc sc st (stepped st) row vs h out refl (fits-stepped p) (omega arith) (extends-none sc) (p .sees) c)
 
-    pub function-begun : {key code : ℕ} → Performing s t w names sc st (Function key code) row e h
-        → LeftDefinition s t w w names sc st h (hold (st .steps) (st .room) (eval run e h)) (stepped st) (key + function-bit) code
-    function-begun {key} {code} p = rw (performed p) (go key (plan e h) (p .planned))
-      where
-        go : (key : ℕ) (q : Plan) → Planned s t w (st .floor) sc row (elements e) (Function key code) q
-            → LeftDefinition s t w w names sc st h (hold (st .steps - 1) (st .room) (perform run row (eval-all run (elements e)) h q)) (stepped st)
-            (key + function-bit) code
-        go _ _ (defines m n _ body fits few c) = record {
-          definition = record { marker = m; name = n; content = function body };
+  module _ (associations definitions : List ℕ) where
+    pub associate-begun : {f : Form} {marker id : ℕ} (w′ : List ℕ) (out : Out) → length associations ≡ 64
+        → Performing s t w (view associations definitions sc) sc st (Ns f marker id) row e h
+        → ((es : Nodes) → NodesAt s t (f .first) (f .end) es → Atoms es → Completed w w′ (stepped st) (st .top) (f .row) (only (form (unnumbered-all es))) out)
+        → LeftBy s t w w′ (view (set associations (sc .associated) (association marker id)) definitions) sc st (hold (st .steps) (st .room) (eval run e h))
+        (as-left (record { defined = sc .defined; associated = sc .associated + 1 }) out)
+    associate-begun {f} {marker} {id} w′ out size p done =
+        let d = done-by p in
+        let vs = only (form (unnumbered-all (d .0))) in
+        let here : f .row ≡ row = d .2 ∙ sym (p .at) in
+        let more : Scope = record { defined = sc .defined; associated = sc .associated + 1 } in
+        let few : sc .associated < 64 = omega (arith, latest-length associations (sc .associated), d .6) in
+        rw (performed run p, d .7)
+        (completed-left s t w w′ (view (set associations (sc .associated) (association marker id)) definitions) sc more st (stepped st) row
+        vs (add-namespace (d .1) h) out refl (fits-stepped p) (omega arith) (record { defined = omega arith; associated = omega arith })
+        (rw (view-associated associations definitions sc (association marker id) (omega arith)) (sees-associated (p .sees) (association marker id) (d .1) (d .5) (d .6)))
+        (subst (λ (r : ℕ). Completed w w′ (stepped st) (st .top) r vs out) here (done (d .0) (d .3) (d .4))))
+
+    pub function-begun : {key code : ℕ} → length definitions ≡ 256 → Performing s t w (view associations definitions sc) sc st (Function key code) row e h
+        → LeftBy s t w w (view associations (set definitions (sc .defined) (definition key code))) sc st (hold (st .steps) (st .room) (eval run e h))
+        (Ended (stepped st) (record { defined = sc .defined + 1; associated = sc .associated }))
+    function-begun {key} {code} size p =
+        let d = done-by p in
+        let few : sc .defined < 256 = omega (arith, latest-length definitions (sc .defined), d .2) in
+        rw (performed run p, d .3) (record {
+          left = record { values = none; here = add-definition (d .0) h };
           is = hold-give (st .steps - 1) (st .room) _;
-          entry = function-at fits refl c;
-          few = few;
+          stand = stand-none (st .top) (omega (arith, p .fitting .paid, p .fitting .below));
           others = untouched-none w (st .top) (st .floor);
-          top = refl;
-          floor = omega arith;
+          lower = omega arith;
           paid = p .fitting .paid;
-          namespaces = p .namespaces;
-          counted = refl;
-        }
-
-    inside-goes : {first : ℕ} {after : After} → Performing s t w names sc st (Inside first after) row e h
-        → GoesInside s t w w names names sc st (stepped st) row first e h after
-    inside-goes {first} {after} p = go (plan e h) refl (p .planned)
-      where
-        go : (q : Plan) → plan e h ≡ q → Planned s t w (st .floor) sc row (elements e) (Inside first after) q
-            → GoesInside s t w w names names sc st (stepped st) row first e h after
-        go _ is (goes-inside _ k place f _ nodes finishes) = record {
-          skipped = k;
-          place = place;
-          finish = f;
-          some-steps = p .steps;
-          state = refl;
-          plan-is = is;
-          nodes = nodes;
-          finishes = finishes;
-          same = refl;
-          same-names = refl;
-        }
-
-    pub inside-begun : {first : ℕ} (after : After) → Performing s t w names sc st (Inside first after) row e h
-        → Begun s t w w names names sc st row e h (hold (st .steps) (st .room) (eval run e h)) (going (stepped st) first after)
-    inside-begun Form p = (inside-goes p, tt)
-    inside-begun (Define key) p = (inside-goes p, tt)
-    inside-begun Concat p = (inside-goes p, tt)
-    inside-begun (Enters code visible) p = inside-goes p
+          sees =
+              rw (view-added associations definitions sc (definition key code) (omega arith))
+              (sees-defined (p .sees) (definition key code) (d .0) (d .1) (d .2));
+        }, record { defined = omega arith; associated = omega arith })
 
 -- the step is taken, and the task is planned
-pub begin-performs : {s t w names args : List ℕ} {bound row : ℕ} {sc : List Entry} {st : State} {stands : Stands} {code : Code} {task : Task}
-    {e : Node} {h : Here}
-    → Beginning s t bound w names args sc st stands code row e h → 0 < st .steps
-    → Planned s t w (st .floor) sc row (elements e) task (plan e h) → Performing s t w names sc st task row e h
-begin-performs {bound = bound} {st = st} {e = e} {h = h} b steps p = record {
-  node = b .node;
+pub begin-performs : {s t w args : List ℕ} {bound : ℕ} {v : View} {st : State} {at : Seen} {node : Ranged} {task : Task} {e : Node} {h : Here}
+    → Beginning s t bound w args v st at node e h → 0 < st .steps → Planned s t w (st .floor) v (at .scope) e task (plan e h)
+    → Performing s t w v (at .scope) st task (row-named node) e h
+begin-performs {bound = bound} {e = e} {h = h} b steps p = record {
+  at = named-row (b .is);
   steps = steps;
   planned = p;
+  sees = b .setting .sees;
   fitting = b .fitting;
-  namespaces = b .setting .namespaces;
-  counted = b .setting .counted;
-  most = b .setting .most;
   shallow = λ vs q. rw q at (plan-sound bound e h (b .fit) (b .sound)) .1;
-  fewer = λ m n id q. omega (arith, plan-counted e h m n id q, b .setting .counted);
 }

@@ -5,7 +5,7 @@ use workspace::packed;
 ghost use mathlib.Core.Path.{_≡_};
 ghost use mathlib.Core.List.{List};
 ghost use Prim.Native.Nat.{ℕ, _+_, _≤_, _<_};
-ghost use lib.ListN.{set};
+ghost use lib.ListN.{length, set};
 ghost use lib.Dec.{eqb};
 ghost use Rattle.spec.specs.Expr.{some};
 ghost use Rattle.spec.specs.Plan.{Namespace};
@@ -32,6 +32,14 @@ fn code_row(content: u32) -> usize
     content as usize
 }
 
+// Stores a number in a lent array.
+fn put(numbers: &mut [u64], n: usize, number: u64)
+    requires { ⌜ n < length (now numbers) ⌝ }
+    ensures { λ _. ⌜ now (numbers .exit) ≡ set (now (numbers .entry)) n number ⌝ }
+{
+    numbers[n] = number;
+}
+
 impl Scope {
     pub fn new() -> Self
         ensures { λ r. ⌜ r ≡ record { defined = 0; associated = 0 } ⌝ }
@@ -46,10 +54,10 @@ impl Scope {
     pub fn add(self, definitions: &mut [u64; 256], key: u32, content: u32) -> Self
         requires { ⌜ self .defined < 256 ⌝ }
         ensures { λ r. ⌜ (now (definitions .exit) ≡ set (now (definitions .entry)) (self .defined) (definition key content))
-            × (r ≡ record { defined = self .defined + 1; associated = self .associated }) ⌝ }
+            × (r ≡ record { defined = self .defined + 1; associated = self .associated }) × (length (now (definitions .entry)) ≡ 256) ⌝ }
     {
         let n = self.defined;
-        definitions[n] = entries::definition(key, content);
+        put(definitions, n, entries::definition(key, content));
         Self {
             defined: n + 1,
             associated: self.associated,
@@ -60,10 +68,10 @@ impl Scope {
     pub fn associate(self, associations: &mut [u64; 64], marker: u32, id: u32) -> Self
         requires { ⌜ self .associated < 64 ⌝ }
         ensures { λ r. ⌜ (now (associations .exit) ≡ set (now (associations .entry)) (self .associated) (association marker id))
-            × (r ≡ record { defined = self .defined; associated = self .associated + 1 }) ⌝ }
+            × (r ≡ record { defined = self .defined; associated = self .associated + 1 }) × (length (now (associations .entry)) ≡ 64) ⌝ }
     {
         let n = self.associated;
-        associations[n] = entries::association(marker, id);
+        put(associations, n, entries::association(marker, id));
         Self {
             defined: self.defined,
             associated: n + 1,

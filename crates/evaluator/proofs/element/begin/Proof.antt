@@ -1,33 +1,58 @@
--- `evaluator::element::begin` meets its contract: no step, or the task that is planned. Assumes nothing.
-use borrow.Author.Needs.{needs}
-use mathlib.Core.Path.{refl}
-use native.Mathlib.Omega.{arith}
-use Rattle.rules.specs.Scope.{entries}
-use Rattle.evaluator.proofs.Begins.{eval-none, begin-performs}
 use Rattle.evaluator.proofs.element.begin.Statement.{statement}
 use Rattle.evaluator.proofs.element.begin.Tie as tie
+use Rattle.evaluator.proofs.element.begin.Reads as reads
+use Rattle.evaluator.proofs.element.begin.Lts as lts
+use Rattle.evaluator.proofs.element.perform.Reads as perform-reads
+use Rattle.rows.proofs.forms.Node.row.Reads as row-reads
+use Rattle.rules.proofs.plan.plan.Reads as plan-reads
+use Rattle.workspace.proofs.values.State.step.Reads as step-reads
 
-returns : tie.Need-returns
-returns c bound run e h b =
-    let x = c .before .before .before .before .args in
-    eval-none (x .s .now) (x .table .now) (x .row) run h e (b .node) (x .state .steps) (x .state .room) (c .if1 .taken)
+-- src/element.rt:117:9
+row-requires : tie.Need-row-requires
+row-requires c κs = ?
 
+-- src/element.rt:118:11
+step-requires : tie.Need-step-requires
+step-requires c κs = ?
+
+-- src/element.rt:119:22
+enum-known-number : tie.Need-enum-known-number
+enum-known-number c = ?
+
+-- src/element.rt:120:19
+enum-known-stepped : tie.Need-enum-known-stepped
+enum-known-stepped c = ?
+
+-- src/element.rt:121:17
+plan-requires : tie.Need-plan-requires
+plan-requires c κs = ?
+
+-- src/element.rt:122:13
 perform-requires : tie.Need-perform-requires
-perform-requires c κs =
-    let k = c .before .before .before .before in
-    let x = k .before .before .before .before .args in
-    let b = k .before .before .before .before .pre .begins in
-    let planned = c .before .before .plan .ensures (x .w .now) (x .state .floor) (x .state .top) _ _ (b .node) (b .setting) in
-    (entries (x .keys .now) (x .places .now) (x .scope), x .state, _, _, refl, begin-performs b (omega (arith, k .if1 .left)) planned)
+perform-requires c κs = ?
 
+-- src/element.rt:99:1
+returns : tie.Need-returns
+returns c = ?
+
+-- src/element.rt:99:1
+same-length : tie.Need-same-length
+same-length c = ?
+
+-- src/element.rt:99:1
 returns-2 : tie.Need-returns-2
-returns-2 c bound run e h b =
-    let p = c .before .before .before .before .before in
-    let k = p .before .before in
-    let x = k .before .before .before .before .args in
-    let planned = p .plan .ensures (x .w .now) (x .state .floor) (x .state .top) e h (b .node) (b .setting) in
-    c .before .before .perform .ensures (entries (x .keys .now) (x .places .now) (x .scope)) (x .state) run e h refl (begin-performs b (omega (arith, k .if1 .left)) planned)
+returns-2 c = ?
 
 pub begin-spec : {M : Type 1} → statement M
 begin-spec =
-    tie.close (tie.spec returns (λ c. search needs) (λ c κs. search needs) perform-requires (λ c. search needs) returns-2)
+    tie.close
+    (tie.spec
+    row-requires
+    step-requires
+    enum-known-number
+    enum-known-stepped
+    plan-requires
+    perform-requires
+    returns
+    same-length
+    returns-2)
