@@ -25,8 +25,9 @@ use Rattle.rules.specs.Settings.{in-code-of, in-code, of-other}
 use Rattle.rules.specs.declared.scope.Scope.{Scope}
 use Rattle.rules.specs.declared.here.Here.{Here as Seen}
 use Rattle.rules.specs.declared.plan.Callee.{Callee}
+use Rattle.rules.proofs.Shown.{sees-kept}
 use Rattle.evaluator.specs.Listed.{Ready, Over, LeftBy, as-left, Ran, Calling}
-use Rattle.evaluator.proofs.Begins.{sees-kept, completed-left}
+use Rattle.evaluator.proofs.Begins.{completed-left, extends-none}
 use Rattle.evaluator.proofs.Insides.{left-from}
 
 -- what a code associates and defines is not visible behind its call
@@ -126,5 +127,5 @@ module _ {s t : List ℕ} {bound codes : ℕ} {w : List ℕ} {v : View} {st : St
             let us : Exprs = o .left .values in
             left-from s t w w₁ w₂ see (at .scope) (with-top st (st .room) start) st₁ (as-left (at .scope) out)
             (untouched-less start (st .floor) (k .stand .order) (omega arith) (o .others)) (o .floor) (call-held-is ∙ rw (o .is))
-            (completed-left s t w₁ w₂ see (at .scope) (with-top st₁ (st₁ .room) start) st₁ row (if one-value body then us else only (form us)) h out
-            refl (ran .fitting) (omega (arith, k .stand .order, o .stand .order)) (rw (same, o .floor) (sees-kept (o .others) (k .sees))) done)
+            (completed-left s t w₁ w₂ see (at .scope) (at .scope) (with-top st₁ (st₁ .room) start) st₁ row (if one-value body then us else only (form us)) h out
+            refl (ran .fitting) (omega (arith, k .stand .order, o .stand .order)) (extends-none (at .scope)) (rw (same, o .floor) (sees-kept (k .sees) (o .others))) done)

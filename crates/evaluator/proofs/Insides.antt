@@ -24,12 +24,12 @@ use Rattle.rules.specs.Planned.{one-more, two-more, within-of, Finishes, form-f
 use Rattle.rules.specs.declared.scope.Scope.{Scope}
 use Rattle.rules.specs.declared.here.Here.{Here as Seen}
 use Rattle.rules.specs.declared.plan.After.{After}
-use Rattle.rules.proofs.Shown.{shows-kept}
+use Rattle.rules.proofs.Shown.{shows-kept, sees-kept}
 use Rattle.evaluator.specs.Listed.{Ready, SomeReady, Over, Met, LeftBy, GoesInside, by-form, by-define, by-concat, Finishable, Finishing, Ending, ends-made, ends-called, CanEnd, EndedBy}
 use Rattle.evaluator.specs.declared.element.Left.{Left as Answer}
 use Rattle.evaluator.specs.declared.element.Left.the-variants.{Done as Ended, Refused as Stopped}
 use Rattle.evaluator.specs.declared.run.Open.{Open}
-use Rattle.evaluator.proofs.Begins.{sees-kept, eval-step}
+use Rattle.evaluator.proofs.Begins.{eval-step}
 use Rattle.evaluator.proofs.Turns.{sees-in, Going, going-more, held-next, going-fits, row-next}
 
 fits-skip : (bound k : ℕ) (es : Nodes) → FitsNodes bound es → FitsNodes bound (skip k es)
@@ -146,7 +146,7 @@ module _ {s t : List ℕ} {bound codes : ℕ} {args : List ℕ} {end : ℕ} {w�
           }
 
       ending : Ending s t bound codes w₁ v st₁ at (st .top) (g .here) (o .left .values) after (i .finish)
-      ending = go (i .finishes) (i .plan-is) finishing (rw floor-inside (sees-kept others-inside (g .ready .setting .sees)))
+      ending = go (i .finishes) (i .plan-is) finishing (rw floor-inside (sees-kept (g .ready .setting .sees) others-inside))
         where
           go : {x : After} {k : ℕ} {p : Within} {y : Finish} → Finishes s t w (st .floor) v (at .scope) (elements head) x k p y → plan head (g .here) ≡ inside k p y
               → Finishing w₁ st₁ (st .top) y (o .left .values) → Sees s t w₁ (st₁ .floor) v (g .here)
