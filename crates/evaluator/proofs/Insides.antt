@@ -22,6 +22,7 @@ use Rattle.rules.specs.Scope.{View}
 use Rattle.rules.specs.Settings.{in-list-of, Sees, ElementOf, of-data, of-other}
 use Rattle.rules.specs.Planned.{one-more, two-more, within-of, Finishes, form-finishes, define-finishes, concat-finishes, call-finishes}
 use Rattle.rules.specs.declared.scope.Scope.{Scope}
+use Rattle.rules.specs.declared.here.Within.{Within as Kind}
 use Rattle.rules.specs.declared.here.Here.{Here as Seen}
 use Rattle.rules.specs.declared.plan.After.{After}
 use Rattle.rules.proofs.Shown.{shows-kept, sees-kept}
@@ -173,13 +174,13 @@ module _ {s t : List ℕ} {bound codes : ℕ} {args : List ℕ} {end : ℕ} {w�
                 entered = g .ready .entered;
               })
 
-    -- the nodes inside are evaluated there, where v′ is visible
-    module _ {v′ : View} {there : Seen} (same : v′ ≡ v) (e : there ≡ in-list-of (within-of after) at) where
-      inside-ready : Ready s t bound codes w′ args v′ st′ there (f .first) (f .end) inner-nodes inner-here
+    -- the nodes inside are evaluated there; `see` is what a scope shows
+    module _ {kind : Kind} {there : Seen} (see : Scope → View) (same : see (at .scope) ≡ v) (e : kind ≡ within-of after) (e′ : there ≡ in-list-of kind at) where
+      inside-ready : Ready s t bound codes w′ args (see (there .scope)) st′ there (f .first) (f .end) inner-nodes inner-here
       inside-ready =
           let r = g .ready in
           let set = r .setting in
-          rw (same, e, i .same, i .state) (record {
+          rw (e′, same, e, i .same, i .state) (record {
             nodes = i .nodes;
             setting = record { sees = sees-in (i .within) (set .sees); arguments = set .arguments; element-of = inside-element (f .first) (i .finishes) };
             fitting = record { paid = r .fitting .paid; below = r .fitting .below; short = r .fitting .short };
@@ -189,16 +190,20 @@ module _ {s t : List ℕ} {bound codes : ℕ} {args : List ℕ} {end : ℕ} {w�
             entered = r .entered;
           })
 
-      pub inside-some : SomeReady s t w′ args v′ st′ there (f .first) (f .end)
+      pub inside-some : SomeReady s t w′ args (see (there .scope)) st′ there (f .first) (f .end)
       inside-some = record { bound = bound; codes = codes; nodes = inner-nodes; here = inner-here; ready = inside-ready }
 
+      -- what was visible stays
+      pub inside-kept : (see₁ : Scope → View) → see₁ (there .scope) ≡ see (there .scope) → see₁ (at .scope) ≡ v
+      inside-kept see₁ kept = (rw e′ at kept) ∙ same
+
       -- where they were evaluated
-      module _ (w₁ : List ℕ) (out : Answer) (answered : Answered s t w′ args v′ st′ there (f .first) (f .end) w₁ out) where
+      module _ (w₁ : List ℕ) (out : Answer) (answered : Answered s t w′ args (see (there .scope)) st′ there (f .first) (f .end) w₁ out) where
         abbrev InsideMet : Answer → Type 0
         InsideMet x = Met w w₁ (at .scope) st′ inner-held x
 
         met : InsideMet out
-        met = rw (e, i .same) at (answered bound codes inner-nodes inner-here inside-ready)
+        met = rw (e′, i .same) at (answered bound codes inner-nodes inner-here inside-ready)
 
         pub inside-steps : steps-of out < st₀ .steps
         inside-steps = go out met
@@ -207,10 +212,9 @@ module _ {s t : List ℕ} {bound codes : ℕ} {args : List ℕ} {end : ℕ} {w�
             go (Ended st₁ sc) (o, back) = omega (arith, inside-fewer, hold-reached (st′ .steps) (st′ .room) _ (o .left) (st₁ .steps) (st₁ .room) (o .is) .1)
             go (Stopped n r) h = omega (arith, inside-fewer)
 
-        -- what is visible stays
-        module _ (few : length (v .definitions) ≡ at .scope .defined) {v₁ : View} (kept : v₁ ≡ v) where
-          pub inside-can-end : CanEnd s t w₁ v₁ at (opened after) out
-          inside-can-end = rw kept (go out met)
+        module _ (few : length (v .definitions) ≡ at .scope .defined) (see₁ : Scope → View) (kept : see₁ (there .scope) ≡ see (there .scope)) where
+          pub inside-can-end : CanEnd s t w₁ (see₁ (at .scope)) at (opened after) out
+          inside-can-end = rw (inside-kept see₁ kept) (go out met)
             where
               go : (x : Answer) → InsideMet x → CanEnd s t w₁ v at (opened after) x
               go (Ended st₁ sc) (o, back) = (
@@ -219,12 +223,12 @@ module _ {s t : List ℕ} {bound codes : ℕ} {args : List ℕ} {end : ℕ} {w�
               )
               go (Stopped n r) h = tt
 
-          pub inside-ends : (w₂ : List ℕ) (see : Scope → View) (left : Answer) → EndedBy s t w₁ w₂ v₁ see at (opened after) left out
-              → LeftBy s t w w₂ see (at .scope) st (held-next g on) left
-          inside-ends w₂ see left ended = go out met (rw kept at ended)
+          pub inside-ends : (w₂ : List ℕ) (see₂ : Scope → View) (left : Answer) → EndedBy s t w₁ w₂ (see₁ (at .scope)) see₂ at (opened after) left out
+              → LeftBy s t w w₂ see₂ (at .scope) st (held-next g on) left
+          inside-ends w₂ see₂ left ended = go out met (rw (inside-kept see₁ kept) at ended)
             where
-              go : (x : Answer) → InsideMet x → EndedBy s t w₁ w₂ v see at (opened after) left x → LeftBy s t w w₂ see (at .scope) st (held-next g on) left
+              go : (x : Answer) → InsideMet x → EndedBy s t w₁ w₂ v see₂ at (opened after) left x → LeftBy s t w w₂ see₂ (at .scope) st (held-next g on) left
               go (Ended st₁ sc) (o, back) l =
-                  left-from s t w w₁ w₂ see (at .scope) st st₁ left (others-inside few o) (floor-inside few o) (held-is ∙ rw (o .is))
+                  left-from s t w w₁ w₂ see₂ (at .scope) st st₁ left (others-inside few o) (floor-inside few o) (held-is ∙ rw (o .is))
                   (l bound codes (g .here) (o .left .values) (i .finish) (ending few o))
               go (Stopped n r) h l = rw l (held-is ∙ rw h)
