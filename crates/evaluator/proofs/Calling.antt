@@ -50,7 +50,7 @@ module _ {s t : List ℕ} {bound codes : ℕ} {w : List ℕ} {v : View} {st : St
   part-size = omega (arith, ap length part-is ∙ stand-size (k .stand), k .stand .order)
 
   -- where the code is run
-  abbrev in-body : Here
+  abbrev pub in-body : Here
   in-body = record { within = inner; scope = behind; namespaces = h .namespaces; arguments = passed vs }
 
   -- what the call at a row answers
@@ -67,13 +67,14 @@ module _ {s t : List ℕ} {bound codes : ℕ} {w : List ℕ} {v : View} {st : St
   module _ (some : at .frame .depth < 32) where
     pub call-ready : (args : List ℕ) (count : ℕ) → ((u : List ℕ) (us : Exprs) → slice start (start + length part) u ≡ part → part ≡ canonical us → FitsAll us → deepest us ≤ 64
         → (count ≡ size us) × ArgumentsAt u args 0 start (start + length part) us)
-        → {v′ : View} → v′ .definitions ≡ drop (at .scope .defined - c .scope .defined) (v .definitions) → v′ .associations ≡ v .associations
-        → Ready s t bound (codes - 1) w args v′ st (in-code-of (c .scope) count (st .top) at) (c .body .first) (c .body .end) body in-body
-    call-ready args count spread fewer same =
+        → {there : Seen} → there ≡ in-code-of (c .scope) count (st .top) at → (see : Scope → View)
+        → see (c .scope) .definitions ≡ drop (at .scope .defined - c .scope .defined) (v .definitions) → see (c .scope) .associations ≡ v .associations
+        → Ready s t bound (codes - 1) w args (see (there .scope)) st there (c .body .first) (c .body .end) body in-body
+    call-ready args count spread e see fewer same =
         let f = k .fitting in
         let stand : slice start (start + length part) w ≡ part = ap (λ (n : ℕ). slice start n w) part-size ∙ slice-take start (st .top) w in
         let given = rw part-size at (spread w vs stand part-is (k .sound .0) (k .sound .1)) in
-        record {
+        rw e (record {
           nodes = k .called .at;
           setting = record {
             sees = record {
@@ -90,7 +91,7 @@ module _ {s t : List ℕ} {bound codes : ℕ} {w : List ℕ} {v : View} {st : St
           sound = (k .scope-sound, k .sound);
           single = k .single;
           entered = omega (arith, k .entered);
-        }
+        })
 
     -- what the code answers
     abbrev pub body-held : Held Left

@@ -8,7 +8,7 @@ use lib.ListN.{length}
 use Rattle.spec.specs.Expr.{Exprs}
 use Rattle.spec.specs.Nodes.{Node, Nodes, empty, cons, elements}
 use Rattle.spec.specs.Runs.{done, Held, hold}
-use Rattle.spec.specs.Plan.{Within, Here, Finish, inside, plan}
+use Rattle.spec.specs.Plan.{Scope as Definitions, Within, Here, Finish, as-call, inside, plan}
 use Rattle.spec.specs.Evaluation.{Left, entering, finish, run-code}
 use Rattle.laws.specs.Holding.{and-hold, NotTop, in-list, skip}
 use Rattle.laws.proofs.Singles.{SingleScope, call-single, in-list-single, in-list-pair}
@@ -19,14 +19,17 @@ use Rattle.workspace.specs.Completed.{Untouched, with-top}
 use Rattle.workspace.specs.declared.values.State.{State}
 use Rattle.workspace.proofs.Areas.{untouched-then}
 use Rattle.rules.specs.Scope.{View}
-use Rattle.rules.specs.Settings.{in-list-of, Sees, ElementOf, of-data, of-other}
+use Rattle.rules.specs.Settings.{in-list-of, showing, Sees, ElementOf, of-data, of-other}
 use Rattle.rules.specs.Planned.{one-more, two-more, within-of, Finishes, form-finishes, define-finishes, concat-finishes, call-finishes}
 use Rattle.rules.specs.declared.scope.Scope.{Scope}
 use Rattle.rules.specs.declared.here.Within.{Within as Kind}
 use Rattle.rules.specs.declared.here.Here.{Here as Seen}
+use Rattle.rules.specs.declared.plan.Making.{Making}
+use Rattle.rules.specs.declared.plan.Callee.{Callee}
 use Rattle.rules.specs.declared.plan.After.{After}
+use Rattle.rules.specs.declared.plan.After.the-variants.{Make, Call}
 use Rattle.rules.proofs.Shown.{shows-kept, sees-kept}
-use Rattle.evaluator.specs.Listed.{Ready, SomeReady, Over, Met, LeftBy, GoesInside, by-form, by-define, by-concat, Finishable, Finishing, Ending, ends-made, ends-called, CanEnd, EndedBy}
+use Rattle.evaluator.specs.Listed.{Ready, SomeReady, Over, Met, LeftBy, GoesInside, FinishedBy, by-form, by-define, by-concat, Finishable, Finishing, SomeFinishing, Calling, SomeCalling, Ending, ends-made, ends-called, SomeEnding, CanEnd, EndedBy}
 use Rattle.evaluator.specs.declared.element.Left.{Left as Answer}
 use Rattle.evaluator.specs.declared.element.Left.the-variants.{Done as Ended, Refused as Stopped}
 use Rattle.evaluator.specs.declared.run.Open.{Open}
@@ -67,6 +70,61 @@ finishable codes h left (call-finishes c body behind called) single e = tt
 abbrev pub steps-of : Answer → ℕ
 steps-of (Ended st sc) = st .steps
 steps-of (Stopped n r) = 0
+
+-- A form whose elements were evaluated
+
+module _ {s t : List ℕ} {bound codes : ℕ} {w : List ℕ} {v : View} {st : State} {at : Seen} {start : ℕ} {h : Here} {vs : Exprs} where
+  ends-in-making : (m : Making) {f : Finish} → Ending s t bound codes w v st at start h vs (Make m) f
+      → FinishedBy (at .scope) m f × Finishing w st start f vs × Sees s t w (st .floor) v h
+  ends-in-making _ (ends-made m f by ready sees) = (by, ready, sees)
+
+  ends-in-call : (c : Callee) {f : Finish} → Ending s t bound codes w v st at start h vs (Call c) f
+      → (body : Nodes) × (behind : Definitions) × (f ≡ as-call body behind) × Calling s t bound codes w v st at c start body behind h vs
+  ends-in-call _ (ends-called c body behind calls) = (body, behind, refl, calls)
+
+-- its values are to be finished; `see` is what a scope shows
+module _ {s t w : List ℕ} (see : Scope → View) {st : State} {at : Seen} {opened : Open} {sc : Scope} (ended : SomeEnding s t w (see (at .scope)) st at opened × (sc ≡ at .scope)) where
+  -- what is visible then is what was
+  pub ended-view : (see′ : Scope → View) → see′ sc ≡ see sc → see′ (at .scope) ≡ see (at .scope)
+  ended-view see′ kept = rw (ended .1) at kept
+
+  module _ {m : Making} (e : opened .after ≡ Make m) where
+    pub can-make : SomeFinishing w sc st m (opened .start)
+    can-make =
+        let made = ends-in-making m (rw e at (ended .0 .ends)) in
+        record { finish = ended .0 .finish; values = ended .0 .values; by = rw (ended .1) (made .0); finishing = made .1 }
+
+    pub making-ends : (w′ : List ℕ) (see′ : Scope → View) (left : Answer) {out : Answer} → out ≡ Ended st sc → ((codes : ℕ) (h : Here) (f : Finish) (vs : Exprs)
+        → FinishedBy sc m f → Finishing w st (opened .start) f vs → Sees s t w (st .floor) (see sc) h
+        → LeftBy s t w w′ see′ sc (with-top st (st .room) (opened .start)) (hold (st .steps) (st .room) (finish (run-code codes) (opened .row) h f vs)) left)
+        → EndedBy s t w w′ (see (at .scope)) see′ at opened left out
+    making-ends w′ see′ left told makes = rw told λ bound codes h vs f ends.
+        let made = ends-in-making m (rw e at ends) in
+        rw (ended .1) at (makes codes h f vs (rw (ended .1) (made .0)) (made .1) (rw (ended .1) (made .2)))
+
+  module _ {c : Callee} (e : opened .after ≡ Call c) {at′ : Seen} (e′ : at′ ≡ showing sc at) where
+    same-here : at′ ≡ at
+    same-here = e′ ∙ ap (λ (x : Scope). showing x at) (ended .1)
+
+    pub can-call : SomeCalling s t w (see (at′ .scope)) st at′ c (opened .start)
+    can-call =
+        let x = ended .0 in
+        let called = ends-in-call c (rw e at (x .ends)) in
+        rw same-here (record { bound = x .bound; codes = x .codes; body = called .0; behind = called .1; here = x .here; values = x .values; calls = called .3 })
+
+    pub call-ends : (w′ : List ℕ) (see′ : Scope → View) (left : Answer) {out : Answer} → out ≡ Ended st sc → ((bound codes : ℕ) (body : Nodes) (behind : Definitions) (h : Here) (vs : Exprs)
+        → Calling s t bound codes w (see (at′ .scope)) st at′ c (opened .start) body behind h vs
+        → LeftBy s t w w′ see′ (at′ .scope) (with-top st (st .room) (opened .start))
+        (hold (st .steps) (st .room) (finish (run-code codes) (opened .row) h (as-call body behind) vs)) left)
+        → EndedBy s t w w′ (see (at .scope)) see′ at opened left out
+    call-ends w′ see′ left told runs = rw told λ bound codes h vs f ends.
+        let called = ends-in-call c (rw e at ends) in
+        rw (called .2) (rw same-here at (runs bound codes (called .0) (called .1) h vs (rw same-here (called .3))))
+
+    pub call-view : (see′ : Scope → View) → see′ (at′ .scope) ≡ see (at′ .scope) → see′ (at .scope) ≡ see (at .scope)
+    call-view see′ kept = rw same-here at kept
+
+-- What is inside
 
 -- what is known of nodes that were evaluated, whichever they are
 abbrev pub Answered : List ℕ → List ℕ → List ℕ → List ℕ → View → State → Seen → ℕ → ℕ → List ℕ → Answer → Type 0

@@ -9,20 +9,24 @@ use lib.ListN.{length}
 use borrow.Author.Needs.{needs}
 use borrow.Fn.Kinds.{In}
 use borrow.Fn.PlainCycle.{Measures, is, falls, and}
+use Rattle.spec.specs.Expr.{Exprs}
+use Rattle.spec.specs.Nodes.{Nodes}
+use Rattle.spec.specs.Plan.{Scope as Definitions, Here}
 use Rattle.spec.specs.Evaluation.{run-code}
 use Rattle.rows.proofs.Nodes.{node-whole}
-use Rattle.rules.specs.Scope.{View, view}
+use Rattle.rules.specs.Scope.{latest, View, view}
 use Rattle.rules.specs.declared.scope.Scope.{Scope}
 use Rattle.rules.specs.declared.here.Here.{Here as Seen}
 use Rattle.workspace.specs.declared.values.State.{State}
-use Rattle.rules.proofs.Latest.{latest-length, view-under}
-use Rattle.evaluator.specs.Listed.{SomeReady, LeftBy, Extends, Begun}
+use Rattle.rules.proofs.Latest.{latest-length, latest-fewer, view-under}
+use Rattle.evaluator.specs.Listed.{Ready, SomeReady, Met, LeftBy, Extends, Begun, Calling, CanEnd}
 use Rattle.evaluator.specs.declared.element.Left.{Left as Answer}
+use Rattle.evaluator.specs.declared.element.Left.the-variants.{Done as Ended}
 use Rattle.evaluator.specs.declared.element.Step.{Step}
 use Rattle.evaluator.proofs.Begins.{extends-none}
 use Rattle.evaluator.proofs.Turns.{held-list, Going, going-start, going-over, going-more, held-next, going-begins, going-ceased, going-on}
-use Rattle.evaluator.proofs.Insides.{steps-of, inside-some, inside-fewer, inside-steps, inside-kept, inside-can-end, inside-ends}
-use Rattle.evaluator.proofs.Calling.{call-kept, part-is, part-size, call-refused, call-ready, call-stopped, ran, call-returns as returns}
+use Rattle.evaluator.proofs.Insides.{steps-of, ended-view, can-make, making-ends, can-call, call-ends, call-view, inside-some, inside-fewer, inside-steps, inside-kept, inside-can-end, inside-ends}
+use Rattle.evaluator.proofs.Calling.{call-kept, part-is, part-size, in-body, call-refused, call-ready, body-held, call-stopped, ran, call-returns as returns}
 use Rattle.evaluator.proofs.run.call.Reads as call
 use Rattle.evaluator.proofs.run.call.Kinds as call-kinds
 use Rattle.evaluator.proofs.run.+call+finish+list.Lts-call as call-lts
@@ -104,86 +108,146 @@ module _ (t : ℕ) where
   abbrev list-calls : list-lts.Claims
   list-calls = (at-reads.Asked, at-reads.Learnt, begin-reads.Asked, begin-reads.Learnt, within-reads.Asked, within-reads.Learnt, entering-reads.Asked, entering-reads.Learnt, list-below t, list.Post, finish-below t, finish.Post, showing-reads.Asked, showing-reads.Learnt, next-reads.Asked, next-reads.Learnt, down-to-reads.Asked, down-to-reads.Learnt, back-to-reads.Asked, back-to-reads.Learnt)
 
+  -- Calls
+
   call-returns : call-lts.Need-returns call-calls (call-at t) call.Post
-  call-returns c = search needs
-
-  call-sub-spread : call-lts.Need-sub-spread call-calls (call-at t) call.Post
-  call-sub-spread c = search needs
-
-  call-part-spread-start : call-lts.Need-part-spread-start call-calls (call-at t) call.Post
-  call-part-spread-start c = search needs
-
-  call-part-spread-end : call-lts.Need-part-spread-end call-calls (call-at t) call.Post
-  call-part-spread-end c = search needs
+  call-returns c = (λ bound codes body behind h vs z. call-refused z _ (c .if1 .taken), refl)
 
   call-spread-requires : call-lts.Need-spread-requires call-calls (call-at t) call.Post
-  call-spread-requires c κs = search needs
+  call-spread-requires c κs =
+      let y = c .before .before .before .before .before .before .before .before .before .pre .1 in
+      let z = y .calls in
+      (omega (arith, part-size z, z .stand .inside, z .fitting .short), (y .values, part-is z, z .sound .0, z .sound .1))
 
-  call-called-requires : call-lts.Need-called-requires call-calls (call-at t) call.Post
-  call-called-requires c κs = search needs
+  -- where the code is run
+  module _ (c : call-lts.After-called call-calls (call-at t) call.Post) where
+    abbrev first : call-lts.Start call-calls (call-at t) call.Post
+    first = c .before .before .before .before .before .before .before .before .before .before .before
+
+    abbrev lent : Scope → View
+    lent = view (first .args .associations .now) (first .args .definitions .now)
+
+    few-codes : first .args .here .frame .depth < 32
+    few-codes = c .before .before .before .before .before .before .if1 .left
+
+    module _ {bound codes : ℕ} {body : Nodes} {behind : Definitions} {h : Here} {vs : Exprs}
+        (z : Calling (first .args .s .now) (first .args .table .now) bound codes (first .args .w .now) (lent (first .args .here .scope)) (first .args .state)
+        (first .args .here) (first .args .callee) (first .args .opened .start) body behind h vs) where
+      ready : Ready (first .args .s .now) (first .args .table .now) bound (codes - 1) (first .args .w .now) (c .before .spread .last .1 .1 .0) (lent (c .called .result .scope))
+          (first .args .state) (c .called .result) (first .args .callee .body .first) (first .args .callee .body .end) body (in-body z)
+      ready =
+          call-ready z few-codes _ _ (c .before .spread .ensures) (c .called .ensures) lent (latest-fewer _ _ _ (z .called .fewer)) (ap (latest _) (z .called .same))
 
   call-list-requires : call-lts.Need-list-requires call-calls (call-at t) call.Post
-  call-list-requires c κs = search needs
+  call-list-requires c κs =
+      let n = c .before .before .before .before .before in
+      let y = first n .pre .1 in
+      (omega (arith, first n .pre .0), record { bound = y .bound; codes = y .codes - 1; nodes = _; here = _; ready = ready n (y .calls) })
 
-  call-enum-known-number : call-lts.Need-enum-known-number call-calls (call-at t) call.Post
-  call-enum-known-number c = search needs
+  -- it was run
+  module _ (c : call-lts.After-list call-calls (call-at t) call.Post) where
+    abbrev entered : call-lts.After-called call-calls (call-at t) call.Post
+    entered = c .before .before .before .before .before .before
 
-  call-enum-known-ran : call-lts.Need-enum-known-ran call-calls (call-at t) call.Post
-  call-enum-known-ran c = search needs
+    abbrev inside-scope : Scope
+    inside-scope = entered .called .result .scope
+
+    kept-call : view (c .list .last .1 .1 .1 .0) (first entered .args .definitions .now) (first entered .args .here .scope) ≡ lent entered (first entered .args .here .scope)
+    kept-call =
+        let a = first entered .args in
+        call-kept _ _ _ _ (a .here .scope) (a .callee .scope) (first entered .pre .1 .calls .called .same) (rw (entered .called .ensures) at (c .list .ensures .1))
+
+    module _ {bound codes : ℕ} {body : Nodes} {behind : Definitions} {h : Here} {vs : Exprs}
+        (z : Calling (first entered .args .s .now) (first entered .args .table .now) bound codes (first entered .args .w .now) (lent entered (first entered .args .here .scope))
+        (first entered .args .state) (first entered .args .here) (first entered .args .callee) (first entered .args .opened .start) body behind h vs) where
+      met : (out : Answer) → c .list .result ≡ out
+          → Met (first entered .args .w .now) (c .list .last .1 .1 .0) inside-scope (first entered .args .state) (body-held z (few-codes entered)) out
+      met out e =
+          subst (λ (x : Answer). Met (first entered .args .w .now) (c .list .last .1 .1 .0) inside-scope (first entered .args .state) (body-held z (few-codes entered)) x) e
+          (c .list .ensures .0 _ _ _ _ (ready entered z))
 
   call-returned-requires : call-lts.Need-returned-requires call-calls (call-at t) call.Post
-  call-returned-requires c κs = search needs
-
-  call-leaves-requires : call-lts.Need-leaves-requires call-calls (call-at t) call.Post
-  call-leaves-requires c κs = search needs
-
-  call-same-length : call-lts.Need-same-length call-calls (call-at t) call.Post
-  call-same-length c = search needs
+  call-returned-requires c κs =
+      let l = c .before .before .before .before .before .before in
+      let y = first (entered l) .pre .1 in
+      let o = met l (y .calls) _ (c .before .before .ran .given .1) .0 in
+      (record { nodes = y .body; at = y .calls .called .at }, (_, ran (y .calls) (few-codes (entered l)) (first (entered l) .args .opened .row) o))
 
   call-returns-2 : call-lts.Need-returns-2 call-calls (call-at t) call.Post
-  call-returns-2 c = search needs
-
-  call-same-length-2 : call-lts.Need-same-length-2 call-calls (call-at t) call.Post
-  call-same-length-2 c = search needs
+  call-returns-2 c =
+      let l = c .before .before .before .before .before in (
+        λ bound codes body behind h vs z. call-stopped z (few-codes (entered l)) _ _ _ (met l z _ (c .before .number .given .1)),
+        kept-call l,
+      )
 
   call-returns-3 : call-lts.Need-returns-3 call-calls (call-at t) call.Post
-  call-returns-3 c = search needs
+  call-returns-3 c =
+      let r = c .before .before .before in
+      let l = r .before .before .before .before .before .before .before in
+      let x = entered l in (
+        λ bound codes body behind h vs z.
+            let o = met l z _ (r .before .before .before .ran .given .1) .0 in
+            rw (c .leaves .ensures) (returns z (few-codes x) (first x .args .opened .row) o (r .returned .last .1 .1 .0)
+            (view (l .list .last .1 .1 .1 .0) (first x .args .definitions .now)) (r .returned .result) (kept-call l)
+            (r .returned .ensures _ _ (ran z (few-codes x) (first x .args .opened .row) o) (z .called .at))),
+        kept-call l,
+      )
 
-  finish-enum-known-ended : finish-lts.Need-enum-known-ended finish-calls (finish-at t) finish.Post
-  finish-enum-known-ended c = search needs
-
-  finish-enum-known-ended-2 : finish-lts.Need-enum-known-ended-2 finish-calls (finish-at t) finish.Post
-  finish-enum-known-ended-2 c = search needs
-
-  finish-enum-known-after : finish-lts.Need-enum-known-after finish-calls (finish-at t) finish.Post
-  finish-enum-known-after c = search needs
-
-  finish-finish-requires : finish-lts.Need-finish-requires finish-calls (finish-at t) finish.Post
-  finish-finish-requires c κs = search needs
-
-  finish-enum-known-after-2 : finish-lts.Need-enum-known-after-2 finish-calls (finish-at t) finish.Post
-  finish-enum-known-after-2 c = search needs
-
-  finish-showing-requires : finish-lts.Need-showing-requires finish-calls (finish-at t) finish.Post
-  finish-showing-requires c κs = search needs
-
-  finish-call-requires : finish-lts.Need-call-requires finish-calls (finish-at t) finish.Post
-  finish-call-requires c κs = search needs
+  -- Finishing
 
   finish-returns : finish-lts.Need-returns finish-calls (finish-at t) finish.Post
-  finish-returns c = search needs
+  finish-returns c = (rw (c .before .ended .given .1) refl, refl)
 
-  finish-same-length : finish-lts.Need-same-length finish-calls (finish-at t) finish.Post
-  finish-same-length c = search needs
+  -- the elements were evaluated
+  module _ (c : finish-lts.After-known-told2 finish-calls (finish-at t) finish.Post) where
+    abbrev opening : finish-lts.Start finish-calls (finish-at t) finish.Post
+    opening = c .before .before .before .before .before .before
+
+    abbrev visible : Scope → View
+    visible = view (opening .args .associations .now) (opening .args .definitions .now)
+
+    told : opening .args .ended ≡ Ended (c .before .ended2 .given .0 .0) (c .before .ended2 .given .0 .1 .0)
+    told = c .before .ended2 .given .1
+
+    abbrev Can : Answer → Type 0
+    Can out = CanEnd (opening .args .s .now) (opening .args .table .now) (opening .args .w .now) (visible (opening .args .here .scope)) (opening .args .here) (opening .args .opened) out
+
+    can-end : Can (Ended (c .before .ended2 .given .0 .0) (c .before .ended2 .given .0 .1 .0))
+    can-end = subst Can told (opening .pre .1)
+
+  finish-finish-requires : finish-lts.Need-finish-requires finish-calls (finish-at t) finish.Post
+  finish-finish-requires c κs =
+      let k = c .before .before .before .before .before in
+      can-make (visible k) (can-end k) (c .before .before .before .after .given .1)
 
   finish-returns-2 : finish-lts.Need-returns-2 finish-calls (finish-at t) finish.Post
-  finish-returns-2 c = search needs
+  finish-returns-2 c =
+      let f = c .before .before .finish in
+      let k = c .before .before .before .before .before .before .before .before in
+      let after = c .before .before .before .before .before .before .after .given .1 in
+      let see : Scope → View = view (opening k .args .associations .now) (f .last .1 .0) in (
+        making-ends (visible k) (can-end k) after (f .last .0) see (f .result) (told k) (λ codes. f .ensures .0 _ _ _ (run-code codes)),
+        ended-view (visible k) (can-end k) see (f .ensures .1 _),
+      )
 
-  finish-same-length-2 : finish-lts.Need-same-length-2 finish-calls (finish-at t) finish.Post
-  finish-same-length-2 c = search needs
+  finish-call-requires : finish-lts.Need-call-requires finish-calls (finish-at t) finish.Post
+  finish-call-requires c κs =
+      let n = c .before .before .before in
+      let k = n .before .before .before .before in (
+        omega (arith, ap steps-of (told k), opening k .pre .0),
+        can-call (visible k) (can-end k) (n .before .before .after2 .given .1) (n .showing .ensures),
+      )
 
   finish-returns-3 : finish-lts.Need-returns-3 finish-calls (finish-at t) finish.Post
-  finish-returns-3 c = search needs
+  finish-returns-3 c =
+      let f = c .before .before .call in
+      let n = c .before .before .before .before .before .before in
+      let k = n .before .before .before .before in
+      let after = n .before .before .after2 .given .1 in
+      let see : Scope → View = view (f .last .1 .1 .1 .0) (opening k .args .definitions .now) in (
+        call-ends (visible k) (can-end k) after (n .showing .ensures) (f .last .1 .1 .0) see (f .result) (told k) (f .ensures .0),
+        call-view (visible k) (can-end k) after (n .showing .ensures) see (f .ensures .1),
+      )
 
   -- Lists
 
@@ -369,35 +433,5 @@ module _ (t : ℕ) where
         l .inv .kept,
       )
 
-  list-enum-known-done : list-lts.Need-enum-known-done list-calls (list-at t) list.Post list-Inv-loop list-μ-loop
-  list-enum-known-done c = search needs
-
-  list-enum-known-inner : list-lts.Need-enum-known-inner list-calls (list-at t) list.Post list-Inv-loop list-μ-loop
-  list-enum-known-inner c = search needs
-
-  list-within-requires : list-lts.Need-within-requires list-calls (list-at t) list.Post list-Inv-loop list-μ-loop
-  list-within-requires c κs = search needs
-
-  list-entering-requires : list-lts.Need-entering-requires list-calls (list-at t) list.Post list-Inv-loop list-μ-loop
-  list-entering-requires c κs = search needs
-
-  list-enum-known-left : list-lts.Need-enum-known-left list-calls (list-at t) list.Post list-Inv-loop list-μ-loop
-  list-enum-known-left c = search needs
-
-  list-enum-known-left-2 : list-lts.Need-enum-known-left-2 list-calls (list-at t) list.Post list-Inv-loop list-μ-loop
-  list-enum-known-left-2 c = search needs
-
-  list-showing-requires : list-lts.Need-showing-requires list-calls (list-at t) list.Post list-Inv-loop list-μ-loop
-  list-showing-requires c κs = search needs
-
-  list-down-to-requires : list-lts.Need-down-to-requires list-calls (list-at t) list.Post list-Inv-loop list-μ-loop
-  list-down-to-requires c κs = search needs
-
-  list-back-to-requires : list-lts.Need-back-to-requires list-calls (list-at t) list.Post list-Inv-loop list-μ-loop
-  list-back-to-requires c κs = search needs
-
-  list-same-length-2 : list-lts.Need-same-length-2 list-calls (list-at t) list.Post list-Inv-loop list-μ-loop
-  list-same-length-2 c = search needs
-
 pub +call+finish+list-spec : {M : Type 1} → statement M
-+call+finish+list-spec = close μ-call μ-finish μ-list (λ t. call-lts.spec (call-calls t) (call-at t) call.Post (call-returns t) (call-sub-spread t) (call-part-spread-start t) (call-part-spread-end t) (call-spread-requires t) (call-called-requires t) (call-list-requires t) (call-enum-known-number t) (call-enum-known-ran t) (call-returned-requires t) (call-leaves-requires t) (call-same-length t) (call-returns-2 t) (call-same-length-2 t) (call-returns-3 t)) (λ t. finish-lts.spec (finish-calls t) (finish-at t) finish.Post (finish-enum-known-ended t) (finish-enum-known-ended-2 t) (finish-enum-known-after t) (finish-finish-requires t) (finish-enum-known-after-2 t) (finish-showing-requires t) (finish-call-requires t) (finish-returns t) (finish-same-length t) (finish-returns-2 t) (finish-same-length-2 t) (finish-returns-3 t)) (λ t. list-lts.spec (list-calls t) (list-at t) list.Post list-Inv-loop list-μ-loop (list-loop-holds t) (list-at-requires t) (list-begin-requires t) (list-enum-known-done t) (list-enum-known-inner t) (list-within-requires t) (list-entering-requires t) (list-list-requires t) (list-finish-requires t) (list-enum-known-left t) (list-same-length t) (list-returns t) (list-enum-known-left-2 t) (list-showing-requires t) (list-next-requires t) (list-loop-less t) (list-loop-again t) (list-down-to-requires t) (list-back-to-requires t) (list-same-length-2 t) (list-returns-2 t))
++call+finish+list-spec = close μ-call μ-finish μ-list (λ t. call-lts.spec (call-calls t) (call-at t) call.Post (call-returns t) (λ c. search needs) (λ c. search needs) (λ c. search needs) (call-spread-requires t) (λ c κs. search needs) (call-list-requires t) (λ c. search needs) (λ c. search needs) (call-returned-requires t) (λ c κs. search needs) (λ c. search needs) (call-returns-2 t) (λ c. search needs) (call-returns-3 t)) (λ t. finish-lts.spec (finish-calls t) (finish-at t) finish.Post (λ c. search needs) (λ c. search needs) (λ c. search needs) (finish-finish-requires t) (λ c. search needs) (λ c κs. search needs) (finish-call-requires t) (finish-returns t) (λ c. search needs) (finish-returns-2 t) (λ c. search needs) (finish-returns-3 t)) (λ t. list-lts.spec (list-calls t) (list-at t) list.Post list-Inv-loop list-μ-loop (list-loop-holds t) (list-at-requires t) (list-begin-requires t) (λ c. search needs) (λ c. search needs) (λ c κs. search needs) (λ c κs. search needs) (list-list-requires t) (list-finish-requires t) (λ c. search needs) (list-same-length t) (list-returns t) (λ c. search needs) (λ c κs. search needs) (list-next-requires t) (list-loop-less t) (list-loop-again t) (λ c κs. search needs) (λ c κs. search needs) (λ c. search needs) (list-returns-2 t))
