@@ -3,7 +3,7 @@
 use Prim.Native.Nat.{ℕ, _+_, _/_, _≤_, _<_}
 use mathlib.Core.Path.{_≡_, refl, sym, ap, _∙_, subst}
 use mathlib.Core.List.{List, [], _∷_, _++_}
-use mathlib.Core.Bool.{Bool, true, false, _||_}
+use mathlib.Core.Bool.{Bool, true, false, _||_, or-false, or-assoc}
 use native.Mathlib.Omega.{arith}
 use lib.Dec.{eqb}
 use borrow.Author.Tests.{eqb-true, eqb-false, eq-eqb, ne-eqb}
@@ -24,19 +24,11 @@ eqb-sym a b = go (eqb a b) refl
     go true e = sym (eq-eqb b a (sym (eqb-true a b e)))
     go false e = sym (ne-eqb b a (λ h. eqb-false a b e (sym h)))
 
-or-assoc : (a b c : Bool) → a || (b || c) ≡ (a || b) || c
-or-assoc true b c = refl
-or-assoc false b c = refl
-
 -- whether one of two lists passes a test
 pub some-append : (test : ℕ → Bool) (x y : List ℕ) → some test (x ++ y) ≡ some test x || some test y
 unfolding some
 some-append test [] y = refl
-some-append test (a ∷ x) y = ap (λ (b : Bool). test a || b) (some-append test x y) ∙ or-assoc (test a) (some test x) (some test y)
-
-or-false : (c : Bool) → c || false ≡ c
-or-false true = refl
-or-false false = refl
+some-append test (a ∷ x) y = ap (λ (b : Bool). test a || b) (some-append test x y) ∙ sym (or-assoc (test a) (some test x) (some test y))
 
 -- One row
 
@@ -127,7 +119,7 @@ module _ {marker : ℕ} {s t : List ℕ} where
     ahead-nodes r mid end (cons e es) all n l =
         let behind = ahead-nodes (next t r) mid end es all (n .3) l in
         let both = ahead-node r end e (some (eqb marker) (markers-all es) || all) (n .2) behind in
-        rw (some-append (eqb marker) (markers e) (markers-all es), ← or-assoc (some (eqb marker) (markers e)) (some (eqb marker) (markers-all es)) all) both
+        rw (some-append (eqb marker) (markers e) (markers-all es), or-assoc (some (eqb marker) (markers e)) (some (eqb marker) (markers-all es)) all) both
 
   pub ahead-all : {r end : ℕ} (es : Nodes) → NodesAt s t r end es → Ahead marker s t r end (some (eqb marker) (markers-all es))
   unfolding RowsAt some

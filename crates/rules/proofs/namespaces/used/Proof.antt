@@ -42,7 +42,7 @@ module _ (c : tie.After-size-in Inv-loop μ-loop) where
 
   found : (ks : List Namespace) → let a = start .args in Linked s (latest (a .associations .now) (a .scope .associated)) ks
       → Latest s (a .associations .now) (has (slice (a .from) (a .to) s)) (some (has (slice (a .from) (a .to) s)) ks) (at-loop .loop .i - 1)
-  found ks n = left-latest (at-loop .loop .inv .left ks n) (c .before .before .before .loop-test .taken)
+  found ks n = left-latest (at-loop .loop .inv .left ks n) (omega (arith, c .before .before .before .loop-test .taken))
 
   abbrev from : ℕ
   from = c .before .place-in .result
