@@ -2,3 +2,10 @@ pub mod Latest
 pub mod Linking
 pub mod Borne
 pub mod Shown
+pub mod Expecting
+pub mod Associating
+pub mod Defining
+pub mod Joining
+pub mod Passing
+pub mod Naming
+pub mod Heading

@@ -1,0 +1,118 @@
+-- The rule of ns, by what the code asks: where the form stands, its elements, and what is known. Document 01: "( ns ref id ), top level only:
+-- associates ref's marker with id, an array of 1 to 64 bytes", refusals 13, 11, 14, 19. Assumes nothing.
+use Prim.Native.Nat.{ℕ, _+_, _-_, _≤_}
+use mathlib.Core.Path.{_≡_, refl, _∙_}
+use mathlib.Core.List.{List}
+use mathlib.Core.Bool.{_||_}
+use native.Mathlib.Omega.{arith}
+use lib.ListN.{length}
+use lib.Dec.{ltb, leb, eqb}
+use borrow.Author.Tests.{ltb-false, le-ltb}
+use Rattle.spec.specs.Expr.{if_then_else_, some, array, ref, form, only}
+use Rattle.spec.specs.Nodes.{ns, Node, leaf, branch, Nodes, empty, cons, unnumbered-all, head-word, markers-all}
+use Rattle.spec.specs.Plan.{Within, top, Here, Plan, refuse, associate, clash, plan-ns}
+use Rattle.laws.proofs.Basics.{impossible, by-test, both-false}
+use Rattle.rows.specs.Rows.{cell, LeafAt, NodesAt, parts-of}
+use Rattle.rows.specs.declared.forms.Parts.{Parts}
+use Rattle.rows.proofs.Nodes.{leaf-array}
+use Rattle.rows.proofs.Parts.{two-at, reference-at}
+use Rattle.workspace.specs.Completed.{Atoms}
+use Rattle.rules.specs.Entries.{stream, id, association}
+use Rattle.rules.specs.Associations.{AssociationAt}
+use Rattle.rules.specs.Settings.{ElementOf, of-top, of-data, of-other}
+use Rattle.rules.specs.declared.here.Within.{Within as Listed}
+use Rattle.rules.specs.declared.here.Within.the-variants.{Top}
+use Rattle.rules.proofs.Expecting.{refused-two, refused-ref, refused-array, array-at}
+
+-- Where it stands
+
+-- at the top level, with what stands before its row
+pub record TopAt (s t : List ℕ) (row : ℕ) (q : Within) : Type 0 where
+  pub earlier : List ℕ
+  pub is : q ≡ top earlier
+  pub before : Nodes
+  pub at : NodesAt s t 0 row before
+  pub same-markers : (m : ℕ) → some (eqb m) earlier ≡ some (eqb m) (markers-all before)
+
+module _ {s t : List ℕ} {row : ℕ} where
+  pub top-at : {l : Listed} {q : Within} → ElementOf s t row l q → l ≡ Top → TopAt s t row q
+  top-at (of-top {earlier} es h m) e = record { earlier = earlier; is = refl; before = es; at = h; same-markers = m }
+  top-at of-data e = impossible (cc)
+  top-at of-other e = impossible (cc)
+
+  pub ns-elsewhere : {l : Listed} {q : Within} → ElementOf s t row l q → (l ≡ Top → ⊥) → (es : Nodes) (h : Here) → plan-ns q es h ≡ refuse 13
+  ns-elsewhere (of-top es h m) e fs k = absurd (e refl)
+  ns-elsewhere of-data e fs k = refl
+  ns-elsewhere of-other e fs k = refl
+
+-- Its elements
+
+-- a head, a reference and an array
+pub record NsAt (s t : List ℕ) (p : Parts) (es : Nodes) : Type 0 where
+  pub head : Node
+  pub marker : ℕ
+  pub name : ℕ
+  pub id : List ℕ
+  pub is : es ≡ cons head (cons (leaf (p .second) (ref marker name)) (cons (leaf (p .third) (array id)) empty))
+  pub reference : LeafAt s t (p .second) (ref marker name)
+  pub array-there : LeafAt s t (p .third) (array id)
+
+module _ (s t : List ℕ) (r end : ℕ) (es : Nodes) (p : Parts) (at : NodesAt s t r end es) (is : p ≡ parts-of es) where
+  pub ns-at : p .count ≡ 3 → cell t (p .second) 0 ≡ 4 → cell t (p .third) 0 ≡ 2 → NsAt s t p es
+  ns-at n k l =
+      let g = two-at s t r end es p at is n in
+      let a = reference-at s t (p .second) (g .first) (g .one) k in
+      let b = array-at s t (p .third) (g .second) (g .two) l in
+      record {
+        head = g .head;
+        marker = a .marker;
+        name = a .name;
+        id = b .0;
+        is = cc (g .is, a .is, b .1);
+        reference = a .here;
+        array-there = b .2;
+      }
+
+  -- 11, unless they stand there, and the array has 1 to 64 bytes
+  pub ns-refused : (earlier : List ℕ) (h : Here)
+      → (p .count ≡ 3 → cell t (p .second) 0 ≡ 4 → (bs : List ℕ) → LeafAt s t (p .third) (array bs) → 1 ≤ length bs → length bs ≤ 64 → ⊥)
+      → plan-ns (top earlier) es h ≡ refuse 11
+  ns-refused earlier h right =
+      refused-two s t r end es p at is _ (λ n g. refused-ref s t (p .second) (g .first) _ (g .one) (λ m i k. refused-array s t (p .third) (g .second) _ (g .two) (λ bs l.
+      by-test (λ (x : Plan). x ≡ refuse 11) (ltb (length bs) 1 || ltb 64 (length bs)) (λ q. refl) (λ q.
+      let sizes = both-false (ltb (length bs) 1) (ltb 64 (length bs)) q in
+      absurd (right n (k .row .kind-is) bs l (ltb-false (length bs) 1 (sizes .0)) (ltb-false 64 (length bs) (sizes .1)))))))
+
+-- What is known
+
+module _ {s t : List ℕ} {p : Parts} {es : Nodes} (g : NsAt s t p es) (some-bytes : 1 ≤ length (g .id)) (few-bytes : length (g .id) ≤ 64) where
+  pub ns-rule : (earlier : List ℕ) (h : Here) → plan-ns (top earlier) es h ≡
+      (if clash (g .marker) (g .id) earlier (h .namespaces) then refuse 14 else
+      if leb 64 (length (h .namespaces)) then refuse 19 else
+      associate (only (form (unnumbered-all es))) (record { marker = g .marker; id = g .id }))
+  ns-rule earlier h = rw (g .is, le-ltb (length (g .id)) 1 some-bytes, le-ltb 64 (length (g .id)) few-bytes)
+
+  -- the association, by the array's last bytes
+  pub ns-association : (from : ℕ) → from ≡ cell t (p .third) 2 - length (g .id)
+      → AssociationAt s (association (g .marker) (id stream from (length (g .id)))) (record { marker = g .marker; id = g .id })
+  ns-association from e =
+      let a = leaf-array (g .array-there) in
+      let to : from + length (g .id) ≡ cell t (p .third) 2 = omega (arith, a .1) in
+      record {
+        place = from;
+        is = refl;
+        marker-short = g .reference .spells .1;
+        some-bytes = some-bytes;
+        few-bytes = few-bytes;
+        inside = omega (arith, a .1, g .array-there .row .ends);
+        short = g .array-there .row .short;
+        bytes = rw (to, e) (a .0);
+      }
+
+-- the form stands for itself: it is of atoms
+pub ns-atoms : {s t : List ℕ} {p : Parts} {es : Nodes} (g : NsAt s t p es) → head-word es ≡ ns → Atoms es
+ns-atoms g e = rw (g .is) (go (g .head) _ (rw (g .is) at e) tt)
+  where
+    go : (h : Node) (fs : Nodes) → head-word (cons h fs) ≡ ns → Atoms fs → Atoms (cons h fs)
+    go (leaf q a) fs e rest = rest
+    go (branch q gs) fs e rest = impossible (cc)

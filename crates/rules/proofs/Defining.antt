@@ -1,0 +1,86 @@
+-- The rule of define, by what the code asks: where the form stands, its elements, and what is known. Document 01: "( define ref value )", refusals 13,
+-- 11, 14, 19. Assumes nothing.
+use Prim.Native.Nat.{ℕ, _+_}
+use mathlib.Core.Path.{_≡_, refl, _∙_}
+use mathlib.Core.List.{List}
+use mathlib.Core.Bool.{Bool, true, false}
+use native.Mathlib.Omega.{arith}
+use lib.ListN.{length}
+use lib.Dec.{leb}
+use Rattle.spec.specs.Expr.{if_then_else_, ref}
+use Rattle.spec.specs.Nodes.{subst, rest, Node, leaf, branch, Nodes, empty, cons, elements, tail, headed-by}
+use Rattle.spec.specs.Plan.{function, Within, inner, Here, as-definition, Plan, refuse, define-function, inside, undefinable, plan-definition, plan-define}
+use Rattle.laws.proofs.Basics.{impossible, by-test}
+use Rattle.rows.specs.Rows.{cell, LeafAt, NodeAt, NodesAt, parts-of}
+use Rattle.rows.specs.declared.forms.Parts.{Parts}
+use Rattle.rows.proofs.Nodes.{form-row, form-nodes}
+use Rattle.rows.proofs.Parts.{TwoAt, two-at, reference-at}
+use Rattle.rules.specs.Settings.{CodeAt, ElementOf, of-top, of-data, of-other}
+use Rattle.rules.specs.declared.here.Within.{Within as Listed}
+use Rattle.rules.specs.declared.here.Within.the-variants.{Inner}
+use Rattle.rules.proofs.Expecting.{refused-two, refused-ref}
+
+-- Where it stands
+
+module _ {s t : List ℕ} {row : ℕ} where
+  pub define-elsewhere : {l : Listed} {q : Within} → ElementOf s t row l q → l ≡ Inner → (es : Nodes) (h : Here) → plan-define q es h ≡ refuse 13
+  define-elsewhere (of-top es h m) e fs k = impossible (cc)
+  define-elsewhere of-data e fs k = impossible (cc)
+  define-elsewhere of-other e fs k = refl
+
+  pub define-allowed : {l : Listed} {q : Within} → ElementOf s t row l q → (l ≡ Inner → ⊥) → (es : Nodes) (h : Here) → plan-define q es h ≡ plan-definition es h
+  define-allowed (of-top es h m) e fs k = refl
+  define-allowed of-data e fs k = refl
+  define-allowed of-other e fs k = absurd (e refl)
+
+-- Its elements
+
+-- a head, a reference and a value
+pub record DefineAt (s t : List ℕ) (end : ℕ) (p : Parts) (es : Nodes) : Type 0 where
+  pub head : Node
+  pub marker : ℕ
+  pub name : ℕ
+  pub value : Node
+  pub is : es ≡ cons head (cons (leaf (p .second) (ref marker name)) (cons value empty))
+  pub reference : LeafAt s t (p .second) (ref marker name)
+  pub there : NodeAt s t (p .third) value
+  pub from : NodesAt s t (p .third) end (cons value empty)
+
+module _ (s t : List ℕ) (r end : ℕ) (es : Nodes) (p : Parts) (at : NodesAt s t r end es) (is : p ≡ parts-of es) where
+  pub define-at : p .count ≡ 3 → cell t (p .second) 0 ≡ 4 → DefineAt s t end p es
+  define-at n k =
+      let g = two-at s t r end es p at is n in
+      let a = reference-at s t (p .second) (g .first) (g .one) k in
+      record {
+        head = g .head;
+        marker = a .marker;
+        name = a .name;
+        value = g .second;
+        is = cc (g .is, a .is);
+        reference = a .here;
+        there = g .two;
+        from = g .from-two;
+      }
+
+  -- 11, unless they stand there, and the value is no `rest` form
+  pub define-refused : (h : Here) → (p .count ≡ 3 → cell t (p .second) 0 ≡ 4 → (v : Node) → NodeAt s t (p .third) v → headed-by rest v ≡ false → ⊥)
+      → plan-definition es h ≡ refuse 11
+  define-refused h right =
+      refused-two s t r end es p at is _ (λ n g. refused-ref s t (p .second) (g .first) _ (g .one) (λ m i k.
+      by-test (λ (x : Plan). x ≡ refuse 11) (headed-by rest (g .second)) (λ q. refl) (λ q. absurd (right n (k .row .kind-is) (g .second) (g .two) q))))
+
+-- What is known
+
+pub define-rule : {s t : List ℕ} {end : ℕ} {p : Parts} {es : Nodes} (g : DefineAt s t end p es) → headed-by rest (g .value) ≡ false → (h : Here)
+    → plan-definition es h ≡
+    (if undefinable (g .marker) (h .namespaces) then refuse 14 else
+    if leb 256 (length (h .scope)) then refuse 19 else
+    if headed-by subst (g .value) then define-function (record { marker = g .marker; name = g .name; content = function (tail (elements (g .value))) }) else
+    inside 2 inner (as-definition (g .marker) (g .name)))
+define-rule g no-rest h = rw (g .is, no-rest)
+
+-- a form headed by `subst` is code
+pub code-headed : (s t : List ℕ) (r : ℕ) (e : Node) → NodeAt s t r e → headed-by subst e ≡ true → CodeAt s t r (tail (elements e))
+code-headed s t r (leaf q a) h e = impossible (cc)
+code-headed s t r (branch q empty) h e = impossible (cc)
+code-headed s t r (branch q (cons x es)) h e = record { form = form-row s t r q (cons x es) h; head = x; elements = form-nodes s t r q (cons x es) h }

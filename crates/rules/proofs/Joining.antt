@@ -1,0 +1,27 @@
+-- The rule of concat, by what the code asks of its elements. Document 01: "( concat a b )", refusal 11: "a `rest` form is a wrong kind for [..]
+-- concat's operand". Assumes nothing.
+use Prim.Native.Nat.{ℕ}
+use mathlib.Core.Path.{_≡_, refl}
+use mathlib.Core.List.{List}
+use mathlib.Core.Bool.{false, _||_}
+use Rattle.spec.specs.Nodes.{rest, Node, Nodes, headed-by}
+use Rattle.spec.specs.Plan.{inner, as-concat, Plan, refuse, inside, plan-concat}
+use Rattle.laws.proofs.Basics.{by-test, both-false}
+use Rattle.rows.specs.Rows.{NodeAt, NodesAt, parts-of}
+use Rattle.rows.specs.declared.forms.Parts.{Parts}
+use Rattle.rows.proofs.Parts.{TwoAt}
+use Rattle.rules.proofs.Expecting.{refused-two}
+
+-- 11, unless there are two operands, and neither is a `rest` form
+pub concat-refused : (s t : List ℕ) (r end : ℕ) (es : Nodes) (p : Parts) → NodesAt s t r end es → p ≡ parts-of es
+    → (p .count ≡ 3 → (a b : Node) → NodeAt s t (p .second) a → NodeAt s t (p .third) b → headed-by rest a ≡ false → headed-by rest b ≡ false → ⊥)
+    → plan-concat es ≡ refuse 11
+concat-refused s t r end es p at is right =
+    refused-two s t r end es p at is _ (λ n g.
+    by-test (λ (x : Plan). x ≡ refuse 11) (headed-by rest (g .first) || headed-by rest (g .second)) (λ q. refl) (λ q.
+    let none = both-false (headed-by rest (g .first)) (headed-by rest (g .second)) q in
+    absurd (right n (g .first) (g .second) (g .one) (g .two) (none .0) (none .1))))
+
+pub concat-rule : {s t : List ℕ} {r end : ℕ} {p : Parts} {es : Nodes} (g : TwoAt s t r end p es) → headed-by rest (g .first) ≡ false
+    → headed-by rest (g .second) ≡ false → plan-concat es ≡ inside 1 inner as-concat
+concat-rule g first second = rw (g .is, first, second)
