@@ -11,7 +11,7 @@ use Rattle.spec.specs.Expr.{if_then_else_, Atom, atom, form, Exprs, none, only}
 use Rattle.spec.specs.Nodes.{Node, leaf, branch, Nodes, unnumbered-all, elements}
 use Rattle.spec.specs.Runs.{step, before, ceased, hold}
 use Rattle.spec.specs.Plan.{Definition, Namespace, Within, Here, Finish, Plan, refuse, leave, associate, define-function, inside, plan}
-use Rattle.spec.specs.Evaluation.{add-namespace, add-definition, complete, Call, perform, eval, eval-all}
+use Rattle.spec.specs.Evaluation.{add-namespace, add-definition, defining, complete, Call, perform, eval, eval-all}
 use Rattle.laws.specs.Holding.{skip}
 use Rattle.laws.proofs.Basics.{impossible, by-test}
 use Rattle.laws.proofs.Holding.{hold-give, hold-stop, hold-step, hold-step-none, hold-complete, hold-complete-deep, hold-complete-none}
@@ -20,13 +20,13 @@ use Rattle.rows.specs.Rows.{LeafAt, NodesAt, row-of}
 use Rattle.rows.specs.Forms.{IsNode, is-leaf, is-branch, row-named}
 use Rattle.rows.specs.declared.forms.Form.{Form}
 use Rattle.rows.specs.declared.forms.Node.{Node as Ranged}
-use Rattle.workspace.specs.Completed.{Fitting, Stand, Incomplete, too-deep, too-long, Atoms, Completed, stepped}
+use Rattle.workspace.specs.Completed.{Fitting, Stand, Incomplete, too-deep, too-long, stepped, Untouched, Atoms, Completed}
 use Rattle.workspace.specs.declared.values.State.{State}
 use Rattle.workspace.specs.declared.values.Out.{Out}
 use Rattle.workspace.specs.declared.values.Out.the-variants.{Done, Refused}
 use Rattle.workspace.proofs.Areas.{stand-none, untouched-none}
 use Rattle.rules.specs.Entries.{definition, association}
-use Rattle.rules.specs.Scope.{View, view}
+use Rattle.rules.specs.Scope.{latest, View, view}
 use Rattle.rules.specs.Associations.{AssociationAt}
 use Rattle.rules.specs.Settings.{EntryAt, Sees}
 use Rattle.rules.specs.Planned.{Finishes, Planned, refuses, owns, repeats, associates, defines, goes-inside}
@@ -36,8 +36,8 @@ use Rattle.rules.specs.declared.plan.After.{After}
 use Rattle.rules.specs.declared.plan.Task.{Task}
 use Rattle.rules.specs.declared.plan.Task.the-variants.{Refuse, Own, Again, Ns, Function, Inside}
 use Rattle.rules.proofs.Latest.{latest-length, view-added, view-associated}
-use Rattle.rules.proofs.Shown.{function-entry, sees-kept, sees-defined, sees-associated}
-use Rattle.evaluator.specs.Listed.{LeftAt, Extends, LeftBy, GoesInside, Beginning, as-left}
+use Rattle.rules.proofs.Shown.{function-entry, sees-kept, sees-lower, sees-defined, sees-associated}
+use Rattle.evaluator.specs.Listed.{Extends, LeftBy, GoesInside, Beginning, as-left}
 use Rattle.evaluator.specs.Performed.{Performing}
 use Rattle.evaluator.specs.declared.element.Left.the-variants.{Done as Ended}
 
@@ -48,15 +48,18 @@ pub completed-left : (s t w w′ : List ℕ) (see : Scope → View) (sc sc′ : 
     → from .floor ≡ st .floor → Fitting w st → from .top ≤ st .top → Extends sc sc′ → Sees s t w (st .floor) (see sc′) h
     → Completed w w′ st (from .top) row vs out → LeftBy s t w w′ see sc from (hold (st .steps) (st .room) (complete row vs h)) (as-left sc′ out)
 completed-left s t w w′ see sc sc′ from st row vs h (Done st′) floor fits order more sees k =
-    rw (k .state) (record {
-      left = record { values = vs; here = h };
-      is = hold-complete (st .steps) (st .room) row vs h (k .shallow) (k .charged);
-      stand = k .stand;
-      others = rw floor (k .others);
-      lower = omega (arith, floor);
-      paid = omega (arith, fits .paid, k .charged);
-      sees = sees-kept sees (k .others);
-    }, more)
+    rw (k .state) (
+      record {
+        left = record { values = vs; here = h };
+        is = hold-complete (st .steps) (st .room) row vs h (k .shallow) (k .charged);
+        stand = k .stand;
+        others = rw floor (k .others);
+        lower = omega (arith, floor);
+        paid = omega (arith, fits .paid, k .charged);
+        sees = sees-kept sees (k .others);
+      },
+      more,
+    )
 completed-left s t w w′ see sc sc′ from st row vs h (Refused number at) floor fits order more sees (is, why) = rw is (go number why)
   where
     go : (number : ℕ) → Incomplete st vs number → hold (st .steps) (st .room) (complete row vs h) ≡ ceased number row
@@ -66,6 +69,30 @@ completed-left s t w w′ see sc sc′ from st row vs h (Refused number at) floo
 -- nothing more is visible
 pub extends-none : (sc : Scope) → Extends sc sc
 extends-none sc = record { defined = omega arith; associated = omega arith }
+
+-- Nothing but a definition left
+
+module _ (s t w w′ associations definitions : List ℕ) (size : length definitions ≡ 256) (sc : Scope) (from st : State) (x : ℕ) (d : Definition) (h : Here) where
+  pub defined-left : (steps room : ℕ) → st .steps ≡ steps → st .room ≡ room → from .top ≤ length w′ → Untouched w w′ (from .top) (from .floor)
+      → st .top ≡ from .top → st .floor ≤ from .floor → st .top + st .room ≤ st .floor
+      → EntryAt s t w′ (st .floor) x (d .marker) (d .name) (d .content) → length (latest definitions (sc .defined)) < 256
+      → Sees s t w (from .floor) (view associations definitions sc) h
+      → LeftBy s t w w′ (view associations (set definitions (sc .defined) x)) sc from (hold steps room (defining d h))
+      (Ended st (record { defined = sc .defined + 1; associated = sc .associated }))
+  defined-left steps room q q′ ends others top lower paid entry few sees = (
+    record {
+      left = record { values = none; here = add-definition d h };
+      is = rw (q, q′) (hold-give steps room _);
+      stand = rw top (stand-none (from .top) ends);
+      others = others;
+      lower = lower;
+      paid = paid;
+      sees =
+          rw (view-added associations definitions sc x (omega (arith, latest-length definitions (sc .defined))))
+          (sees-defined (sees-lower (sees-kept sees others) (st .floor) lower) x d entry few);
+    },
+    record { defined = omega arith; associated = omega arith },
+  )
 
 -- Evaluation by the plan
 
@@ -77,59 +104,40 @@ module _ (run : Call) (h : Here) where
 
   module _ (e : Node) (steps w : ℕ) where
     -- "16", at its start
-    pub eval-none : steps ≡ 0 → hold steps w (eval run e h) ≡ ceased 16 (row-of e)
+    eval-none : steps ≡ 0 → hold steps w (eval run e h) ≡ ceased 16 (row-of e)
     eval-none z = rw (eval-plan e) (hold-step-none steps w (row-of e) _ z)
 
     pub eval-step : 0 < steps → hold steps w (eval run e h) ≡ hold (steps - 1) w (perform run (row-of e) (eval-all run (elements e)) h (plan e h))
     eval-step l = rw (eval-plan e) (hold-step steps w (row-of e) _ l)
 
--- Steps
-
-abbrev step-out : State → ℕ → Out
-step-out st row = if eqb (st .steps) 0 then Refused 16 row else Done (stepped st)
-
-pub no-step : (st : State) (row number at : ℕ) → step-out st row ≡ Refused number at → (st .steps ≡ 0) × (number ≡ 16) × (at ≡ row)
-no-step st row number at =
-    by-test (λ (out : Out). out ≡ Refused number at → (st .steps ≡ 0) × (number ≡ 16) × (at ≡ row)) (eqb (st .steps) 0)
-    (λ t q. (eqb-true (st .steps) 0 t, cc, cc)) (λ t q. impossible (cc))
-
-pub one-step : (st : State) (row : ℕ) (st′ : State) → step-out st row ≡ Done st′ → (0 < st .steps) × (st′ ≡ stepped st)
-one-step st row st′ =
-    by-test (λ (out : Out). out ≡ Done st′ → (0 < st .steps) × (st′ ≡ stepped st)) (eqb (st .steps) 0)
-    (λ t q. impossible (cc)) (λ t q. (omega (arith, eqb-false (st .steps) 0 t), cc))
-
-named-row : {s t : List ℕ} {node : Ranged} {e : Node} → IsNode s t node e → row-named node ≡ row-of e
-named-row (is-leaf row a l) = refl
-named-row (is-branch f es nodes) = refl
-
 -- Tasks
 
-module _ (s t w : List ℕ) (floor : ℕ) (v : View) (sc : Scope) (e : Node) where
-  -- what a task says of the plan
+module _ (s t w : List ℕ) (floor : ℕ) (v : View) (sc : Scope) (row : ℕ) (e : Node) where
+  -- what a task says of the plan of the expression e at a row
   abbrev pub Does : Task → Plan → Type 0
   Does (Refuse n) q = q ≡ refuse n
-  Does Own q = (a : Atom) × LeafAt s t (row-of e) a × (q ≡ leave (only (atom a)))
+  Does Own q = (a : Atom) × LeafAt s t row a × (q ≡ leave (only (atom a)))
   Does (Again from to) q = (vs : Exprs) × Stand w from to vs × (q ≡ leave vs)
   Does (Ns f marker id) q =
-      (es : Nodes) × (k : Namespace) × (f .row ≡ row-of e) × NodesAt s t (f .first) (f .end) es × Atoms es × AssociationAt s (association marker id) k
+      (es : Nodes) × (k : Namespace) × (f .row ≡ row) × NodesAt s t (f .first) (f .end) es × Atoms es × AssociationAt s (association marker id) k
       × (length (v .associations) < 64) × (q ≡ associate (only (form (unnumbered-all es))) k)
   Does (Function key code) q =
       (d : Definition) × EntryAt s t w floor (definition key code) (d .marker) (d .name) (d .content) × (length (v .definitions) < 256) × (q ≡ define-function d)
   Does (Inside f after) q =
       (k : ℕ) × (p : Within) × (g : Finish) × NodesAt s t (f .first) (f .end) (skip k (elements e)) × Finishes s t w floor v sc (elements e) after k p g × (q ≡ inside k p g)
 
-  pub does : {task : Task} {q : Plan} → Planned s t w floor v sc e task q → Does task q
-  does (refuses n) = refl
-  does (owns a l) = (a, l, refl)
-  does (repeats from to vs stand) = (vs, stand, refl)
-  does (associates f es marker id k row nodes atoms at few) = (es, k, row, nodes, atoms, at, few, refl)
-  does (defines m n code body fits few c) = (_, function-entry fits code c, few, refl)
-  does (goes-inside f k p g after nodes finishes) = (k, p, g, nodes, finishes, refl)
+  does : row ≡ row-of e → {task : Task} {q : Plan} → Planned s t w floor v sc e task q → Does task q
+  does at (refuses n) = refl
+  does at (owns a l) = (a, rw at l, refl)
+  does at (repeats from to vs stand) = (vs, stand, refl)
+  does at (associates f es marker id k is nodes atoms entry few) = (es, k, is ∙ sym at, nodes, atoms, entry, few, refl)
+  does at (defines m n code body fits few c) = (_, function-entry fits code c, few, refl)
+  does at (goes-inside f k p g after nodes finishes) = (k, p, g, nodes, finishes, refl)
 
 -- what is left
 module _ {s t w : List ℕ} {v : View} {sc : Scope} {st : State} {row : ℕ} {e : Node} {h : Here} where
-  pub done-by : {task : Task} → Performing s t w v sc st task row e h → Does s t w (st .floor) v sc e task (plan e h)
-  done-by p = does s t w (st .floor) v sc e (p .planned)
+  pub done-by : {task : Task} → Performing s t w v sc st task row e h → Does s t w (st .floor) v sc row e task (plan e h)
+  done-by p = does s t w (st .floor) v sc row e (p .at) (p .planned)
 
   -- steps take no part in it
   pub fits-stepped : {task : Task} → Performing s t w v sc st task row e h → Fitting w (stepped st)
@@ -164,42 +172,58 @@ module _ {s t w : List ℕ} {sc : Scope} {st : State} {row : ℕ} {e : Node} {h 
     associate-begun {f} {marker} {id} w′ out size p done =
         let d = done-by p in
         let vs = only (form (unnumbered-all (d .0))) in
-        let here : f .row ≡ row = d .2 ∙ sym (p .at) in
         let more : Scope = record { defined = sc .defined; associated = sc .associated + 1 } in
         let few : sc .associated < 64 = omega (arith, latest-length associations (sc .associated), d .6) in
         rw (performed run p, d .7)
         (completed-left s t w w′ (view (set associations (sc .associated) (association marker id)) definitions) sc more st (stepped st) row
         vs (add-namespace (d .1) h) out refl (fits-stepped p) (omega arith) (record { defined = omega arith; associated = omega arith })
         (rw (view-associated associations definitions sc (association marker id) (omega arith)) (sees-associated (p .sees) (association marker id) (d .1) (d .5) (d .6)))
-        (subst (λ (r : ℕ). Completed w w′ (stepped st) (st .top) r vs out) here (done (d .0) (d .3) (d .4))))
+        (subst (λ (r : ℕ). Completed w w′ (stepped st) (st .top) r vs out) (d .2) (done (d .0) (d .3) (d .4))))
 
     pub function-begun : {key code : ℕ} → length definitions ≡ 256 → Performing s t w (view associations definitions sc) sc st (Function key code) row e h
         → LeftBy s t w w (view associations (set definitions (sc .defined) (definition key code))) sc st (hold (st .steps) (st .room) (eval run e h))
         (Ended (stepped st) (record { defined = sc .defined + 1; associated = sc .associated }))
     function-begun {key} {code} size p =
         let d = done-by p in
-        let few : sc .defined < 256 = omega (arith, latest-length definitions (sc .defined), d .2) in
-        rw (performed run p, d .3) (record {
-          left = record { values = none; here = add-definition (d .0) h };
-          is = hold-give (st .steps - 1) (st .room) _;
-          stand = stand-none (st .top) (omega (arith, p .fitting .paid, p .fitting .below));
-          others = untouched-none w (st .top) (st .floor);
-          lower = omega arith;
-          paid = p .fitting .paid;
-          sees =
-              rw (view-added associations definitions sc (definition key code) (omega arith))
-              (sees-defined (p .sees) (definition key code) (d .0) (d .1) (d .2));
-        }, record { defined = omega arith; associated = omega arith })
+        let fits = p .fitting in
+        rw (performed run p, d .3)
+        (defined-left s t w w associations definitions size sc st (stepped st) (definition key code) (d .0) h (st .steps - 1) (st .room) refl refl
+        (omega (arith, fits .paid, fits .below))
+        (untouched-none w (st .top) (st .floor)) refl (omega arith) (fits .paid) (d .1) (d .2) (p .sees))
 
--- the step is taken, and the task is planned
-pub begin-performs : {s t w args : List ℕ} {bound : ℕ} {v : View} {st : State} {at : Seen} {node : Ranged} {task : Task} {e : Node} {h : Here}
-    → Beginning s t bound w args v st at node e h → 0 < st .steps → Planned s t w (st .floor) v (at .scope) e task (plan e h)
-    → Performing s t w v (at .scope) st task (row-named node) e h
-begin-performs {bound = bound} {e = e} {h = h} b steps p = record {
-  at = named-row (b .is);
-  steps = steps;
-  planned = p;
-  sees = b .setting .sees;
-  fitting = b .fitting;
-  shallow = λ vs q. rw q at (plan-sound bound e h (b .fit) (b .sound)) .1;
-}
+-- Beginning
+
+abbrev step-out : State → ℕ → Out
+step-out st row = if eqb (st .steps) 0 then Refused 16 row else Done (stepped st)
+
+one-step : (st : State) (row : ℕ) (st′ : State) → step-out st row ≡ Done st′ → (0 < st .steps) × (st′ ≡ stepped st)
+one-step st row st′ =
+    by-test (λ (out : Out). out ≡ Done st′ → (0 < st .steps) × (st′ ≡ stepped st)) (eqb (st .steps) 0)
+    (λ t q. impossible (cc)) (λ t q. (omega (arith, eqb-false (st .steps) 0 t), cc))
+
+named-row : {s t : List ℕ} {node : Ranged} {e : Node} → IsNode s t node e → row-named node ≡ row-of e
+named-row (is-leaf row a l) = refl
+named-row (is-branch f es nodes) = refl
+
+module _ {s t w args : List ℕ} {bound : ℕ} {v : View} {st : State} {at : Seen} {node : Ranged} {e : Node} {h : Here} {row : ℕ}
+    (b : Beginning s t bound w args v st at node e h) (is : row ≡ row-named node) where
+  pub begin-none : (run : Call) (number r : ℕ) → step-out st row ≡ Refused number r → hold (st .steps) (st .room) (eval run e h) ≡ ceased number r
+  begin-none run number r =
+      by-test (λ (out : Out). out ≡ Refused number r → hold (st .steps) (st .room) (eval run e h) ≡ ceased number r) (eqb (st .steps) 0)
+      (λ t q. eval-none run h e (st .steps) (st .room) (eqb-true (st .steps) 0 t) ∙ cc (named-row (b .is))) (λ t q. impossible (cc))
+
+  -- the step is taken, and the task is planned
+  pub begin-performs : {task : Task} (st′ : State) → step-out st row ≡ Done st′ → Planned s t w (st .floor) v (at .scope) e task (plan e h)
+      → (st′ ≡ stepped st) × Performing s t w v (at .scope) st task row e h
+  begin-performs st′ q p =
+      let taken = one-step st row st′ q in (
+        taken .1,
+        record {
+          at = is ∙ named-row (b .is);
+          steps = taken .0;
+          planned = p;
+          sees = b .setting .sees;
+          fitting = b .fitting;
+          shallow = λ vs q. rw q at (plan-sound bound e h (b .fit) (b .sound)) .1;
+        },
+      )

@@ -115,6 +115,7 @@ pub fn begin(
         × (view (now (associations .exit)) (now (definitions .exit)) (here .scope) ≡ view (now (associations .entry)) (now (definitions .entry)) (here .scope)) ⌝ }
 {
     let row = node.row();
+    let scope = here.scope;
     match state.step(row) {
         Out::Refused(number, at) => Step::Leaves(Left::Refused(number, at)),
         Out::Done(stepped) => {
@@ -125,7 +126,7 @@ pub fn begin(
                 w,
                 associations,
                 definitions,
-                here.scope,
+                scope,
                 stepped,
                 task,
                 row,

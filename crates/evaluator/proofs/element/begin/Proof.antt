@@ -1,58 +1,62 @@
+-- `evaluator::element::begin` meets its contract: no step, or the task that is planned. Assumes nothing.
+use borrow.Author.Needs.{needs}
+use mathlib.Core.Path.{refl, sym, _∙_}
+use Rattle.evaluator.proofs.Begins.{begin-none, begin-performs}
 use Rattle.evaluator.proofs.element.begin.Statement.{statement}
 use Rattle.evaluator.proofs.element.begin.Tie as tie
-use Rattle.evaluator.proofs.element.begin.Reads as reads
-use Rattle.evaluator.proofs.element.begin.Lts as lts
-use Rattle.evaluator.proofs.element.perform.Reads as perform-reads
-use Rattle.rows.proofs.forms.Node.row.Reads as row-reads
-use Rattle.rules.proofs.plan.plan.Reads as plan-reads
-use Rattle.workspace.proofs.values.State.step.Reads as step-reads
 
--- src/element.rt:117:9
-row-requires : tie.Need-row-requires
-row-requires c κs = ?
-
--- src/element.rt:118:11
-step-requires : tie.Need-step-requires
-step-requires c κs = ?
-
--- src/element.rt:119:22
-enum-known-number : tie.Need-enum-known-number
-enum-known-number c = ?
-
--- src/element.rt:120:19
-enum-known-stepped : tie.Need-enum-known-stepped
-enum-known-stepped c = ?
-
--- src/element.rt:121:17
 plan-requires : tie.Need-plan-requires
-plan-requires c κs = ?
+plan-requires c κs =
+    let start = c .before .before .before .before .before .before .before .before .before .before .before in
+    let some = start .pre in
+    record {
+      work = start .args .w .now;
+      state = start .args .state;
+      expression = some .expression;
+      here = some .here;
+      is = some .begins .is;
+      setting = some .begins .setting;
+    }
 
--- src/element.rt:122:13
 perform-requires : tie.Need-perform-requires
-perform-requires c κs = ?
+perform-requires c κs =
+    let step = c .before .before .before .before .before .before .before .before .before in
+    let told = c .before .before .before .before .before .before .before .stepped .given in
+    let start = step .before .before .before .before .before .before in
+    let x = start .args in
+    let b = start .pre .begins in
+    let p = begin-performs b (step .before .before .row .ensures) (told .0 .0) (sym (step .step .ensures) ∙ told .1) (c .before .before .before .plan .ensures _ (b .is) (x .w .now) (x .state) _ (b .setting)) in
+    (x .state, start .pre .expression, start .pre .here, p .0, p .1)
 
--- src/element.rt:99:1
 returns : tie.Need-returns
-returns c = ?
+returns c =
+    let step = c .before .before .before in
+    let told = c .before .number .given in
+    (λ bound run e h b. begin-none b (step .before .before .row .ensures) run (told .0 .0) (told .0 .1 .0) (sym (step .step .ensures) ∙ told .1), refl)
 
--- src/element.rt:99:1
-same-length : tie.Need-same-length
-same-length c = ?
-
--- src/element.rt:99:1
 returns-2 : tie.Need-returns-2
-returns-2 c = ?
+returns-2 c =
+    let perform = c .before .before .perform in
+    let plan = c .before .before .before .before .before .before .plan in
+    let told = c .before .before .before .before .before .before .before .before .before .before .stepped .given in
+    let step = c .before .before .before .before .before .before .before .before .before .before .before .before in
+    let x = step .before .before .before .before .before .before .args in (
+      λ bound run e h b.
+          let p = begin-performs b (step .before .before .row .ensures) (told .0 .0) (sym (step .step .ensures) ∙ told .1) (plan .ensures e (b .is) (x .w .now) (x .state) h (b .setting)) in
+          perform .ensures .0 (x .state) run e h (p .0) (p .1),
+      perform .ensures .1,
+    )
 
 pub begin-spec : {M : Type 1} → statement M
 begin-spec =
     tie.close
     (tie.spec
-    row-requires
-    step-requires
-    enum-known-number
-    enum-known-stepped
+    (λ c κs. search needs)
+    (λ c κs. search needs)
+    (λ c. search needs)
+    (λ c. search needs)
     plan-requires
     perform-requires
     returns
-    same-length
+    (λ c. search needs)
     returns-2)

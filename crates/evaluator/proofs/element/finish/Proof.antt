@@ -1,95 +1,91 @@
+-- `evaluator::element::finish` meets its contract: a data form, a join, or a definition's values moved. Assumes nothing.
+use borrow.Author.Needs.{needs}
+use mathlib.Core.Path.{refl}
+use native.Mathlib.Omega.{arith}
+use Rattle.rules.specs.Entries.{definition}
+use Rattle.rules.proofs.Latest.{view-before-added}
+use Rattle.evaluator.proofs.Finishes.{can-define, can-join, form-finished, concat-finished, define-finished}
 use Rattle.evaluator.proofs.element.finish.Statement.{statement}
 use Rattle.evaluator.proofs.element.finish.Tie as tie
-use Rattle.evaluator.proofs.element.finish.Reads as reads
-use Rattle.evaluator.proofs.element.finish.Lts as lts
-use Rattle.evaluator.proofs.element.leaves.Reads as leaves-reads
-use Rattle.rules.proofs.scope.Scope.add.Reads as add-reads
-use Rattle.workspace.proofs.made.joined.Reads as joined-reads
-use Rattle.workspace.proofs.made.wrapped.Reads as wrapped-reads
-use Rattle.workspace.proofs.packed.pack.Reads as pack-reads
-use Rattle.workspace.proofs.values.stored.Reads as stored-reads
 
--- src/element.rt:155:46
-enum-told : tie.Need-enum-told
-enum-told c = ?
-
--- src/element.rt:155:32
 wrapped-requires : tie.Need-wrapped-requires
-wrapped-requires c κs = ?
+wrapped-requires c κs =
+    let some = c .before .before .before .before .pre in
+    let r = some .finishing in
+    ((r .fitting, omega arith), (some .values, r .stand, r .sound .0))
 
--- src/element.rt:155:25
-leaves-requires : tie.Need-leaves-requires
-leaves-requires c κs = ?
-
--- src/element.rt:156:47
-enum-told-2 : tie.Need-enum-told-2
-enum-told-2 c = ?
-
--- src/element.rt:156:34
 joined-requires : tie.Need-joined-requires
-joined-requires c κs = ?
+joined-requires c κs =
+    let some = c .before .before .before .before .pre in
+    (some .finishing .fitting, can-join (rw (c .before .enum-told2 .given .1) at (some .by)) (some .finishing))
 
--- src/element.rt:156:27
-leaves-requires-2 : tie.Need-leaves-requires-2
-leaves-requires-2 c κs = ?
-
--- src/element.rt:157:26
-enum-known-making : tie.Need-enum-known-making
-enum-known-making c = ?
-
--- src/element.rt:158:17
 stored-requires : tie.Need-stored-requires
-stored-requires c κs = ?
+stored-requires c κs = let r = c .before .before .before .before .before .pre .finishing in (r .fitting, r .stand .order)
 
--- src/element.rt:159:17
 pack-requires : tie.Need-pack-requires
-pack-requires c κs = ?
+pack-requires c κs =
+    let told = c .before .before .before .before .before in
+    let some = told .before .before .before .pre in
+    let fits = some .finishing .fitting in
+    let can = can-define (rw (told .making .given .1) at (some .by)) (some .finishing) in
+    (omega (arith, c .before .before .stored .ensures .floor, can .0), omega (arith, fits .below, fits .short))
 
--- src/element.rt:162:24
 add-requires : tie.Need-add-requires
-add-requires c κs = ?
+add-requires c κs =
+    let told = c .before .before .before .before .before .before .before in
+    let some = told .before .before .before .pre in
+    can-define (rw (told .making .given .1) at (some .by)) (some .finishing) .1
 
--- src/element.rt:138:1
-same-length : tie.Need-same-length
-same-length c = ?
-
--- src/element.rt:138:1
 returns : tie.Need-returns
-returns c = ?
+returns c =
+    let wrapped = c .before .before .before .wrapped in
+    let told = c .before .before .before .before .before in
+    let a = told .before .before .before .args in (
+      rw (c .leaves .ensures, told .enum-told .given .1)
+          (form-finished (a .w .now) (wrapped .last .0) (a .definitions .now) (a .scope) (a .state) (a .start) (a .row) (wrapped .result) (wrapped .ensures)),
+      λ numbers. refl,
+    )
 
--- src/element.rt:138:1
-same-length-2 : tie.Need-same-length-2
-same-length-2 c = ?
-
--- src/element.rt:138:1
 returns-2 : tie.Need-returns-2
-returns-2 c = ?
+returns-2 c =
+    let joined = c .before .before .before .joined in
+    let told = c .before .before .before .before .before in
+    let a = told .before .before .before .args in (
+      rw (c .leaves2 .ensures, told .enum-told2 .given .1)
+          (concat-finished (a .w .now) (joined .last .0) (a .definitions .now) (a .scope) (a .state) (a .start) (a .row) (joined .result) (joined .ensures)),
+      λ numbers. refl,
+    )
 
--- src/element.rt:138:1
-same-length-3 : tie.Need-same-length-3
-same-length-3 c = ?
-
--- src/element.rt:138:1
 returns-3 : tie.Need-returns-3
-returns-3 c = ?
+returns-3 c =
+    let pack-is = c .before .before .pack .ensures in
+    let stored = c .before .before .before .before .before .stored in
+    let told = c .before .before .before .before .before .before .before .before in
+    let a = told .before .before .before .args in
+    let key = told .making .given .0 .0 in
+    let more = c .add .ensures in (
+      rw (more .0, more .1, pack-is, told .making .given .1)
+          (define-finished (a .w .now) (stored .last .0) (a .definitions .now) (a .scope) (a .state) (a .start) (a .row) key (stored .result) (more .2) (stored .ensures)),
+      λ numbers. rw (more .0) (view-before-added numbers (a .definitions .now) (a .scope) (definition key (c .before .before .pack .result))),
+    )
 
 pub finish-spec : {M : Type 1} → statement M
 finish-spec =
     tie.close
     (tie.spec
-    enum-told
+    (λ c. search needs)
     wrapped-requires
-    leaves-requires
-    enum-told-2
+    (λ c κs. search needs)
+    (λ c. search needs)
     joined-requires
-    leaves-requires-2
-    enum-known-making
+    (λ c κs. search needs)
+    (λ c. search needs)
     stored-requires
     pack-requires
     add-requires
-    same-length
+    (λ c. search needs)
     returns
-    same-length-2
+    (λ c. search needs)
     returns-2
-    same-length-3
+    (λ c. search needs)
     returns-3)

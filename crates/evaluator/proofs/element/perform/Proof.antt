@@ -1,130 +1,124 @@
+-- `evaluator::element::perform` meets its contract: one law for each task. Assumes nothing.
+use borrow.Author.Needs.{needs}
+use mathlib.Core.Path.{refl}
+use native.Mathlib.Omega.{arith}
+use Rattle.spec.specs.Expr.{atom, only}
+use Rattle.rules.specs.Entries.{definition, association}
+use Rattle.rules.specs.Scope.{view}
+use Rattle.rules.proofs.Latest.{latest-length, view-before-added, view-before-associated}
+use Rattle.evaluator.proofs.Begins.{done-by, fits-stepped, refuse-begun, inside-begun, leave-begun, associate-begun, function-begun}
 use Rattle.evaluator.proofs.element.perform.Statement.{statement}
 use Rattle.evaluator.proofs.element.perform.Tie as tie
-use Rattle.evaluator.proofs.element.perform.Reads as reads
-use Rattle.evaluator.proofs.element.perform.Lts as lts
-use Rattle.evaluator.proofs.element.leaves.Reads as leaves-reads
-use Rattle.rules.proofs.scope.Scope.add.Reads as add-reads
-use Rattle.rules.proofs.scope.Scope.associate.Reads as associate-reads
-use Rattle.workspace.proofs.values.copied.Reads as copied-reads
-use Rattle.workspace.proofs.values.itself.Reads as itself-reads
-use Rattle.workspace.proofs.values.own.Reads as own-reads
 
--- src/element.rt:77:24
-enum-known-task : tie.Need-enum-known-task
-enum-known-task c = ?
-
--- src/element.rt:78:13
 returns : tie.Need-returns
-returns c = ?
+returns c = (λ st run e h is p. rw is (inside-begun run (rw (c .before .task .given .1) at p)), refl)
 
--- src/element.rt:80:22
-enum-known-task-2 : tie.Need-enum-known-task-2
-enum-known-task-2 c = ?
-
--- src/element.rt:81:51
-enum-told : tie.Need-enum-told
-enum-told c = ?
-
--- src/element.rt:81:29
 own-requires : tie.Need-own-requires
-own-requires c κs = ?
+own-requires c κs =
+    let k = c .before .before .before .before .before .before .pre in
+    let d = done-by (rw (c .before .enum-told .given .1) at (k .4)) in
+    (rw (k .3) (fits-stepped (k .4)), (d .0, d .1))
 
--- src/element.rt:81:22
-leaves-requires : tie.Need-leaves-requires
-leaves-requires c κs = ?
-
--- src/element.rt:82:23
-enum-known-task-3 : tie.Need-enum-known-task-3
-enum-known-task-3 c = ?
-
--- src/element.rt:84:20
 copied-requires : tie.Need-copied-requires
-copied-requires c κs = ?
+copied-requires c κs =
+    let k = c .before .before .before .before .before .before .before .pre in
+    let d = done-by (rw (c .before .before .task3 .given .1) at (k .4)) in
+    (rw (k .3) (fits-stepped (k .4)), (d .1 .order, d .1 .inside, omega arith))
 
--- src/element.rt:84:13
-leaves-requires-2 : tie.Need-leaves-requires-2
-leaves-requires-2 c κs = ?
-
--- src/element.rt:86:20
-enum-known-task-4 : tie.Need-enum-known-task-4
-enum-known-task-4 c = ?
-
--- src/element.rt:87:17
 associate-requires : tie.Need-associate-requires
-associate-requires c κs = ?
+associate-requires c κs =
+    let start = c .before .before .before .before .before .before .before in
+    let d = done-by (rw (c .before .before .task4 .given .1) at (start .pre .4)) in
+    omega (arith, d .6, latest-length (start .args .associations .now) (start .args .scope .associated))
 
--- src/element.rt:88:20
 itself-requires : tie.Need-itself-requires
-itself-requires c κs = ?
+itself-requires c κs =
+    let k = c .before .before .before .before .before .before .before .before .before .pre in
+    let d = done-by (rw (c .before .before .before .before .task4 .given .1) at (k .4)) in
+    (rw (k .3) (fits-stepped (k .4)), record { nodes = d .0; at = d .3; atoms = d .4 })
 
--- src/element.rt:88:13
-leaves-requires-3 : tie.Need-leaves-requires-3
-leaves-requires-3 c κs = ?
-
--- src/element.rt:90:26
-enum-known-task-5 : tie.Need-enum-known-task-5
-enum-known-task-5 c = ?
-
--- src/element.rt:92:20
 add-requires : tie.Need-add-requires
-add-requires c κs = ?
+add-requires c κs =
+    let start = c .before .before .before .before .before .before .before in
+    let d = done-by (rw (c .before .before .task5 .given .1) at (start .pre .4)) in
+    omega (arith, d .2, latest-length (start .args .definitions .now) (start .args .scope .defined))
 
--- src/element.rt:58:1
 returns-2 : tie.Need-returns-2
-returns-2 c = ?
+returns-2 c = (λ st run e h is p. refuse-begun run (rw (c .before .task2 .given .1) at p), refl)
 
--- src/element.rt:58:1
-same-length : tie.Need-same-length
-same-length c = ?
-
--- src/element.rt:58:1
 returns-3 : tie.Need-returns-3
-returns-3 c = ?
+returns-3 c =
+    let own = c .before .before .before .own in
+    let told = c .before .before .before .before .before .enum-told .given .1 in
+    let a = c .before .before .before .before .before .before .before .before .before .before .args in (
+      λ st run e h is p.
+          let d = done-by (rw told at p) in
+          rw (c .leaves .ensures)
+          (leave-begun run (view (a .associations .now) (a .definitions .now)) (only (atom (d .0))) (own .last .1 .1 .0) (own .result) p (d .2)
+          (rw is at (own .ensures (d .0) (d .1)))),
+      refl,
+    )
 
--- src/element.rt:58:1
-same-length-2 : tie.Need-same-length-2
-same-length-2 c = ?
-
--- src/element.rt:58:1
 returns-4 : tie.Need-returns-4
-returns-4 c = ?
+returns-4 c =
+    let copied = c .before .before .before .copied in
+    let told = c .before .before .before .before .before .before .task3 .given .1 in
+    let a = c .before .before .before .before .before .before .before .before .before .before .before .args in (
+      λ st run e h is p.
+          let d = done-by (rw told at p) in
+          rw (c .leaves2 .ensures)
+          (leave-begun run (view (a .associations .now) (a .definitions .now)) (d .0) (copied .last .0) (copied .result) p (d .2)
+          (rw is at (copied .ensures (d .0) (d .1) (p .shallow (d .0) (d .2))))),
+      refl,
+    )
 
--- src/element.rt:58:1
-same-length-3 : tie.Need-same-length-3
-same-length-3 c = ?
-
--- src/element.rt:58:1
 returns-5 : tie.Need-returns-5
-returns-5 c = ?
+returns-5 c =
+    let itself = c .before .before .before .itself in
+    let more = c .before .before .before .before .before .associate in
+    let task = c .before .before .before .before .before .before .before .before .task4 .given in
+    let a = c .before .before .before .before .before .before .before .before .before .before .before .before .before .args in (
+      λ st run e h is p.
+          rw (c .leaves3 .ensures, more .ensures .0, more .ensures .1)
+          (associate-begun run (a .associations .now) (a .definitions .now) (itself .last .1 .1 .0) (itself .result) (more .ensures .2) (rw (task .1) at p)
+          (rw is at (itself .ensures))),
+      rw (more .ensures .0) (view-before-associated (a .associations .now) (a .definitions .now) (a .scope) (association (task .0 .1 .0) (task .0 .1 .1 .0))),
+    )
 
--- src/element.rt:58:1
 returns-6 : tie.Need-returns-6
-returns-6 c = ?
+returns-6 c =
+    let task = c .before .before .before .task5 .given in
+    let a = c .before .before .before .before .before .before .before .before .args in
+    let more = c .add .ensures in (
+      λ st run e h is p.
+          rw (more .0, more .1, is) (function-begun run (a .associations .now) (a .definitions .now) (more .2) (rw (task .1) at p)),
+      rw (more .0) (view-before-added (a .associations .now) (a .definitions .now) (a .scope) (definition (task .0 .0) (task .0 .1 .0))),
+    )
 
 pub perform-spec : {M : Type 1} → statement M
 perform-spec =
     tie.close
     (tie.spec
-    enum-known-task
+    (λ c. search needs)
     returns
-    enum-known-task-2
-    enum-told
+    (λ c. search needs)
+    (λ c. search needs)
     own-requires
-    leaves-requires
-    enum-known-task-3
+    (λ c κs. search needs)
+    (λ c. search needs)
     copied-requires
-    leaves-requires-2
-    enum-known-task-4
+    (λ c κs. search needs)
+    (λ c. search needs)
     associate-requires
     itself-requires
-    leaves-requires-3
-    enum-known-task-5
+    (λ c κs. search needs)
+    (λ c. search needs)
     add-requires
     returns-2
-    same-length
+    (λ c. search needs)
     returns-3
-    same-length-2
+    (λ c. search needs)
     returns-4
-    same-length-3
+    (λ c. search needs)
     returns-5
     returns-6)

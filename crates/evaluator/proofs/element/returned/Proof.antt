@@ -1,47 +1,38 @@
+-- `evaluator::element::returned` meets its contract: the values of a code are the call's, or the form of them is. Assumes nothing.
+use borrow.Author.Needs.{needs}
+use mathlib.Core.Path.{sym, _∙_}
+use native.Mathlib.Omega.{arith}
 use Rattle.evaluator.proofs.element.returned.Statement.{statement}
 use Rattle.evaluator.proofs.element.returned.Tie as tie
-use Rattle.evaluator.proofs.element.returned.Reads as reads
-use Rattle.evaluator.proofs.element.returned.Lts as lts
-use Rattle.rows.proofs.forms.Form.is_single.Reads as is-single-reads
-use Rattle.workspace.proofs.made.wrapped.Reads as wrapped-reads
-use Rattle.workspace.proofs.values.copied.Reads as copied-reads
 
--- src/element.rt:184:8
-is-single-requires : tie.Need-is-single-requires
-is-single-requires c κs = ?
-
--- src/element.rt:186:9
 copied-requires : tie.Need-copied-requires
-copied-requires c κs = ?
+copied-requires c κs =
+    let r = c .before .before .before .before .before .before .pre .1 .1 in
+    (r .fitting, (r .stand .order, r .stand .inside, omega (arith, r .order, r .stand .order)))
 
--- src/element.rt:186:9
-same-length : tie.Need-same-length
-same-length c = ?
-
--- src/element.rt:186:9
 returns : tie.Need-returns
-returns c = ?
+returns c vs es r at =
+    let test = c .before .before .before .before in
+    rw (sym (test .before .is-single .ensures es at) ∙ test .if1 .taken) (c .before .before .copied .ensures vs (r .stand) (r .sound .1))
 
--- src/element.rt:188:5
 wrapped-requires : tie.Need-wrapped-requires
-wrapped-requires c κs = ?
+wrapped-requires c κs =
+    let r = c .before .before .before .before .before .before .pre .1 in
+    ((r .1 .fitting, r .1 .order), (r .0, r .1 .stand, r .1 .sound .0))
 
--- src/element.rt:169:1
-same-length-2 : tie.Need-same-length-2
-same-length-2 c = ?
-
--- src/element.rt:169:1
 returns-2 : tie.Need-returns-2
-returns-2 c = ?
+returns-2 c vs es r at =
+    let test = c .before .before .before .before in
+    rw (sym (test .before .is-single .ensures es at) ∙ test .if1 .left) (c .before .before .wrapped .ensures vs (r .stand) (r .sound .0))
 
 pub returned-spec : {M : Type 1} → statement M
 returned-spec =
     tie.close
     (tie.spec
-    is-single-requires
+    (λ c κs. search needs)
     copied-requires
-    same-length
+    (λ c. search needs)
     returns
     wrapped-requires
-    same-length-2
+    (λ c. search needs)
     returns-2)
