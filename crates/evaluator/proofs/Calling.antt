@@ -1,7 +1,7 @@
 -- A call: where its code is run, and what it leaves when the code was run.
 -- Document 01: "The arguments are, in order; then the code, with the function's definitions [..] and these arguments." Assumes nothing.
 use Prim.Native.Nat.{ℕ, suc, _+_, _-_, _≤_, _<_}
-use mathlib.Core.Path.{_≡_, refl, sym, ap, _∙_}
+use mathlib.Core.Path.{_≡_, refl, ap, _∙_}
 use mathlib.Core.List.{List}
 use native.Mathlib.Omega.{arith}
 use lib.ListN.{length, take, drop, length-drop}
@@ -53,7 +53,10 @@ module _ {s t : List ℕ} {bound codes : ℕ} {w : List ℕ} {v : View} {st : St
   abbrev pub in-body : Here
   in-body = record { within = inner; scope = behind; namespaces = h .namespaces; arguments = passed vs }
 
-  -- what the call at a row answers
+  -- what the code answers, and what the call at a row does
+  abbrev pub body-held : Held Left
+  body-held = hold (st .steps) (st .room) (in-list (run-code (codes - 1)) body in-body)
+
   abbrev call-held : ℕ → Held Left
   call-held row = hold (st .steps) (st .room) (finish (run-code codes) row h (as-call body behind) vs)
 
@@ -62,6 +65,19 @@ module _ {s t : List ℕ} {bound codes : ℕ} {w : List ℕ} {v : View} {st : St
   call-refused row deep =
       let no-more : codes ≡ 0 = omega (arith, k .entered) in
       rw no-more (hold-code-none row body in-body _ (st .steps) (st .room))
+
+  -- the code was run
+  pub ran : {w₁ : List ℕ} {st₁ : State} (o : Over w w₁ st body-held st₁) → Ran w₁ st₁ start (st .top) (o .left .values)
+  ran {st₁ = st₁} o =
+      let size = o .others .size in
+      let f = k .fitting in
+      record {
+        fitting = record { paid = o .paid; below = omega (arith, o .floor, f .below); short = omega (arith, f .short) };
+        order = k .stand .order;
+        stand = o .stand;
+        sound = in-list-left bound (codes - 1) body in-body (o .left) (k .fit) (k .scope-sound, k .sound)
+            (hold-reached (st .steps) (st .room) _ (o .left) (st₁ .steps) (st₁ .room) (o .is) .0) .0;
+      }
 
   -- fewer are, and where the arguments stand is packed
   module _ (some : at .frame .depth < 32) where
@@ -93,10 +109,6 @@ module _ {s t : List ℕ} {bound codes : ℕ} {w : List ℕ} {v : View} {st : St
           entered = omega (arith, k .entered);
         })
 
-    -- what the code answers
-    abbrev pub body-held : Held Left
-    body-held = hold (st .steps) (st .room) (in-list (run-code (codes - 1)) body in-body)
-
     module _ (row : ℕ) where
       call-held-is : call-held row ≡ and-hold body-held (λ left steps work. hold steps work (complete row (if one-value body then left .values else only (form (left .values))) h))
       call-held-is =
@@ -107,26 +119,12 @@ module _ {s t : List ℕ} {bound codes : ℕ} {w : List ℕ} {v : View} {st : St
       pub call-stopped : (n r : ℕ) → body-held ≡ ceased n r → call-held row ≡ ceased n r
       call-stopped n r e = call-held-is ∙ rw e
 
-      -- it was run
-      module _ {w₁ : List ℕ} {st₁ : State} (o : Over w w₁ st body-held st₁) where
-        pub ran : Ran w₁ st₁ start (st .top) (o .left .values)
-        ran =
-            let size = o .others .size in
-            let f = k .fitting in
-            record {
-              fitting = record { paid = o .paid; below = omega (arith, o .floor, f .below); short = omega (arith, f .short) };
-              order = k .stand .order;
-              stand = o .stand;
-              sound = in-list-left bound (codes - 1) body in-body (o .left) (k .fit) (k .scope-sound, k .sound)
-                  (hold-reached (st .steps) (st .room) _ (o .left) (st₁ .steps) (st₁ .room) (o .is) .0) .0;
-            }
-
-        pub call-returns : (w₂ : List ℕ) (see : Scope → View) (out : Out) → see (at .scope) ≡ v
-            → Completed w₁ w₂ st₁ start row (if one-value body then o .left .values else only (form (o .left .values))) out
-            → LeftBy s t w w₂ see (at .scope) (with-top st (st .room) start) (call-held row) (as-left (at .scope) out)
-        call-returns w₂ see out same done =
-            let us : Exprs = o .left .values in
-            left-from s t w w₁ w₂ see (at .scope) (with-top st (st .room) start) st₁ (as-left (at .scope) out)
-            (untouched-less start (st .floor) (k .stand .order) (omega arith) (o .others)) (o .floor) (call-held-is ∙ rw (o .is))
-            (completed-left s t w₁ w₂ see (at .scope) (at .scope) (with-top st₁ (st₁ .room) start) st₁ row (if one-value body then us else only (form us)) h out
-            refl (ran .fitting) (omega (arith, k .stand .order, o .stand .order)) (extends-none (at .scope)) (rw (same, o .floor) (sees-kept (k .sees) (o .others))) done)
+      pub call-returns : {w₁ : List ℕ} {st₁ : State} (o : Over w w₁ st body-held st₁) (w₂ : List ℕ) (see : Scope → View) (out : Out) → see (at .scope) ≡ v
+          → Completed w₁ w₂ st₁ start row (if one-value body then o .left .values else only (form (o .left .values))) out
+          → LeftBy s t w w₂ see (at .scope) (with-top st (st .room) start) (call-held row) (as-left (at .scope) out)
+      call-returns {w₁} {st₁} o w₂ see out same done =
+          let us : Exprs = o .left .values in
+          left-from s t w w₁ w₂ see (at .scope) (with-top st (st .room) start) st₁ (as-left (at .scope) out)
+          (untouched-less start (st .floor) (k .stand .order) (omega arith) (o .others)) (o .floor) (call-held-is ∙ rw (o .is))
+          (completed-left s t w₁ w₂ see (at .scope) (at .scope) (with-top st₁ (st₁ .room) start) st₁ row (if one-value body then us else only (form us)) h out
+          refl (ran o .fitting) (omega (arith, k .stand .order, o .stand .order)) (extends-none (at .scope)) (rw (same, o .floor) (sees-kept (k .sees) (o .others))) done)

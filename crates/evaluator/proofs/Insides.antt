@@ -1,7 +1,7 @@
 -- What is inside an expression, evaluated first: what is known there, and what the expression leaves when what was inside is finished.
 -- Document 01: "Evaluation goes depth first". Assumes nothing.
 use Prim.Native.Nat.{ℕ, zero, suc, _-_, _<_}
-use mathlib.Core.Path.{_≡_, refl, sym, ap, _∙_, subst}
+use mathlib.Core.Path.{_≡_, refl, ap, _∙_}
 use mathlib.Core.List.{List}
 use native.Mathlib.Omega.{arith}
 use lib.ListN.{length}

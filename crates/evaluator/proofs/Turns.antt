@@ -107,16 +107,16 @@ module _ {s t : List ℕ} {bound codes : ℕ} {args : List ℕ} {end : ℕ} wher
 
   module _ {w₀ w : List ℕ} {v : View} {st₀ st : State} {at : Seen} {row : ℕ} {held : Held Left} (g : Going s t bound codes args end w₀ w v st₀ st at row held) where
     -- no expression is left
-    pub going-over : end ≤ row → (floor : ℕ) → floor ≡ st₀ .floor → Over w₀ w st₀ held (with-floor st floor)
-    going-over h floor e =
+    pub going-over : end ≤ row → Over w₀ w st₀ held (with-floor st (st₀ .floor))
+    going-over h =
         let r = g .ready in
         record {
           left = record { values = g .passed; here = g .here };
           is = g .is ∙ rw (nodes-done s t row end (g .rest) (r .nodes) h, hold-list-empty (run-code codes) (g .here) (st .steps) (st .room), append-none (g .passed));
           stand = g .stand;
           others = g .others;
-          floor = e;
-          paid = omega (arith, e, r .fitting .paid, g .lower);
+          floor = refl;
+          paid = omega (arith, r .fitting .paid, g .lower);
         }
 
     -- one is next

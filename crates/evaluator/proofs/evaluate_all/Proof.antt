@@ -1,15 +1,8 @@
 -- `evaluator::evaluate_all` meets its contract: the nodes of the stream as a list, evaluated from its beginning. Assumes nothing.
-use Prim.Native.Nat.{ℕ}
-use mathlib.Core.Path.{_≡_}
-use mathlib.Core.List.{List}
 use lib.ListN.{replicate}
 use borrow.Author.Needs.{needs}
-use Rattle.spec.specs.Expr.{Exprs}
-use Rattle.spec.specs.Reading.{Row, readable}
 use Rattle.spec.specs.Nodes.{number-all}
 use Rattle.spec.specs.Evaluation.{start}
-use Rattle.spec.specs.Calls.{filled, reading}
-use Rattle.laws.specs.Demands.{Bytes}
 use Rattle.laws.proofs.Steps.{all-bytes}
 use Rattle.evaluator.proofs.Evaluations.{stream-ready, stream-ended}
 use Rattle.evaluator.proofs.evaluate_all.Statement.{statement}

@@ -1,7 +1,7 @@
 -- `evaluator::run::list`, `evaluator::run::finish` and `evaluator::run::call` meet their contracts, by recursion on the steps that are left: at each
 -- call they are fewer, or as many and it is the code of a call. Assumes nothing.
-use Prim.Native.Nat.{ℕ, _+_, _-_, _*_, _≤_, _<_}
-use mathlib.Core.Path.{_≡_, refl, sym, ap, _∙_, subst}
+use Prim.Native.Nat.{ℕ, _+_, _-_, _*_, _<_}
+use mathlib.Core.Path.{_≡_, refl, ap, _∙_, subst}
 use mathlib.Core.List.{List}
 use mathlib.Core.Logic.{⊎-elim}
 use native.Mathlib.Omega.{arith}
@@ -13,7 +13,7 @@ use Rattle.spec.specs.Expr.{Exprs}
 use Rattle.spec.specs.Nodes.{Nodes}
 use Rattle.spec.specs.Plan.{Scope as Definitions, Here}
 use Rattle.spec.specs.Evaluation.{run-code}
-use Rattle.rows.proofs.Nodes.{node-whole}
+use Rattle.rows.proofs.Nodes.{MoreAt, node-whole}
 use Rattle.rules.specs.Scope.{latest, View, view}
 use Rattle.rules.specs.declared.scope.Scope.{Scope}
 use Rattle.rules.specs.declared.here.Here.{Here as Seen}
@@ -80,20 +80,17 @@ abbrev list-below : ℕ → In 6 list-kinds.ps
 list-below t = and 6 list-kinds.ps (falls 6 list-kinds.ps _<_ μ-list t) list.Pre
 
 -- what each turn of `list` keeps
-record Turning (s table w₀ associations₀ args definitions₀ : List ℕ) (here₀ : Seen) (state₀ : State) (outer : Scope) (floor end first : ℕ)
-    (w associations definitions : List ℕ) (here : Seen) (state : State) (row : ℕ) : Type 0 where
+record Turning (s table w₀ associations₀ args definitions₀ : List ℕ) (here₀ : Seen) (state₀ : State) (end first : ℕ) (w associations definitions : List ℕ) (here : Seen)
+    (state : State) (row : ℕ) : Type 0 where
   -- how the list goes on, for all nodes that may be listed
   going : (y : SomeReady s table w₀ args (view associations₀ definitions₀ (here₀ .scope)) state₀ here₀ first end)
       → Going s table (y .bound) (y .codes) args end w₀ w (view associations definitions (here .scope)) state₀ state here row (held-list y)
-  outer-is : outer ≡ here₀ .scope
-  floor-is : floor ≡ state₀ .floor
-  size : length w ≡ length w₀
   kept : view associations definitions (here₀ .scope) ≡ view associations₀ definitions₀ (here₀ .scope)
   extends : Extends (here₀ .scope) (here .scope)
 
 abbrev list-Inv-loop : list-lts.InvT-loop
 list-Inv-loop s table w₀ associations₀ args definitions₀ here₀ state₀ outer floor end row₀ =
-    Turning s table w₀ associations₀ args definitions₀ here₀ state₀ outer floor end row₀
+    Turning s table w₀ associations₀ args definitions₀ here₀ state₀ end row₀
 
 abbrev list-μ-loop : list-lts.MeasureT-loop
 list-μ-loop s table w₀ associations₀ args definitions₀ here₀ state₀ outer floor end row₀ w associations definitions here state row = end - row
@@ -109,9 +106,6 @@ module _ (t : ℕ) where
   list-calls = (at-reads.Asked, at-reads.Learnt, begin-reads.Asked, begin-reads.Learnt, within-reads.Asked, within-reads.Learnt, entering-reads.Asked, entering-reads.Learnt, list-below t, list.Post, finish-below t, finish.Post, showing-reads.Asked, showing-reads.Learnt, next-reads.Asked, next-reads.Learnt, down-to-reads.Asked, down-to-reads.Learnt, back-to-reads.Asked, back-to-reads.Learnt)
 
   -- Calls
-
-  call-returns : call-lts.Need-returns call-calls (call-at t) call.Post
-  call-returns c = (λ bound codes body behind h vs z. call-refused z _ (c .if1 .taken), refl)
 
   call-spread-requires : call-lts.Need-spread-requires call-calls (call-at t) call.Post
   call-spread-requires c κs =
@@ -161,9 +155,9 @@ module _ (t : ℕ) where
         (z : Calling (first entered .args .s .now) (first entered .args .table .now) bound codes (first entered .args .w .now) (lent entered (first entered .args .here .scope))
         (first entered .args .state) (first entered .args .here) (first entered .args .callee) (first entered .args .opened .start) body behind h vs) where
       met : (out : Answer) → c .list .result ≡ out
-          → Met (first entered .args .w .now) (c .list .last .1 .1 .0) inside-scope (first entered .args .state) (body-held z (few-codes entered)) out
+          → Met (first entered .args .w .now) (c .list .last .1 .1 .0) inside-scope (first entered .args .state) (body-held z) out
       met out e =
-          subst (λ (x : Answer). Met (first entered .args .w .now) (c .list .last .1 .1 .0) inside-scope (first entered .args .state) (body-held z (few-codes entered)) x) e
+          subst (λ (x : Answer). Met (first entered .args .w .now) (c .list .last .1 .1 .0) inside-scope (first entered .args .state) (body-held z) x) e
           (c .list .ensures .0 _ _ _ _ (ready entered z))
 
   call-returned-requires : call-lts.Need-returned-requires call-calls (call-at t) call.Post
@@ -171,7 +165,7 @@ module _ (t : ℕ) where
       let l = c .before .before .before .before .before .before in
       let y = first (entered l) .pre .1 in
       let o = met l (y .calls) _ (c .before .before .ran .given .1) .0 in
-      (record { nodes = y .body; at = y .calls .called .at }, (_, ran (y .calls) (few-codes (entered l)) (first (entered l) .args .opened .row) o))
+      (record { nodes = y .body; at = y .calls .called .at }, (_, ran (y .calls) o))
 
   call-returns-2 : call-lts.Need-returns-2 call-calls (call-at t) call.Post
   call-returns-2 c =
@@ -189,14 +183,11 @@ module _ (t : ℕ) where
             let o = met l z _ (r .before .before .before .ran .given .1) .0 in
             rw (c .leaves .ensures) (returns z (few-codes x) (first x .args .opened .row) o (r .returned .last .1 .1 .0)
             (view (l .list .last .1 .1 .1 .0) (first x .args .definitions .now)) (r .returned .result) (kept-call l)
-            (r .returned .ensures _ _ (ran z (few-codes x) (first x .args .opened .row) o) (z .called .at))),
+            (r .returned .ensures _ _ (ran z o) (z .called .at))),
         kept-call l,
       )
 
   -- Finishing
-
-  finish-returns : finish-lts.Need-returns finish-calls (finish-at t) finish.Post
-  finish-returns c = (rw (c .before .ended .given .1) refl, refl)
 
   -- the elements were evaluated
   module _ (c : finish-lts.After-known-told2 finish-calls (finish-at t) finish.Post) where
@@ -214,11 +205,6 @@ module _ (t : ℕ) where
 
     can-end : Can (Ended (c .before .ended2 .given .0 .0) (c .before .ended2 .given .0 .1 .0))
     can-end = subst Can told (opening .pre .1)
-
-  finish-finish-requires : finish-lts.Need-finish-requires finish-calls (finish-at t) finish.Post
-  finish-finish-requires c κs =
-      let k = c .before .before .before .before .before in
-      can-make (visible k) (can-end k) (c .before .before .before .after .given .1)
 
   finish-returns-2 : finish-lts.Need-returns-2 finish-calls (finish-at t) finish.Post
   finish-returns-2 c =
@@ -250,9 +236,6 @@ module _ (t : ℕ) where
       )
 
   -- Lists
-
-  list-loop-holds : list-lts.Need-loop-holds list-calls (list-at t) list.Post list-Inv-loop list-μ-loop
-  list-loop-holds c = record { going = λ y. going-start (y .ready); outer-is = refl; floor-is = refl; size = refl; kept = refl; extends = extends-none _ }
 
   -- before an expression
   module _ (c : list-lts.In-loop list-calls (list-at t) list.Post list-Inv-loop list-μ-loop) where
@@ -294,14 +277,15 @@ module _ (t : ℕ) where
           LeftBy (start .args .s .now) (start .args .table .now) (c .before .loop .w) w see (c .before .loop .here .scope) (c .before .loop .state)
           (held-next going on) left
 
-  list-at-requires : list-lts.Need-at-requires list-calls (list-at t) list.Post list-Inv-loop list-μ-loop
-  list-at-requires c κs = node-whole _ _ _ _ (going-more (going c (some c)) (on c) .node)
+  -- the expression at the row
+  abbrev next : (c : list-lts.In-loop list-calls (list-at t) list.Post list-Inv-loop list-μ-loop)
+      → MoreAt (start c .args .s .now) (start c .args .table .now) (c .before .loop .row) (start c .args .form .end) (going c (some c) .rest)
+  next c = going-more (going c (some c)) (on c)
 
   list-begin-requires : list-lts.Need-begin-requires list-calls (list-at t) list.Post list-Inv-loop list-μ-loop
   list-begin-requires c κs =
       let k = c .before .before .before .before in
-      let g = going k (some k) in
-      record { bound = _; expression = _; here = _; begins = going-begins g (on k) (c .before .before .before .at .ensures _ _ (going-more g (on k) .node)) }
+      record { bound = _; expression = _; here = _; begins = going-begins (going k (some k)) (on k) (c .before .before .before .at .ensures _ _ (next k .node)) }
 
   -- after its step
   module _ (c : list-lts.After-slice-known2 list-calls (list-at t) list.Post list-Inv-loop list-μ-loop) where
@@ -380,11 +364,6 @@ module _ (t : ℕ) where
       left-as : (left : Answer) → c .match .left ≡ left → Leaving (turn (c .before)) y (c .match .w) left-view left
       left-as left e = subst (λ (x : Answer). Leaving (turn (c .before)) y (c .match .w) left-view x) e left-by-one
 
-  list-same-length : list-lts.Need-same-length list-calls (list-at t) list.Post list-Inv-loop list-μ-loop
-  list-same-length c =
-      let j = c .before .before .before in
-      same-length-left j ∙ turn (j .before) .before .loop .inv .size
-
   list-returns : list-lts.Need-returns list-calls (list-at t) list.Post list-Inv-loop list-μ-loop
   list-returns c =
       let j = c .before .before .before in
@@ -395,16 +374,10 @@ module _ (t : ℕ) where
         kept-start j,
       )
 
-  list-next-requires : list-lts.Need-next-requires list-calls (list-at t) list.Post list-Inv-loop list-μ-loop
-  list-next-requires c κs =
-      let k = turn (c .before .before .before .before .before) in
-      node-whole _ _ _ _ (going-more (going k (some k)) (on k) .node) .0
-
   list-loop-less : list-lts.Need-loop-less list-calls (list-at t) list.Post list-Inv-loop list-μ-loop
   list-loop-less c =
       let k = turn (c .before .before .before .before .before .before) in
-      let m = going-more (going k (some k)) (on k) in
-      omega (arith, c .next .ensures, m .forward, m .inside, on k)
+      omega (arith, c .next .ensures, next k .forward, next k .inside, on k)
 
   list-loop-again : list-lts.Need-loop-again list-calls (list-at t) list.Post list-Inv-loop list-μ-loop
   list-loop-again c =
@@ -415,9 +388,6 @@ module _ (t : ℕ) where
       let more = left-as j (some (turn k)) _ l .1 in
       rw (c .before .showing .ensures) (record {
         going = λ y. going-on (going (turn k) y) (on (turn k)) _ (c .next .ensures) (left-as j y _ l .0);
-        outer-is = i .outer-is;
-        floor-is = i .floor-is;
-        size = same-length-left j ∙ i .size;
         kept = kept-start j;
         extends = record { defined = omega (arith, more .defined, i .extends .defined); associated = omega (arith, more .associated, i .extends .associated) };
       })
@@ -427,11 +397,25 @@ module _ (t : ℕ) where
       let l = c .before .before .before .loop in (
         λ bound codes es h r. (
           rw (c .before .down-to .ensures)
-              (going-over (l .inv .going (record { bound = bound; codes = codes; nodes = es; here = h; ready = r })) (c .before .before .loop-test .left) _ (l .inv .floor-is)),
-          c .back-to .ensures ∙ l .inv .outer-is,
+              (going-over (l .inv .going (record { bound = bound; codes = codes; nodes = es; here = h; ready = r })) (c .before .before .loop-test .left)),
+          c .back-to .ensures,
         ),
         l .inv .kept,
       )
 
 pub +call+finish+list-spec : {M : Type 1} → statement M
-+call+finish+list-spec = close μ-call μ-finish μ-list (λ t. call-lts.spec (call-calls t) (call-at t) call.Post (call-returns t) (λ c. search needs) (λ c. search needs) (λ c. search needs) (call-spread-requires t) (λ c κs. search needs) (call-list-requires t) (λ c. search needs) (λ c. search needs) (call-returned-requires t) (λ c κs. search needs) (λ c. search needs) (call-returns-2 t) (λ c. search needs) (call-returns-3 t)) (λ t. finish-lts.spec (finish-calls t) (finish-at t) finish.Post (λ c. search needs) (λ c. search needs) (λ c. search needs) (finish-finish-requires t) (λ c. search needs) (λ c κs. search needs) (finish-call-requires t) (finish-returns t) (λ c. search needs) (finish-returns-2 t) (λ c. search needs) (finish-returns-3 t)) (λ t. list-lts.spec (list-calls t) (list-at t) list.Post list-Inv-loop list-μ-loop (list-loop-holds t) (list-at-requires t) (list-begin-requires t) (λ c. search needs) (λ c. search needs) (λ c κs. search needs) (λ c κs. search needs) (list-list-requires t) (list-finish-requires t) (λ c. search needs) (list-same-length t) (list-returns t) (λ c. search needs) (λ c κs. search needs) (list-next-requires t) (list-loop-less t) (list-loop-again t) (λ c κs. search needs) (λ c κs. search needs) (λ c. search needs) (list-returns-2 t))
++call+finish+list-spec = close μ-call μ-finish μ-list
+    (λ t. call-lts.spec (call-calls t) (call-at t) call.Post (λ c. (λ bound codes body behind h vs z. call-refused z _ (c .if1 .taken), refl))
+    (λ c. search needs) (λ c. search needs) (λ c. search needs) (call-spread-requires t) (λ c κs. search needs) (call-list-requires t) (λ c. search needs)
+    (λ c. search needs) (call-returned-requires t) (λ c κs. search needs) (λ c. search needs) (call-returns-2 t) (λ c. search needs) (call-returns-3 t))
+    (λ t. finish-lts.spec (finish-calls t) (finish-at t) finish.Post (λ c. search needs) (λ c. search needs) (λ c. search needs)
+    (λ c κs. let k = c .before .before .before .before .before in can-make (visible t k) (can-end t k) (c .before .before .before .after .given .1))
+    (λ c. search needs) (λ c κs. search needs) (finish-call-requires t) (λ c. (rw (c .before .ended .given .1) refl, refl)) (λ c. search needs)
+    (finish-returns-2 t) (λ c. search needs) (finish-returns-3 t))
+    λ t. list-lts.spec (list-calls t) (list-at t) list.Post list-Inv-loop list-μ-loop
+    (λ c. record { going = λ y. going-start (y .ready); kept = refl; extends = extends-none _ }) (λ c κs. node-whole _ _ _ _ (next t c .node)) (list-begin-requires t)
+    (λ c. search needs) (λ c. search needs) (λ c κs. search needs) (λ c κs. search needs) (list-list-requires t) (list-finish-requires t) (λ c. search needs)
+    (λ c. let j = c .before .before .before in same-length-left t j ∙ going t (turn t (j .before)) (some t (turn t (j .before))) .others .size) (list-returns t)
+    (λ c. search needs) (λ c κs. search needs) (λ c κs. node-whole _ _ _ _ (next t (turn t (c .before .before .before .before .before)) .node) .0) (list-loop-less t)
+    (list-loop-again t) (λ c κs. search needs) (λ c κs. search needs)
+    (λ c. let l = c .before .before .before in l .loop .inv .going (l .before .before .before .before .before .pre .1) .others .size) (list-returns-2 t)
