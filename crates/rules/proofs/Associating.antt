@@ -1,27 +1,36 @@
 -- The rule of ns, by what the code asks: where the form stands, its elements, and what is known. Document 01: "( ns ref id ), top level only:
 -- associates ref's marker with id, an array of 1 to 64 bytes", refusals 13, 11, 14, 19. Assumes nothing.
 use Prim.Native.Nat.{ℕ, _+_, _-_, _≤_}
-use mathlib.Core.Path.{_≡_, refl, _∙_}
+use mathlib.Core.Path.{_≡_, refl, sym, _∙_}
 use mathlib.Core.List.{List}
 use mathlib.Core.Bool.{_||_}
 use native.Mathlib.Omega.{arith}
 use lib.ListN.{length}
+use lib.Seq.{slice}
 use lib.Dec.{ltb, leb, eqb}
 use borrow.Author.Tests.{ltb-false, le-ltb}
 use Rattle.spec.specs.Expr.{if_then_else_, some, array, ref, form, only}
 use Rattle.spec.specs.Nodes.{ns, Node, leaf, branch, Nodes, empty, cons, unnumbered-all, head-word, markers-all}
-use Rattle.spec.specs.Plan.{Within, top, Here, Plan, refuse, associate, clash, plan-ns}
+use Rattle.spec.specs.Plan.{Namespace, Within, top, Here, Plan, refuse, associate, clash, plan-ns}
 use Rattle.laws.proofs.Basics.{impossible, by-test, both-false}
 use Rattle.rows.specs.Rows.{cell, LeafAt, NodesAt, parts-of}
+use Rattle.rows.specs.declared.forms.Form.{Form}
+use Rattle.rows.specs.declared.forms.Node.the-variants.{Branch}
 use Rattle.rows.specs.declared.forms.Parts.{Parts}
 use Rattle.rows.proofs.Nodes.{leaf-array}
-use Rattle.rows.proofs.Parts.{two-at, reference-at}
+use Rattle.rows.proofs.Parts.{node-named, reference-at, two-at}
 use Rattle.workspace.specs.Completed.{Atoms}
 use Rattle.rules.specs.Entries.{stream, id, association}
-use Rattle.rules.specs.Associations.{AssociationAt}
+use Rattle.rules.specs.Scope.{latest, View, view}
+use Rattle.rules.specs.Associations.{AssociationAt, Linked, SomeLinked}
 use Rattle.rules.specs.Settings.{ElementOf, of-top, of-data, of-other}
+use Rattle.rules.specs.Planned.{refuses, Planning, Answers}
 use Rattle.rules.specs.declared.here.Within.{Within as Listed}
 use Rattle.rules.specs.declared.here.Within.the-variants.{Top}
+use Rattle.rules.specs.declared.here.Here.{Here as Code}
+use Rattle.rules.specs.declared.plan.Task.the-variants.{Refuse}
+use Rattle.rules.proofs.Latest.{latest-length}
+use Rattle.rules.proofs.Linking.{linked-length}
 use Rattle.rules.proofs.Expecting.{refused-two, refused-ref, refused-array, array-at}
 
 -- Where it stands
@@ -73,8 +82,7 @@ module _ (s t : List ℕ) (r end : ℕ) (es : Nodes) (p : Parts) (at : NodesAt s
         array-there = b .2;
       }
 
-  -- 11, unless they stand there, and the array has 1 to 64 bytes
-  pub ns-refused : (earlier : List ℕ) (h : Here)
+  ns-refused : (earlier : List ℕ) (h : Here)
       → (p .count ≡ 3 → cell t (p .second) 0 ≡ 4 → (bs : List ℕ) → LeafAt s t (p .third) (array bs) → 1 ≤ length bs → length bs ≤ 64 → ⊥)
       → plan-ns (top earlier) es h ≡ refuse 11
   ns-refused earlier h right =
@@ -82,6 +90,17 @@ module _ (s t : List ℕ) (r end : ℕ) (es : Nodes) (p : Parts) (at : NodesAt s
       by-test (λ (x : Plan). x ≡ refuse 11) (ltb (length bs) 1 || ltb 64 (length bs)) (λ q. refl) (λ q.
       let sizes = both-false (ltb (length bs) 1) (ltb 64 (length bs)) q in
       absurd (right n (k .row .kind-is) bs l (ltb-false (length bs) 1 (sizes .0)) (ltb-false 64 (length bs) (sizes .1)))))))
+
+  -- 11, unless they stand there, and the array has 1 to 64 bytes
+  pub ns-refuses : {args : List ℕ} {v : View} {here : Code} {row : ℕ} → here .within ≡ Top
+      → (p .count ≡ 3 → cell t (p .second) 0 ≡ 4 → (bs : List ℕ) → LeafAt s t (p .third) (array bs) → 1 ≤ length bs → length bs ≤ 64 → ⊥)
+      → Answers s t args v here (branch row es) (λ h. plan-ns (h .within) es h) (Refuse 11)
+  ns-refuses there right = λ w st h set. let k = top-at (set .element-of) there in rw (k .is, ns-refused (k .earlier) h right) (refuses 11)
+
+-- the array's bytes are the last of its row's
+pub array-part : {s t : List ℕ} {r : ℕ} {bs : List ℕ} {from to : ℕ} → LeafAt s t r (array bs) → from ≡ cell t r 2 - length bs → to ≡ cell t r 2
+    → (from ≤ to) × (to - from ≡ length bs) × (slice from to s ≡ bs)
+array-part l begins ends = let a = leaf-array l in (omega arith, omega (arith, a .1), rw (begins, ends) (a .0))
 
 -- What is known
 
@@ -96,22 +115,37 @@ module _ {s t : List ℕ} {p : Parts} {es : Nodes} (g : NsAt s t p es) (some-byt
   pub ns-association : (from : ℕ) → from ≡ cell t (p .third) 2 - length (g .id)
       → AssociationAt s (association (g .marker) (id stream from (length (g .id)))) (record { marker = g .marker; id = g .id })
   ns-association from e =
-      let a = leaf-array (g .array-there) in
-      let to : from + length (g .id) ≡ cell t (p .third) 2 = omega (arith, a .1) in
+      let to : from + length (g .id) ≡ cell t (p .third) 2 = omega (arith, leaf-array (g .array-there) .1) in
       record {
         place = from;
         is = refl;
         marker-short = g .reference .spells .1;
         some-bytes = some-bytes;
         few-bytes = few-bytes;
-        inside = omega (arith, a .1, g .array-there .row .ends);
+        inside = omega (arith, g .array-there .row .ends);
         short = g .array-there .row .short;
-        bytes = rw (to, e) (a .0);
+        bytes = array-part (g .array-there) e to .2;
       }
+
+pub linked-count : (s associations : List ℕ) (n : ℕ) (ks : List Namespace) → Linked s (latest associations n) ks → n ≡ length ks
+linked-count s associations n ks l = sym (latest-length associations n) ∙ linked-length s (latest associations n) ks l
+
+-- something is
+module _ {s t args : List ℕ} {here : Code} {f : Form} where
+  pub some-linked : (associations definitions : List ℕ) → Planning s t args (view associations definitions (here .scope)) here (Branch f)
+      → SomeLinked s associations (here .scope)
+  some-linked associations definitions p = record {
+    namespaces = p .here .namespaces;
+    linked = p .setting .sees .associations;
+    few = omega (arith, p .setting .sees .most, latest-length associations (here .scope .associated));
+  }
+
+  pub some-earlier : {v : View} → Planning s t args v here (Branch f) → here .within ≡ Top → (es : Nodes) × NodesAt s t 0 (f .row) es
+  some-earlier p e = let k = top-at (p .setting .element-of) e in (k .before, rw (node-named (p .is)) (k .at))
 
 -- the form stands for itself: it is of atoms
 pub ns-atoms : {s t : List ℕ} {p : Parts} {es : Nodes} (g : NsAt s t p es) → head-word es ≡ ns → Atoms es
-ns-atoms g e = rw (g .is) (go (g .head) _ (rw (g .is) at e) tt)
+ns-atoms {p = p} g e = rw (g .is) (go (g .head) (cons (leaf (p .second) (ref (g .marker) (g .name))) (cons (leaf (p .third) (array (g .id))) empty)) (rw (g .is) at e) tt)
   where
     go : (h : Node) (fs : Nodes) → head-word (cons h fs) ≡ ns → Atoms fs → Atoms (cons h fs)
     go (leaf q a) fs e rest = rest

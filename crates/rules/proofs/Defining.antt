@@ -1,23 +1,35 @@
 -- The rule of define, by what the code asks: where the form stands, its elements, and what is known. Document 01: "( define ref value )", refusals 13,
 -- 11, 14, 19. Assumes nothing.
-use Prim.Native.Nat.{ℕ, _+_}
-use mathlib.Core.Path.{_≡_, refl, _∙_}
+use Prim.Native.Nat.{ℕ, _+_, _<_}
+use mathlib.Core.Path.{_≡_, refl, sym, _∙_}
 use mathlib.Core.List.{List}
-use mathlib.Core.Bool.{Bool, true, false}
-use native.Mathlib.Omega.{arith}
+use mathlib.Core.Bool.{true, false}
 use lib.ListN.{length}
 use lib.Dec.{leb}
 use Rattle.spec.specs.Expr.{if_then_else_, ref}
 use Rattle.spec.specs.Nodes.{subst, rest, Node, leaf, branch, Nodes, empty, cons, elements, tail, headed-by}
-use Rattle.spec.specs.Plan.{function, Within, inner, Here, as-definition, Plan, refuse, define-function, inside, undefinable, plan-definition, plan-define}
+use Rattle.spec.specs.Plan.{function, Scope as Definitions, Within, inner, Here, as-definition, Plan, refuse, define-function, inside, undefinable, plan-definition, plan-define}
+use Rattle.laws.specs.Holding.{skip}
 use Rattle.laws.proofs.Basics.{impossible, by-test}
-use Rattle.rows.specs.Rows.{cell, LeafAt, NodeAt, NodesAt, parts-of}
+use Rattle.laws.proofs.Fits.{Fits}
+use Rattle.rows.specs.Rows.{cell, LeafAt, NodeAt, NodesAt, parts-of, key-of}
+use Rattle.rows.specs.Forms.{starting-at}
+use Rattle.rows.specs.declared.forms.Form.{Form}
 use Rattle.rows.specs.declared.forms.Parts.{Parts}
 use Rattle.rows.proofs.Nodes.{form-row, form-nodes}
-use Rattle.rows.proofs.Parts.{TwoAt, two-at, reference-at}
-use Rattle.rules.specs.Settings.{CodeAt, ElementOf, of-top, of-data, of-other}
+use Rattle.rows.proofs.Parts.{reference-at, two-at}
+use Rattle.rules.specs.Entries.{function-bit}
+use Rattle.rules.specs.Scope.{latest, View}
+use Rattle.rules.specs.Settings.{CodeAt, Shows, ElementOf, of-top, of-data, of-other}
+use Rattle.rules.specs.Planned.{one-more, define-finishes, Planned, defines, goes-inside}
+use Rattle.rules.specs.declared.scope.Scope.{Scope}
 use Rattle.rules.specs.declared.here.Within.{Within as Listed}
 use Rattle.rules.specs.declared.here.Within.the-variants.{Inner}
+use Rattle.rules.specs.declared.plan.Making.the-variants.{Define}
+use Rattle.rules.specs.declared.plan.After.the-variants.{Make}
+use Rattle.rules.specs.declared.plan.Task.the-variants.{Function, Inside}
+use Rattle.rules.proofs.Latest.{latest-length}
+use Rattle.rules.proofs.Shown.{shows-length}
 use Rattle.rules.proofs.Expecting.{refused-two, refused-ref}
 
 -- Where it stands
@@ -79,8 +91,28 @@ pub define-rule : {s t : List ℕ} {end : ℕ} {p : Parts} {es : Nodes} (g : Def
     inside 2 inner (as-definition (g .marker) (g .name)))
 define-rule g no-rest h = rw (g .is, no-rest)
 
+pub shows-count : (s t w : List ℕ) (floor : ℕ) (definitions : List ℕ) (n : ℕ) (ds : Definitions) → Shows s t w floor (latest definitions n) ds → n ≡ length ds
+shows-count s t w floor definitions n ds h = sym (latest-length definitions n) ∙ shows-length s t w floor (latest definitions n) ds h
+
+-- What is planned
+
 -- a form headed by `subst` is code
 pub code-headed : (s t : List ℕ) (r : ℕ) (e : Node) → NodeAt s t r e → headed-by subst e ≡ true → CodeAt s t r (tail (elements e))
 code-headed s t r (leaf q a) h e = impossible (cc)
 code-headed s t r (branch q empty) h e = impossible (cc)
 code-headed s t r (branch q (cons x es)) h e = record { form = form-row s t r q (cons x es) h; head = x; elements = form-nodes s t r q (cons x es) h }
+
+module _ {s t w : List ℕ} {floor q : ℕ} {v : View} {sc : Scope} (f : Form) {p : Parts} {es : Nodes} (g : DefineAt s t (f .end) p es)
+    (k : ℕ) (key : k ≡ key-of (g .marker) (g .name)) (fits : Fits (ref (g .marker) (g .name))) (room : length (v .definitions) < 256) where
+  pub function-planned : headed-by subst (g .value) ≡ true
+      → Planned s t w floor v sc (branch q es) (Function (k + function-bit) (p .third))
+      (define-function (record { marker = g .marker; name = g .name; content = function (tail (elements (g .value))) }))
+  function-planned e = rw key (defines (g .marker) (g .name) (p .third) (tail (elements (g .value))) fits room (code-headed s t (p .third) (g .value) (g .there) e))
+
+  pub value-planned : headed-by rest (g .value) ≡ false
+      → Planned s t w floor v sc (branch q es) (Inside (starting-at (p .third) f) (Make (Define k))) (inside 2 inner (as-definition (g .marker) (g .name)))
+  unfolding skip
+  value-planned no-rest =
+      rw (key, g .is)
+      (goes-inside (starting-at (p .third) f) 2 inner (as-definition (g .marker) (g .name)) (Make (Define (key-of (g .marker) (g .name)))) (g .from)
+      (define-finishes (g .marker) (g .name) fits room (one-more (g .head) (leaf (p .second) (ref (g .marker) (g .name))) (g .value) no-rest)))

@@ -337,18 +337,18 @@ fn named(s: &[u8], table: &[u32], definitions: &[u64; 256], here: Here, form: Fo
 }
 
 // A form whose head is no reference: a call of a `subst` form, or data.
-fn unnamed(s: &[u8], table: &[u32], scope: Scope, form: Form) -> Task
+fn unnamed(s: &[u8], table: &[u32], here: Here, form: Form) -> Task
     requires { ⌜ SomeNodes (now s) (now table) form ⌝ }
     requires { ⌜ ((es : Nodes) → NodesAt (now s) (now table) (form .first) (form .end) es → led-by-reference es ≡ false) ⌝ }
-    ensures { λ r. ⌜ ((associations definitions args : List ℕ) (here : Here) → here .scope ≡ scope
-        → AnswersForm (now (s .entry)) (now (table .entry)) args (view associations definitions scope) here form (λ es h. plan-other es (h .scope)) r) ⌝ }
+    ensures { λ r. ⌜ ((associations definitions args : List ℕ)
+        → AnswersForm (now (s .entry)) (now (table .entry)) args (view associations definitions (here .scope)) here form (λ es h. plan-other es (h .scope)) r) ⌝ }
 {
     if form.is_empty() {
         return make(form, Making::Form);
     }
     let first = form.first;
     if is_subst(forms::word_at(s, table, first)) {
-        return call(form.rest(table), code_at(table, first), scope);
+        return call(form.rest(table), code_at(table, first), here.scope);
     }
     make(form, Making::Form)
 }
@@ -377,7 +377,7 @@ fn branch(
             if form.is_named(table) {
                 return named(s, table, definitions, here, form);
             }
-            unnamed(s, table, here.scope, form)
+            unnamed(s, table, here, form)
         }
     }
 }
