@@ -2,18 +2,16 @@
 -- Document 01: "The stream must begin with exactly the six bytes", "Result". Assumes nothing.
 use Prim.Native.Nat.{ℕ, _+_, _-_, _/_, _≤_, _<_, min}
 use mathlib.Core.Path.{_≡_, refl, sym, ap, _∙_}
-use mathlib.Core.List.{List, [], _++_}
+use mathlib.Core.List.{List, _++_}
 use mathlib.Core.Bool.{Bool, true, false, not, _&&_}
 use lib.ListN.{length, take, drop, length-append, length-take}
 use lib.Seq.{take-append-le}
 use lib.Dec.{eqb}
-use borrow.Author.Tests.{eqb-true, eqb-false, eq-eqb, ne-eqb}
 use native.Mathlib.Omega.{arith}
-use Rattle.spec.specs.Expr.{same, nil, array, int, ref, Expr, atom, form, Exprs, none, more, rows, rows-all, canonical}
+use Rattle.spec.specs.Expr.{same, nil, array, int, ref, if-ref, Expr, atom, form, Exprs, none, more, rows, rows-all, canonical}
 use Rattle.spec.specs.Reading.{Row, row-width, readable}
-use Rattle.spec.specs.Nodes.{core, version, Node, elements, number, number-all, empty, markers-all}
-use Rattle.spec.specs.Runs.{End, stopped, give, Held, kept, ceased, hold-events, hold, forget, cut, steps-in}
-use Rattle.spec.specs.Plan.{top}
+use Rattle.spec.specs.Nodes.{core, version, Node, leaf, branch, Nodes, empty, cons, number, number-all, elements, markers-all}
+use Rattle.spec.specs.Runs.{End, stopped, give, Held, reached, ceased, hold-events, hold, forget, cut, steps-in}
 use Rattle.spec.specs.Evaluation.{Left, run-code, start, run, result}
 use Rattle.spec.specs.Calls.{filled, reading, is-versioned, version-bytes, end-answer, Evaluate}
 use Rattle.laws.specs.Demands.{Bytes, Lent}
@@ -23,42 +21,46 @@ use Rattle.laws.proofs.Reading.{Meant, read-readable, read-meant}
 use Rattle.laws.proofs.Values.{number-all-fits, run-proper}
 use Rattle.laws.proofs.Holding.{hold-bind, hold-reached, hold-ceased-row, hold-run}
 use Rattle.laws.proofs.Calls.{unversioned, wrong-version, runs, evaluation-answered, cut-refused, not-accepted}
-use Rattle.rows.specs.Rows.{cell, NodeAt, NodesAt, key-of, head-key}
-use Rattle.rules.specs.Scope.{Entry}
-use Rattle.rules.specs.Associations.{Named}
-use Rattle.rules.specs.Planned.{Shows, no-code, at-top}
+use Rattle.rows.specs.Rows.{cell, LeafAt, NodeAt, NodesAt, key-of}
+use Rattle.rows.specs.Forms.{IsNode, is-leaf, is-branch, led-by-reference}
+use Rattle.rows.specs.declared.forms.Node.{Node as Ranged}
+use Rattle.rows.specs.declared.forms.Node.the-variants.{Leaf}
+use Rattle.rows.proofs.Nodes.{leaf-fits, nodes-first}
+use Rattle.rows.proofs.Filled.{filled-nodes, filled-starts}
+use Rattle.rows.proofs.Keys.{key-test}
+use Rattle.rows.proofs.Parts.{LedAt}
+use Rattle.workspace.specs.declared.values.State.{State}
+use Rattle.rules.specs.Scope.{latest, view}
+use Rattle.rules.specs.Associations.{Linked}
+use Rattle.rules.specs.Settings.{at-top-level, Shows, no-code, of-top}
+use Rattle.rules.specs.declared.scope.Scope.{Scope}
+use Rattle.rules.specs.declared.here.Here.{Here as Seen}
 use Rattle.evaluator.specs.Listed.{Ready, Over, Met}
 use Rattle.evaluator.specs.Evaluated.{HasRead, ResultStands, Ended, Evaluated}
+use Rattle.evaluator.specs.declared.element.Left.{Left as Answer}
+use Rattle.evaluator.specs.declared.element.Left.the-variants.{Done, Refused as Stopped}
 use Rattle.evaluator.specs.declared.Result.the-variants.{Is, Refused}
-use Rattle.workspace.specs.declared.values.State.{State}
-use Rattle.workspace.specs.declared.values.Out.{Out}
-use Rattle.workspace.specs.declared.values.Out.the-variants.{Done, Refused as Stopped}
-use Rattle.rules.specs.declared.here.Within.the-variants.{Top}
-use Rattle.rows.proofs.Nodes.{nodes-first}
-use Rattle.rows.proofs.Filled.{filled-nodes, filled-starts}
-use Rattle.rows.proofs.Keys.{key-same, HeadFits, head-fits}
 
 -- The first expression
 
-key-test : (m n k l : ℕ) → n < 256 → l < 256 → eqb (key-of m n) (key-of k l) ≡ eqb m k && eqb n l
-key-test m n k l h g = go (eqb m k) (eqb n l) refl refl
-  where
-    go : (a b : Bool) → eqb m k ≡ a → eqb n l ≡ b → eqb (key-of m n) (key-of k l) ≡ a && b
-    go true true p q = eq-eqb (key-of m n) (key-of k l) (omega (arith, eqb-true m k p, eqb-true n l q))
-    go true false p q = ne-eqb (key-of m n) (key-of k l) (λ e. eqb-false n l q (key-same m n k l h g e .1))
-    go false b p q = ne-eqb (key-of m n) (key-of k l) (λ e. eqb-false m k p (key-same m n k l h g e .0))
+-- whether a form's elements are headed by `version`
+abbrev pub versioned : Nodes → Bool
+versioned empty = false
+versioned (cons (leaf r a) es) = if-ref a (λ m n. eqb m core && eqb n version) false
+versioned (cons (branch r fs) es) = false
 
--- it is headed by `version` if its head's key is that name's
-version-key : (r : ℕ) (e : Expr) (es : Exprs) → HeadFits (elements (number r e))
-    → eqb (head-key (elements (number r e))) (key-of core version) ≡ is-versioned (more e es)
+-- the first of a stream
+pub record FirstAt (s u : List ℕ) (es : Exprs) : Type 0 where
+  pub head : Node
+  pub at : NodeAt s u 0 head
+  pub is : versioned (elements head) ≡ is-versioned es
+
+first-versioned : (e : Expr) (es : Exprs) → versioned (elements (number 0 e)) ≡ is-versioned (more e es)
 unfolding number
-version-key r (atom a) es h = refl
-version-key r (form none) es h = refl
-version-key r (form (more (atom nil) fs)) es h = refl
-version-key r (form (more (atom (array bs)) fs)) es h = refl
-version-key r (form (more (atom (int v)) fs)) es h = refl
-version-key r (form (more (atom (ref m n)) fs)) es h = key-test m n core version (h .2) (omega arith)
-version-key r (form (more (form gs) fs)) es h = refl
+first-versioned (atom a) es = refl
+first-versioned (form none) es = refl
+first-versioned (form (more (atom a) fs)) es = refl
+first-versioned (form (more (form gs) fs)) es = refl
 
 module _ (s u : List ℕ) (n : ℕ) where
   pub versioned-none : (es : Exprs) → NodesAt s u 0 n (number-all 0 es) → n ≡ 0 → false ≡ is-versioned es
@@ -66,19 +68,34 @@ module _ (s u : List ℕ) (n : ℕ) where
   versioned-none none at h = refl
   versioned-none (more e es) at h = absurd (omega (arith, nodes-first s u 0 n (number 0 e) (number-all (0 + rows e) es) at .0))
 
-  pub versioned-first : Bytes s → (es : Exprs) → NodesAt s u 0 n (number-all 0 es) → 0 < n → (k : ℕ)
-      → ((e : Node) → NodeAt s u 0 e → k ≡ head-key (elements e)) → eqb k (key-of core version) ≡ is-versioned es
+  pub versioned-first : (es : Exprs) → NodesAt s u 0 n (number-all 0 es) → 0 < n → FirstAt s u es
   unfolding number NodeAt
-  versioned-first b none at h k is = absurd (omega (arith, at))
-  versioned-first b (more e es) at h k is =
-      let here = nodes-first s u 0 n (number 0 e) (number-all (0 + rows e) es) at .1 in
-      rw (is (number 0 e) here) (version-key 0 e es (head-fits s u 0 b (number 0 e) here))
+  versioned-first none at h = absurd (omega (arith, at))
+  versioned-first (more e es) at h =
+      record { head = number 0 e; at = nodes-first s u 0 n (number 0 e) (number-all (0 + rows e) es) at .1; is = first-versioned e es }
+
+pub versioned-leaf : {s u : List ℕ} {node : Ranged} {e : Node} {r : ℕ} → IsNode s u node e → node ≡ Leaf r → false ≡ versioned (elements e)
+versioned-leaf (is-leaf r a l) q = refl
+versioned-leaf (is-branch f es nodes) q = impossible (cc)
+
+pub versioned-unled : (es : Nodes) → false ≡ led-by-reference es → false ≡ versioned es
+versioned-unled empty h = refl
+versioned-unled (cons (leaf r nil) es) h = refl
+versioned-unled (cons (leaf r (array bs)) es) h = refl
+versioned-unled (cons (leaf r (int v)) es) h = refl
+versioned-unled (cons (leaf r (ref m n)) es) h = impossible (cc)
+versioned-unled (cons (branch r fs) es) h = refl
+
+pub versioned-led : {s u : List ℕ} {r end : ℕ} {es : Nodes} (k : ℕ) → Bytes s → LedAt s u r end es → ((m n : ℕ) → LeafAt s u r (ref m n) → k ≡ key-of m n)
+    → eqb k (key-of core version) ≡ versioned es
+versioned-led k b l is =
+    rw (l .is, is (l .marker) (l .name) (l .here)) (key-test (l .marker) (l .name) core version (leaf-fits b (l .here) .2) (omega arith))
 
 -- A stream that was read
 
 -- before the first expression
 abbrev first-state : ℕ → List ℕ → State
-first-state steps w = record { steps = steps; room = length w; top = 0; floor = length w; names = 0 }
+first-state steps w = record { steps = steps; room = length w; top = 0; floor = length w }
 
 module _ (s t u : List ℕ) (n : ℕ) (rs : List Row) (es : Exprs) (b : Bytes s) (has : HasRead s u n) (reads : reading s t ≡ readable rs es)
     (fills : u ≡ filled rs t) where
@@ -97,47 +114,43 @@ module _ (s t u : List ℕ) (n : ℕ) (rs : List Row) (es : Exprs) (b : Bytes s)
   pub stream-nodes : NodesAt s u 0 n (number-all 0 es)
   stream-nodes = rw (counted, fills) (filled-nodes s t room rs es b reads)
 
-  -- there is no definition, no namespace and no value yet
-  pub stream-ready : (w names args : List ℕ) (sc : List Entry) (steps count to : ℕ) → sc ≡ [] → length w ≤ 65536
-      → Ready s u n 32 w names args sc (first-state steps w) Top (record { depth = 0; count = count; to = to }) 0 n (number-all 0 es) (top []) start
-  unfolding Shows Named NodeAt markers-all
-  stream-ready w names args sc steps count to e short = record {
+  -- there is no definition, no association and no value yet
+  pub stream-ready : (w args associations definitions : List ℕ) (steps : ℕ) (at : Seen) → at ≡ at-top-level → length w ≤ 65536
+      → Ready s u n 32 w args (view associations definitions (at .scope)) (first-state steps w) at 0 n (number-all 0 es) start
+  unfolding latest Shows Linked NodeAt markers-all
+  stream-ready w args associations definitions steps at e short = rw e (record {
     nodes = stream-nodes;
     setting = record {
-      scope = rw e tt;
-      few = rw e (omega arith);
-      namespaces = tt;
-      counted = refl;
-      most = omega arith;
+      sees = record { definitions = tt; few = omega arith; associations = tt; most = omega arith };
       arguments = no-code refl;
-      place = at-top empty refl (λ m. refl);
+      element-of = of-top empty refl (λ m. refl);
     };
     fitting = record { paid = omega arith; below = omega arith; short = short };
     fit = number-all-fits n 0 es (omega (arith, counted, meant .counted)) (meant .fits);
     sound = (tt, tt);
     single = tt;
     entered = refl;
-  }
+  })
 
-  module _ (steps : ℕ) (w w′ names′ : List ℕ) where
+  module _ (steps : ℕ) (w w′ : List ℕ) where
     abbrev held : Held Left
-    held = hold steps (length w) (in-list (run-code 32) (number-all 0 es) (top []) start)
+    held = hold steps (length w) (in-list (run-code 32) (number-all 0 es) start)
 
     -- the run's own result, and the values of the list
     run-held : {x : Held Left} → held ≡ x
-        → and-hold (hold steps (length w) (run es)) (λ ls a c. kept (result ls) a c) ≡ and-hold x (λ left a c. kept (left .values) a c)
+        → and-hold (hold steps (length w) (run es)) (λ ls a c. reached (result ls) a c) ≡ and-hold x (λ left a c. reached (left .values) a c)
     unfolding hold-events
     run-held q =
         sym (hold-bind steps (length w) (run es) (λ ls. give (result ls)))
         ∙ hold-run es steps (length w)
-        ∙ ap (λ (y : Held Left). and-hold y (λ left a c. kept (left .values) a c)) q
+        ∙ ap (λ (y : Held Left). and-hold y (λ left a c. reached (left .values) a c)) q
 
-    run-done : (st : State) → Over s u w w′ names′ (first-state steps w) held st → ResultStands steps w w′ es st
+    run-done : (st : State) → Over w w′ (first-state steps w) held st → ResultStands steps w w′ es st
     run-done st over = go (hold steps (length w) (run es)) refl (run-held (over .is))
       where
         go : (x : Held (List Exprs)) → hold steps (length w) (run es) ≡ x
-            → and-hold x (λ ls a c. kept (result ls) a c) ≡ kept (over .left .values) (st .steps) (st .room) → ResultStands steps w w′ es st
-        go (kept ls a c) e q =
+            → and-hold x (λ ls a c. reached (result ls) a c) ≡ reached (over .left .values) (st .steps) (st .room) → ResultStands steps w w′ es st
+        go (reached ls a c) e q =
             let values : result ls ≡ over .left .values = cc in
             let left : a ≡ st .steps = cc in
             let k = hold-reached steps (length w) (run es) ls a c e in
@@ -154,18 +167,18 @@ module _ (s t u : List ℕ) (n : ℕ) (rs : List Row) (es : Exprs) (b : Bytes s)
     run-ceased : (v r : ℕ) → held ≡ ceased v r → Ended steps w w′ rs es (Stopped v r)
     run-ceased v r is = go (hold steps (length w) (run es)) refl (run-held is)
       where
-        go : (x : Held (List Exprs)) → hold steps (length w) (run es) ≡ x → and-hold x (λ ls a c. kept (result ls) a c) ≡ ceased v r
+        go : (x : Held (List Exprs)) → hold steps (length w) (run es) ≡ x → and-hold x (λ ls a c. reached (result ls) a c) ≡ ceased v r
             → Ended steps w w′ rs es (Stopped v r)
-        go (kept ls a c) e q = impossible (cc)
+        go (reached ls a c) e q = impossible (cc)
         go (ceased x y) e q =
             let stops : hold steps (length w) (run es) ≡ ceased v r = cc in
             let cuts : cut steps (length w) (run es .events) (run es .end) ≡ stopped v r = ap forget stops in
             let low = hold-ceased-row (rows-all es) steps (length w) (run es) v r (run-proper es (meant .fits)) stops in
             (omega (arith, not-accepted v (cut-refused es (meant .fits) steps (length w) v r cuts)), omega (arith, low, meant .counted), cuts)
 
-    pub stream-ended : (out : Out) → Met s u w w′ names′ (first-state steps w) held out → Ended steps w w′ rs es out
-    stream-ended (Done st) over = run-done st over
-    stream-ended (Stopped v r) is = run-ceased v r is
+    pub stream-ended : (sc : Scope) (left : Answer) → Met w w′ sc (first-state steps w) held left → Ended steps w w′ rs es left
+    stream-ended sc (Done st _) (over, back) = run-done st over
+    stream-ended sc (Stopped v r) is = run-ceased v r is
 
 -- What is answered
 

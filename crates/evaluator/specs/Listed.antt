@@ -38,10 +38,10 @@ use Rattle.evaluator.specs.declared.run.Open.{Open}
 
 -- Lists
 
--- the nodes es are a form's elements, and are evaluated under h, in a stream of so many rows, where so many codes more may be entered
-pub record Ready (s t : List ℕ) (bound codes : ℕ) (w args : List ℕ) (v : View) (st : State) (at : Seen) (f : Form) (es : Nodes) (h : Here) : Type 0 where
-  pub nodes : NodesAt s t (f .first) (f .end) es
-  pub setting : Setting s t w args st v at (f .first) h
+-- the nodes es stand from one row up to another, and are evaluated under h, in a stream of so many rows, where so many codes more may be entered
+pub record Ready (s t : List ℕ) (bound codes : ℕ) (w args : List ℕ) (v : View) (st : State) (at : Seen) (first end : ℕ) (es : Nodes) (h : Here) : Type 0 where
+  pub nodes : NodesAt s t first end es
+  pub setting : Setting s t w args st v at first h
   pub fitting : Fitting w st
   pub fit : FitsNodes bound es
   pub sound : SoundHere bound h
@@ -49,12 +49,12 @@ pub record Ready (s t : List ℕ) (bound codes : ℕ) (w args : List ℕ) (v : V
   pub entered : at .frame .depth + codes ≡ 32
 
 -- some nodes do
-pub record SomeReady (s t w args : List ℕ) (v : View) (st : State) (at : Seen) (f : Form) : Type 0 where
+pub record SomeReady (s t w args : List ℕ) (v : View) (st : State) (at : Seen) (first end : ℕ) : Type 0 where
   pub bound : ℕ
   pub codes : ℕ
   pub nodes : Nodes
   pub here : Here
-  pub ready : Ready s t bound codes w args v st at f nodes here
+  pub ready : Ready s t bound codes w args v st at first end nodes here
 
 -- a list that was held to a state's steps and room: it is done, its values stand from the state's top on, and its definitions are given up
 pub record Over (w w′ : List ℕ) (st : State) (held : Held Left) (st′ : State) : Type 0 where

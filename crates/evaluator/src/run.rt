@@ -42,9 +42,9 @@ pub fn list(
     mut state: State,
     form: Form,
 ) -> Left
-    requires { ⌜ SomeReady (now s) (now table) (now w) (now args) (view (now associations) (now definitions) (here .scope)) state here form ⌝ }
+    requires { ⌜ SomeReady (now s) (now table) (now w) (now args) (view (now associations) (now definitions) (here .scope)) state here (form .first) (form .end) ⌝ }
     ensures { λ r. ⌜ ((bound codes : ℕ) (es : Nodes) (h : Known)
-        → Ready (now (s .entry)) (now (table .entry)) bound codes (now (w .entry)) (now (args .entry)) (view (now (associations .entry)) (now (definitions .entry)) (here .scope)) state here form es h
+        → Ready (now (s .entry)) (now (table .entry)) bound codes (now (w .entry)) (now (args .entry)) (view (now (associations .entry)) (now (definitions .entry)) (here .scope)) state here (form .first) (form .end) es h
         → Met (now (w .entry)) (now (w .exit)) (here .scope) state (hold (state .steps) (state .room) (in-list (run-code codes) es h)) r)
         × (view (now (associations .exit)) (now (definitions .exit)) (here .scope) ≡ view (now (associations .entry)) (now (definitions .entry)) (here .scope)) ⌝ }
 {

@@ -3,7 +3,7 @@ use borrow.Author.Needs.{needs}
 use native.Mathlib.Omega.{arith}
 use lib.ListN.{length-take, take}
 use Rattle.spec.specs.Calls.{version-bytes}
-use Rattle.rules.proofs.Linking.{same-long}
+use Rattle.rows.proofs.Same.{same-long}
 use Rattle.evaluator.proofs.has_version.Statement.{statement}
 use Rattle.evaluator.proofs.has_version.Tie as tie
 
