@@ -54,7 +54,7 @@ pub fn list(
     let mut row = form.first;
     while row < end {
         let start = state.top;
-        let node = forms::at(table, row);
+        let e = forms::at(table, row);
         let left = match element::begin(
             s,
             table,
@@ -64,26 +64,16 @@ pub fn list(
             definitions,
             here,
             state,
-            node,
+            e,
         ) {
             Step::Leaves(done) => done,
             Step::Inside {
                 state: inner,
-                list: part,
+                list: sub,
                 after,
             } => {
-                let there = here.entering(after.within());
-                let ended = list(
-                    s,
-                    table,
-                    w,
-                    associations,
-                    args,
-                    definitions,
-                    there,
-                    inner,
-                    part,
-                );
+                let at = here.entering(after.within());
+                let ended = list(s, table, w, associations, args, definitions, at, inner, sub);
                 let opened = Open { row, start, after };
                 finish(s, table, w, associations, definitions, here, ended, opened)
             }

@@ -178,7 +178,16 @@ fn namespace(s: &[u8], table: &[u32], associations: &[u64; 64], here: Here, form
         return Task::Refuse(11);
     }
     let marker = table::key(s, table, p.second) / 256;
-    if namespaces::clash(s, table, associations, here.scope, form.row, marker, from, to) {
+    if namespaces::clash(
+        s,
+        table,
+        associations,
+        here.scope,
+        form.row,
+        marker,
+        from,
+        to,
+    ) {
         return Task::Refuse(14);
     }
     if 64 <= here.scope.associated {
