@@ -17,7 +17,7 @@ use Rattle.laws.specs.Grammar.{SpellsArray, small, generic}
 use Rattle.laws.proofs.Basics.{impossible, by-test}
 use Rattle.laws.proofs.Spelling.{length-spelled}
 use Rattle.laws.proofs.Steps.{none-left}
-use Rattle.atoms.specs.Tokens.{leading-threes, plain, around}
+use Rattle.atoms.specs.Tokens.{leading-threes, around}
 use Rattle.atoms.proofs.Places.{left-at, first-left, around-failed, around-inner, length-many, BehindThrees, behind-threes}
 use Rattle.rows.specs.Rows.{cell, LeafAt}
 use Rattle.rows.specs.Lengths.{EndsAt}
