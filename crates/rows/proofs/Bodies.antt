@@ -4,17 +4,15 @@
 use Prim.Native.Nat.{ℕ, zero, suc, _+_, _-_, _*_, _≤_, _<_}
 use mathlib.Core.Path.{_≡_, refl, sym, ap, _∙_}
 use mathlib.Core.List.{List, [], _∷_, _++_, append-assoc}
-use mathlib.Core.Logic.{_⊎_, inl, inr}
 use native.Mathlib.Omega.{arith}
-use native.Mathlib.Nat.{eq-or-lt-of-le}
+use native.Mathlib.Nat.{lt-of-not-le}
 use lib.ListN.{length, take, drop, getD, length-append, length-drop, take-append-drop}
 use lib.Seq.{drop-drop, drop-append-le, length-take-le, slice, length-slice}
-use lib.Dec.{ltb, leb}
-use borrow.Author.Tests.{ltb-false, leb-true, lt-ltb, le-ltb}
+use borrow.Author.Tests.{lt-ltb, le-ltb, le-leb, lt-leb}
 use Rattle.spec.specs.Expr.{array}
 use Rattle.spec.specs.Reading.{Taken, taken, failed, and-then, take-bytes, natural, as-length, plain-length, length-expr}
 use Rattle.laws.specs.Grammar.{SpellsArray, small, generic}
-use Rattle.laws.proofs.Basics.{impossible, by-test}
+use Rattle.laws.proofs.Basics.{impossible}
 use Rattle.laws.proofs.Spelling.{length-spelled}
 use Rattle.laws.proofs.Steps.{none-left}
 use Rattle.atoms.specs.Tokens.{leading-threes, around}
@@ -70,12 +68,11 @@ module _ {s : List ℕ} {x : Taken ℕ} {end : ℕ} (whole : length s ≤ 65536)
   bytes-there : (j p n : ℕ) → p ≤ length s → x ≡ around j (and-then (take-bytes n (drop p s)) as-length)
       → (p + n ≤ length s) × (x ≡ around j (taken (natural 0 (take (p + n - p) (drop p s))) (drop (p + n) s)))
   unfolding take-bytes
-  bytes-there j p n h =
+  bytes-there j p n h e =
+      let size = length-drop p s in
+      let there = lt-of-not-le {n = suc (length (drop p s))} {m = n} (λ l. not-failed j 2 [] (e ∙ rw (lt-leb n (length (drop p s)) l))) in
       let same : p + n - p ≡ n = omega arith in
-      by-test (λ (y : Taken (List ℕ)). x ≡ around j (and-then y as-length)
-      → (p + n ≤ length s) × (x ≡ around j (taken (natural 0 (take (p + n - p) (drop p s))) (drop (p + n) s)))) (leb n (length (drop p s)))
-      (λ t e. (omega (arith, leb-true n (length (drop p s)) t, length-drop p s), rw (same, ← drop-drop n p s) e))
-      (λ t e. not-failed j 2 [] e)
+      (omega arith, e ∙ rw (le-leb n (length (drop p s)) (omega arith), drop-drop n p s, same))
 
   -- a number with arrays around it is short
   number-short : (k v p : ℕ) → p ≤ length s → x ≡ around k (taken v (drop p s)) → v ≤ 65536
@@ -121,19 +118,13 @@ innermost s at depth end whole h e ends = record {
     all = behind-threes s at depth h e (λ g. impossible (cc (length-many 7 (drop at s) (sym e ∙ g), ends .is)))
 
     inside : at + depth < length s
-    inside = go (eq-or-lt-of-le (all .inside))
-      where
-        go : (at + depth ≡ length s) ⊎ (at + depth < length s) → at + depth < length s
-        go (inl q) = not-failed whole ends depth 2 [] (all .is ∙ rw (none-left s (at + depth) (omega arith)))
-        go (inr l) = l
+    inside = lt-of-not-le (λ l. not-failed whole ends depth 2 [] (all .is ∙ rw (none-left s (at + depth) l)))
 
     begins : length-expr 7 (drop at s) ≡ around depth (plain-length byte (drop (at + depth + 1) s))
     begins = all .is ∙ rw (first-left s (at + depth) inside)
 
     high : 0x80 ≤ byte
-    high =
-        by-test (λ y. length-expr 7 (drop at s) ≡ around depth y → 0x80 ≤ byte) (ltb byte 0x80) (λ t q. not-failed whole ends depth 5 _ q)
-        (λ t q. ltb-false byte 0x80 t) begins
+    high = lt-of-not-le {m = 0x7F} (λ l. not-failed whole ends depth 5 (byte ∷ drop (at + depth + 1) s) (begins ∙ rw (lt-ltb byte 0x80 (omega arith))))
 
 -- Arrays
 

@@ -20,9 +20,6 @@ nested-end-requires c κs =
     let pre = c .before .before .before .before .pre in
     (pre .0, omega (arith, i .inside), (pre .2 .0, rw (← i .int (c .if1 .taken)) (pre .2 .1)))
 
-short-number-requires : tie.Need-short-number-requires
-short-number-requires c κs = let q = there (c .before .before) .array (c .if1 .left) in (omega arith, q .inside, q .short)
-
 nested-end-requires-2 : tie.Need-nested-end-requires-2
 nested-end-requires-2 c κs =
     let pre = c .before .before .before .before .before .pre in
@@ -46,6 +43,6 @@ length-end-spec =
     nested-end-requires
     (λ c. rw (there (c .before .before .before) .int (c .before .if1 .taken)) (c .nested-end .ensures))
     (λ c. omega (arith, there (c .before .before) .array (c .if1 .left) .inside))
-    short-number-requires
+    (λ c κs. let q = there (c .before .before) .array (c .if1 .left) in (omega arith, q .inside, q .short))
     nested-end-requires-2
     returns-2)

@@ -24,12 +24,6 @@ passing c =
     let inv = c .before .loop .inv in
     nested-next (pre .0) (pre .2 .1) _ _ _ (inv .0) (inv .1) (omega arith)
 
-returns : tie.Need-returns Inv-loop μ-loop
-returns c =
-    let pre = c .before .before .before .pre in
-    let inv = c .before .loop .inv in
-    nested-done (pre .0) (pre .2 .1) _ _ _ (inv .0) (inv .1) (omega arith)
-
 pub nested-end-spec : {M : Type 1} → statement M
 nested-end-spec =
     tie.close
@@ -42,4 +36,5 @@ nested-end-spec =
     (λ c. omega arith)
     (λ c. omega arith)
     (λ c. (passing (c .before) .inside, rw (c .short-number .ensures) (passing (c .before) .is)))
-    returns)
+    (λ c. let pre = c .before .before .before .pre in let inv = c .before .loop .inv in
+    nested-done (pre .0) (pre .2 .1) _ _ _ (inv .0) (inv .1) (omega arith)))
