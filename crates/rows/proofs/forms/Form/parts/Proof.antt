@@ -37,7 +37,8 @@ returns-4 c s es h =
     let f = first (c .before .before .before .before .before .before .before) s es h in
     let g = second (c .before .before .before .before .before) s es h in
     let k = third (c .before .before .before) s es h in
-    rw (c .found4 .ensures, f .is, g .is, k .is, nodes-done _ _ _ _ (k .rest) (k .nodes) (omega arith), node-row _ _ _ (g .head) (g .node), node-row _ _ _ (k .head) (k .node))
+    let none = nodes-done _ _ _ _ (k .rest) (k .nodes) (omega arith) in
+    rw (c .found4 .ensures, f .is, g .is, k .is, none, node-row _ _ _ (g .head) (g .node), node-row _ _ _ (k .head) (k .node))
 
 returns-5 : tie.Need-returns-5
 returns-5 c s es h =
