@@ -22,8 +22,5 @@ sub-result c = let given = c .before .before .before .before .pre in omega (arit
 cast-result : tie.Need-cast-result
 cast-result c = let given = c .before .before .before .before .pre in omega (arith, byte c (given .0) (given .1), given .1 .spells .0)
 
-returns : tie.Need-returns
-returns c = λ v l. omega (arith, byte c v l)
-
 pub small-spec : {M : Type 1} → statement M
-small-spec = tie.close (tie.spec (λ c κs. search needs) (λ c. search needs) sub-result cast-result returns)
+small-spec = tie.close (tie.spec (λ c κs. search needs) (λ c. search needs) sub-result cast-result (λ c v l. omega (arith, byte c v l)))
