@@ -133,7 +133,7 @@ module _ {s t : List ℕ} {row at : ℕ} {bs : List ℕ} (start : at ≡ cell t 
   abbrev end : ℕ
   end = cell t row 2
 
-  -- the first byte, what stands behind it, and how much of that is the array's
+  -- the first byte, what stands behind it, and how many bytes the row has
   front : (b : ℕ) (y : List ℕ) → slice at end s ≡ b ∷ y → (getD s at 0 ≡ b) × (drop (at + 1) s ≡ y ++ drop end s) × (end - at ≡ 1 + length y)
   front b y q =
       let there = leaf .row .ends in
