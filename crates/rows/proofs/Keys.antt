@@ -12,9 +12,8 @@ use types.Run.{OneOf, miss}
 use mir.Val.{hasKey}
 use denote.Enum.Declared.{tagOf}
 use native.Mathlib.Omega.{arith}
-use Rattle.spec.specs.Expr.{int, ref, marker-bytes}
-use Rattle.spec.specs.Nodes.{core, Word, plain, order, is, among, word}
-use Rattle.laws.proofs.Basics.{by-test}
+use Rattle.spec.specs.Expr.{if_then_else_, int, ref, marker-bytes}
+use Rattle.spec.specs.Nodes.{core, Word, plain, order, is, names, among, word}
 use Rattle.laws.proofs.Canonical.{Mark, short, long, marker-bytes-are}
 use Rattle.rows.specs.Rows.{cell, LeafAt, key-of}
 use Rattle.rows.specs.Forms.{meant}
@@ -59,19 +58,20 @@ pub no-name : (k : ℕ)
     → (((((Unit {0} × (k ≡ 0x2006 → ⊥)) × (k ≡ 0x2009 → ⊥)) × (k ≡ 0x200A → ⊥)) × (k ≡ 0x200B → ⊥)) × (k ≡ 0x200C → ⊥)) × (k ≡ 0x200D → ⊥)
     → plain ≡ word-of k
 unfolding word among
-no-name k h =
-    by-test (λ (w : Word). plain ≡ w) (eqb (k / 256) core)
-    (λ e.
-    let high = eqb-true (k / 256) core e in
-    rw (
-      ne-eqb 0x06 (k % 256) (λ z. h .0 .0 .0 .0 .0 .1 (omega arith)),
-      ne-eqb 0x09 (k % 256) (λ z. h .0 .0 .0 .0 .1 (omega arith)),
-      ne-eqb 0x0A (k % 256) (λ z. h .0 .0 .0 .1 (omega arith)),
-      ne-eqb 0x0B (k % 256) (λ z. h .0 .0 .1 (omega arith)),
-      ne-eqb 0x0C (k % 256) (λ z. h .0 .1 (omega arith)),
-      ne-eqb 0x0D (k % 256) (λ z. h .1 (omega arith)),
-    ))
-    (λ e. refl)
+no-name k h = go (eqb (k / 256) core) refl
+  where
+    go : (b : Bool) → eqb (k / 256) core ≡ b → plain ≡ if b then among names (k % 256) else plain
+    go false e = refl
+    go true e =
+        let high = eqb-true (k / 256) core e in
+        rw (
+          ne-eqb 0x06 (k % 256) (λ z. h .0 .0 .0 .0 .0 .1 (omega arith)),
+          ne-eqb 0x09 (k % 256) (λ z. h .0 .0 .0 .0 .1 (omega arith)),
+          ne-eqb 0x0A (k % 256) (λ z. h .0 .0 .0 .1 (omega arith)),
+          ne-eqb 0x0B (k % 256) (λ z. h .0 .0 .1 (omega arith)),
+          ne-eqb 0x0C (k % 256) (λ z. h .0 .1 (omega arith)),
+          ne-eqb 0x0D (k % 256) (λ z. h .1 (omega arith)),
+        )
 
 -- the code's words have the numbers that serve to compare them
 word-number : (w : Coded) → tagOf the-type w ≡ order (meant w)
