@@ -48,10 +48,6 @@ spelled-array bs x (small h e) = ((0xC0 + length bs) ∷ [], e, omega arith)
 spelled-array bs x (generic y h e) = (0x03 ∷ y, e, omega arith)
 
 module _ {s t : List ℕ} {r : ℕ} where
-  -- how many bytes a row has
-  row-size : {kind : ℕ} → RowAt s t r kind → length (slice (cell t r 1) (cell t r 2) s) ≡ cell t r 2 - cell t r 1
-  row-size row = length-slice (cell t r 1) (cell t r 2) s (row .ends)
-
   pub leaf-kind : {a : Atom} → LeafAt s t r a → atom-kind a ≡ cell t r 0
   leaf-kind l = sym (l .row .kind-is)
 
@@ -62,7 +58,7 @@ module _ {s t : List ℕ} {r : ℕ} where
       let from = cell t r 1 in
       let to = cell t r 2 in
       let a = spelled-array bs (slice from to s) (l .spells) in
-      let size : length (a .0) + length bs ≡ to - from = sym (length-append (a .0) bs) ∙ ap (λ (x : List ℕ). length x) (sym (a .1)) ∙ row-size (l .row) in
+      let size : length (a .0) + length bs ≡ to - from = sym (length-append (a .0) bs) ∙ ap length (sym (a .1)) ∙ length-slice from to s (l .row .ends) in
       let place : to - length bs ≡ from + length (a .0) = omega (arith, size, a .2, l .row .starts) in (
         ap (λ (k : ℕ). slice k to s) place
             ∙ sym (drop-drop (length (a .0)) from (take to s))
@@ -160,13 +156,9 @@ module _ (s t : List ℕ) (r : ℕ) where
   unfolding NodeAt
   form-nodes q es n = n .2
 
-  -- the row of a node stands, whatever its kind
-  node-stands : (e : Node) → NodeAt s t r e → RowAt s t r (cell t r 0)
-  node-stands (leaf q a) n = let l = leaf-at q a n in subst (RowAt s t r) (leaf-kind l) (l .row)
-  node-stands (branch q es) n = let row = form-row q es n in subst (RowAt s t r) (sym (row .kind-is)) row
-
   pub node-whole : (e : Node) → NodeAt s t r e → (row-width * r + row-width ≤ length t) × (r < 65536)
-  node-whole e n = let row = node-stands e n in (row .inside, row .few)
+  node-whole (leaf q a) n = let l = leaf-at q a n in (l .row .inside, l .row .few)
+  node-whole (branch q es) n = let row = form-row q es n in (row .inside, row .few)
 
   pub more-whole : {end : ℕ} {es : Nodes} → MoreAt s t r end es → (row-width * r + row-width ≤ length t) × (r < 65536)
   more-whole f = node-whole (f .head) (f .node)

@@ -5,7 +5,7 @@ use mathlib.Core.Path.{_≡_, refl, sym, ap, _∙_, subst}
 use mathlib.Core.List.{List}
 use mathlib.Core.Bool.{Bool, true, false}
 use lib.Dec.{leb, eqb}
-use borrow.Author.Tests.{leb-true, leb-false}
+use borrow.Author.Tests.{leb-true, leb-false, eqb-true}
 use native.Mathlib.Omega.{arith}
 use Rattle.spec.specs.Expr.{nil, array, int, ref}
 use Rattle.spec.specs.Nodes.{plain, Node, leaf, branch, Nodes, empty, cons, elements, head-word}
@@ -99,20 +99,11 @@ module _ (s t : List ℕ) where
     led-kind (cons (branch q fs) es) h l = rw (h .2 .1 .kind-is)
 
     pub led-at : (es : Nodes) → NodesAt s t r end es → true ≡ led-by-reference es → LedAt s t r end es
-    unfolding NodeAt
     led-at empty h l = impossible (cc)
-    led-at (cons (leaf q nil) es) h l = impossible (cc)
-    led-at (cons (leaf q (array bs)) es) h l = impossible (cc)
-    led-at (cons (leaf q (int v)) es) h l = impossible (cc)
-    led-at (cons (leaf q (ref m n)) es) h l = record {
-      marker = m;
-      name = n;
-      rest = es;
-      is = ap (λ (k : ℕ). cons (leaf k (ref m n)) es) (h .2 .0);
-      here = h .2 .1;
-      nodes = h .3;
-    }
-    led-at (cons (branch q fs) es) h l = impossible (cc)
+    led-at (cons e es) h l =
+        let f = nodes-first s t r end e es h in
+        let k = reference-at r e (f .1) (eqb-true (cell t r 0) 4 (led-kind (cons e es) h (f .0) ∙ sym l)) in
+        record { marker = k .marker; name = k .name; rest = es; is = ap (λ (x : Node). cons x es) (k .is); here = k .here; nodes = f .2 }
 
     -- its word, by what is the key of every reference there
     pub led-word : {es : Nodes} → Bytes s → LedAt s t r end es → (k : ℕ) → ((m n : ℕ) → LeafAt s t r (ref m n) → k ≡ key-of m n) → word-of k ≡ head-word es

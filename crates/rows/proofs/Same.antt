@@ -2,7 +2,7 @@
 use Prim.Native.Nat.{ℕ, suc, _+_, _≤_, _<_}
 use mathlib.Core.Path.{_≡_, refl, sym, ap}
 use mathlib.Core.List.{List, [], _∷_}
-use mathlib.Core.Bool.{Bool, true, false, _&&_}
+use mathlib.Core.Bool.{true, false, _&&_, and-false}
 use native.Mathlib.Omega.{arith}
 use native.Mathlib.Numerals.{add-one}
 use lib.ListN.{length, drop, getD, drop-of-length-le}
@@ -19,11 +19,7 @@ unfolding same
 same-long [] [] h = absurd (h refl)
 same-long [] (b ∷ y) h = refl
 same-long (a ∷ x) [] h = refl
-same-long (a ∷ x) (b ∷ y) h = go (eqb a b) (same-long x y (λ e. h (ap suc e)))
-  where
-    go : (c : Bool) → false ≡ same x y → false ≡ c && same x y
-    go true e = e
-    go false e = refl
+same-long (a ∷ x) (b ∷ y) h = rw (← same-long x y (λ e. h (ap suc e))) (sym (and-false (eqb a b)))
 
 -- what is left of both, byte by byte
 module _ (x y : List ℕ) (i : ℕ) where

@@ -1,8 +1,7 @@
 -- `rows::compare::same_bytes` meets its contract: the bytes that are left are the same if all are. Assumes nothing.
 use borrow.Author.Needs.{needs}
-use Prim.Native.Nat.{ℕ, _-_}
+use Prim.Native.Nat.{_-_}
 use mathlib.Core.Path.{_≡_, refl, _∙_}
-use mathlib.Core.List.{List}
 use native.Mathlib.Omega.{arith}
 use lib.ListN.{length, drop}
 use Rattle.spec.specs.Expr.{same}
@@ -10,25 +9,11 @@ use Rattle.rows.proofs.Same.{same-long, same-next, same-differs, same-d
 use Rattle.rows.proofs.compare.same_bytes.Statement.{statement}
 use Rattle.rows.proofs.compare.same_bytes.Tie as tie
 
-record Comparing (a b : List ℕ) (i : ℕ) : Type 0 where
-  long : length a ≡ length b
-  all : same (drop i a) (drop i b) ≡ same a b
-
 abbrev Inv-loop : tie.InvT-loop
-Inv-loop a b i₀ i = Comparing a b i
+Inv-loop a b i₀ i = same (drop i a) (drop i b) ≡ same a b
 
 abbrev μ-loop : tie.MeasureT-loop
 μ-loop a b i₀ i = length a - i
-
-returns-2 : tie.Need-returns-2 Inv-loop μ-loop
-returns-2 c =
-    let l = c .before .before .before .before in
-    same-differs _ _ (l .loop .i) (omega arith) (omega arith) (c .if2 .taken) ∙ l .loop .inv .all
-
-loop-again : tie.Need-loop-again Inv-loop μ-loop
-loop-again c =
-    let l = c .before .before .before .before in
-    record { long = l .loop .inv .long; all = same-next _ _ (l .loop .i) (omega arith) (omega arith) (c .if2 .left) ∙ l .loop .inv .all }
 
 pub same-bytes-spec : {M : Type 1} → statement M
 same-bytes-spec =
@@ -37,11 +22,11 @@ same-bytes-spec =
     Inv-loop
     μ-loop
     (λ c. same-long _ _ (c .if1 .taken))
-    (λ c. record { long = c .if1 .left; all = refl })
+    (λ c. refl)
     (λ c. search needs)
     (λ c. search needs)
-    returns-2
+    (λ c. let l = c .before .before .before .before in same-differs _ _ (l .loop .i) (omega arith) (omega arith) (c .if2 .taken) ∙ l .loop .inv)
     (λ c. search needs)
     (λ c. search needs)
-    loop-again
-    (λ c. let l = c .before in same-done _ _ (l .loop .i) (l .loop .inv .long) (c .loop-test .left) ∙ l .loop .inv .all))
+    (λ c. let l = c .before .before .before .before in same-next _ _ (l .loop .i) (omega arith) (omega arith) (c .if2 .left) ∙ l .loop .inv)
+    (λ c. let l = c .before in same-done _ _ (l .loop .i) (l .before .if1 .left) (c .loop-test .left) ∙ l .loop .inv))

@@ -8,8 +8,5 @@ use Rattle.rows.proofs.forms.at.Tie as tie
 returns : tie.Need-returns
 returns c s e h = rw (c .written .ensures) (form-node s _ _ e h (sym (c .before .before .kind .ensures) ∙ c .before .if1 .taken))
 
-returns-2 : tie.Need-returns-2
-returns-2 c s e h = leaf-node s _ _ e h (λ z. c .if1 .left (c .before .kind .ensures ∙ z))
-
 pub at-spec : {M : Type 1} → statement M
-at-spec = tie.close (tie.spec (λ c κs. search needs) (λ c κs. search needs) returns returns-2)
+at-spec = tie.close (tie.spec (λ c κs. search needs) (λ c κs. search needs) returns (λ c s e h. leaf-node s _ _ e h (λ z. c .if1 .left (c .before .kind .ensures ∙ z))))

@@ -19,16 +19,6 @@ asked : (c : tie.After-shared-slice-known4) → let start = c .before .before .b
     RefAt (start .args .s .now) (c .before .before .before .start .result) (c .before .before .end .result) (start .pre .0) (start .pre .1) × (start .pre .0 ≤ 65535)
 asked c = let given = c .before .before .before .before .before .before .pre in (reads c _ _ (given .2), given .2 .spells .1)
 
-add-result : tie.Need-add-result
-add-result c =
-    let given = c .before .shared-slice-known4 .given in
-    omega (arith, given (c .before .before .before .before .start .result), given (c .before .before .before .end .result - 1))
-
-add-result-4 : tie.Need-add-result-4
-add-result-4 c =
-    let a = asked (c .before .before) in
-    omega (arith, a .0 .long (c .before .if1 .left), a .1, c .shared-slice-known5 .given (c .before .before .before .before .end .result - 1))
-
 pub key-spec : {M : Type 1} → statement M
 key-spec =
     tie.close
@@ -41,7 +31,8 @@ key-spec =
     (λ c. search needs)
     (λ c. omega (arith, c .shared-slice-known4 .given (c .before .before .before .start .result)))
     (λ c. omega (arith, c .before .shared-slice-known4 .given (c .before .before .before .before .start .result)))
-    add-result
+    (λ c. let given = c .before .shared-slice-known4 .given in
+    omega (arith, given (c .before .before .before .before .start .result), given (c .before .before .before .end .result - 1)))
     (λ c m n l. let r = reads (c .before) m n l in omega (arith, r .name, r .short (c .if1 .taken)))
     (λ c. search needs)
     (λ c. omega (arith, asked (c .before) .0 .long (c .if1 .left)))
@@ -53,5 +44,6 @@ key-spec =
     (λ c. omega (arith, c .shared-slice-known5 .given (c .before .before .before .before .end .result - 2)))
     (λ c. let a = asked (c .before .before) in omega (arith, a .0 .long (c .before .if1 .left), a .1))
     (λ c. let a = asked (c .before .before) in omega (arith, a .0 .long (c .before .if1 .left), a .1))
-    add-result-4
+    (λ c. let a = asked (c .before .before) in
+    omega (arith, a .0 .long (c .before .if1 .left), a .1, c .shared-slice-known5 .given (c .before .before .before .before .end .result - 1)))
     (λ c m n l. let r = reads (c .before .before) m n l in omega (arith, r .name, r .long (c .before .if1 .left))))

@@ -21,30 +21,12 @@ first : (c : tie.Else1) → let a = c .before .before .before .before .args in
     → MoreAt (a .s .now) (a .table .now) (a .self .first) (a .self .end) es
 first c es h = nodes-more _ _ _ _ es h (before-end (c .before .is-empty .ensures) (c .if1 .left))
 
-returns-2 : tie.Need-returns-2
-returns-2 c es h =
-    let f = first (c .before .before .before) es h in
-    let more = nodes-more _ _ _ _ (f .rest) (f .nodes) (omega arith) in
-    rw (f .is, more .is)
-
-word-at-requires : tie.Need-word-at-requires
-word-at-requires c κs =
-    let pre = c .before .before .before .before .before .before .before .pre in
-    let f = first (c .before .before .before) (pre .nodes) (pre .at) in
-    (f .head, f .node)
-
 -- only one
 single : (c : tie.After-word-at) → let a = c .before .before .before .before .before .before .before .before .args in
     (es : Nodes) → NodesAt (a .s .now) (a .table .now) (a .self .first) (a .self .end) es → not (is (meant (c .word-at .result)) rest) ≡ one-value es
 single c es h =
     let f = first (c .before .before .before .before) es h in
     rw (f .is, nodes-done _ _ _ _ (f .rest) (f .nodes) (omega arith), c .word-at .ensures (f .head) (f .node))
-
-returns-3 : tie.Need-returns-3
-returns-3 c es h = ap (λ (w : Word). not (is (meant w) rest)) (sym (c .enum-told .given .1)) ∙ single (c .before .before) es h
-
-returns-4 : tie.Need-returns-4
-returns-4 c es h = sym (ap not (other-word (c .before .word-at .result) rest (0 ∷ 1 ∷ 2 ∷ 3 ∷ 4 ∷ 6 ∷ []) (c .match .keys2) tt)) ∙ single (c .before) es h
 
 pub is-single-spec : {M : Type 1} → statement M
 is-single-spec =
@@ -53,8 +35,9 @@ is-single-spec =
     (λ c κs. search needs)
     (λ c es h. sym (ap one-value (nodes-done _ _ _ _ es h (at-end (c .before .is-empty .ensures) (c .if1 .taken)))))
     (λ c κs. let pre = c .before .before .before .before .pre in more-whole _ _ _ (first c (pre .nodes) (pre .at)) .0)
-    returns-2
-    word-at-requires
+    (λ c es h. let f = first (c .before .before .before) es h in rw (f .is, nodes-more _ _ _ _ (f .rest) (f .nodes) (omega arith) .is))
+    (λ c κs. let pre = c .before .before .before .before .before .before .before .pre in
+    let f = first (c .before .before .before) (pre .nodes) (pre .at) in (f .head, f .node))
     (λ c. search needs)
-    returns-3
-    returns-4)
+    (λ c es h. ap (λ (w : Word). not (is (meant w) rest)) (sym (c .enum-told .given .1)) ∙ single (c .before .before) es h)
+    (λ c es h. sym (ap not (other-word (c .before .word-at .result) rest (0 ∷ 1 ∷ 2 ∷ 3 ∷ 4 ∷ 6 ∷ []) (c .match .keys2) tt)) ∙ single (c .before) es h))

@@ -26,11 +26,6 @@ third : (c : tie.Else3) → let a = c .before .before .before .before .before .b
     → MoreAt s (a .table .now) (c .before .next2 .result) (a .self .end) (second (c .before .before) s es h .rest)
 third c s es h = nodes-more _ _ _ _ _ (rw (c .before .next2 .ensures) (second (c .before .before) s es h .nodes)) (omega arith)
 
-returns-2 : tie.Need-returns-2
-returns-2 c s es h =
-    let f = first (c .before .before .before) s es h in
-    rw (c .found2 .ensures, f .is, nodes-done _ _ _ _ (f .rest) (f .nodes) (omega arith))
-
 returns-3 : tie.Need-returns-3
 returns-3 c s es h =
     let f = first (c .before .before .before .before .before) s es h in
@@ -42,7 +37,8 @@ returns-4 c s es h =
     let f = first (c .before .before .before .before .before .before .before) s es h in
     let g = second (c .before .before .before .before .before) s es h in
     let k = third (c .before .before .before) s es h in
-    rw (c .found4 .ensures, f .is, g .is, k .is, nodes-done _ _ _ _ (k .rest) (k .nodes) (omega arith), node-row _ _ _ (g .head) (g .node), node-row _ _ _ (k .head) (k .node))
+    let none = nodes-done _ _ _ _ (k .rest) (k .nodes) (omega arith) in
+    rw (c .found4 .ensures, f .is, g .is, k .is, none, node-row _ _ _ (g .head) (g .node), node-row _ _ _ (k .head) (k .node))
 
 returns-5 : tie.Need-returns-5
 returns-5 c s es h =
@@ -61,7 +57,8 @@ parts-spec =
     (λ c s es h. rw (c .found .ensures, nodes-done _ _ _ _ es h (at-end (c .before .before .is-empty .ensures) (c .before .if1 .taken))))
     (λ c κs. more-whole _ _ _ (first c _ _ (c .before .before .before .pre .2)) .0)
     (λ c κs. search needs)
-    returns-2
+    (λ c s es h. let f = first (c .before .before .before) s es h in
+    rw (c .found2 .ensures, f .is, nodes-done _ _ _ _ (f .rest) (f .nodes) (omega arith)))
     (λ c κs. more-whole _ _ _ (second c _ _ (c .before .before .before .before .before .pre .2)) .0)
     (λ c κs. search needs)
     returns-3

@@ -6,9 +6,6 @@ use Rattle.rows.proofs.Parts.{led-at, led-word, unled}
 use Rattle.rows.proofs.forms.Form.word.Statement.{statement}
 use Rattle.rows.proofs.forms.Form.word.Tie as tie
 
-is-named-requires : tie.Need-is-named-requires
-is-named-requires c κs = let pre = c .before .before .pre in (_, pre .nodes, pre .at)
-
 key-requires : tie.Need-key-requires
 key-requires c κs =
     let pre = c .before .before .before .before .pre in
@@ -27,4 +24,4 @@ returns-2 : tie.Need-returns-2
 returns-2 c es h = unled es (sym (c .if1 .left) ∙ c .before .is-named .ensures _ _ h)
 
 pub word-spec : {M : Type 1} → statement M
-word-spec = tie.close (tie.spec is-named-requires key-requires (λ c κs. search needs) returns returns-2)
+word-spec = tie.close (tie.spec (λ c κs. let pre = c .before .before .pre in (_, pre .nodes, pre .at)) key-requires (λ c κs. search needs) returns returns-2)
