@@ -26,9 +26,6 @@ at-end c =
     let l = c .before .before .before in
     spreading-turn _ _ _ _ _ (l .loop .inv) _ (c .before .expression-end .ensures) (λ h. omega (arith, c .put-argument-arg .given)) (c .before .before .loop-test .taken)
 
-loop-again : tie.Need-loop-again Inv-loop μ-loop
-loop-again c = rw (c .put-argument .ensures) (at-end (c .before) .next)
-
 returns : tie.Need-returns Inv-loop μ-loop
 returns c = λ w vs here is fits shallow.
     spreading-end _ _ _ _ _ (c .before .loop .inv) (c .loop-test .left) w vs (record { is = is; fits = fits; shallow = shallow }) here
@@ -46,5 +43,5 @@ spread-spec =
     (λ c κs. omega (arith, at-end c .forward, at-end c .inside, c .put-argument-arg .given))
     (λ c. omega arith)
     (λ c. omega (arith, at-end (c .before) .forward))
-    loop-again
+    (λ c. rw (c .put-argument .ensures) (at-end (c .before) .next))
     returns)

@@ -14,9 +14,6 @@ Inv-loop w₀ from to at p₀ q₀ w p q = Moving w₀ w from to at p q (moved w
 abbrev μ-loop : tie.MeasureT-loop
 μ-loop w₀ from to at p₀ q₀ w p q = to - p
 
-loop-holds : tie.Need-loop-holds Inv-loop μ-loop
-loop-holds c = record { begun = omega arith; within = omega arith; along = omega arith; size = refl; is = refl }
-
 loop-again : tie.Need-loop-again Inv-loop μ-loop
 loop-again c =
     let l = c .before .before .loop in
@@ -29,16 +26,13 @@ loop-again c =
       is = moved-first (l .w) (l .p) to (l .q) (omega arith) (omega arith) (omega arith) ∙ l .inv .is;
     }
 
-returns : tie.Need-returns Inv-loop μ-loop
-returns c = let l = c .before .loop in moved-none (l .w) (l .p) (c .before .before .args .to) (l .q) (omega arith) ∙ l .inv .is
-
 pub move-down-spec : {M : Type 1} → statement M
 move-down-spec =
     tie.close
     (tie.spec
     Inv-loop
     μ-loop
-    loop-holds
+    (λ c. record { begun = omega arith; within = omega arith; along = omega arith; size = refl; is = refl })
     (λ c. search needs)
     (λ c. search needs)
     (λ c. search needs)
@@ -46,4 +40,4 @@ move-down-spec =
     (λ c. search needs)
     loop-again
     (λ c. search needs)
-    returns)
+    (λ c. let l = c .before .loop in moved-none (l .w) (l .p) (c .before .before .args .to) (l .q) (omega arith) ∙ l .inv .is))

@@ -14,9 +14,6 @@ Inv-loop w₀ from to at p₀ q₀ w p q = Moving w₀ w from to at p q (moved w
 abbrev μ-loop : tie.MeasureT-loop
 μ-loop w₀ from to at p₀ q₀ w p q = p
 
-loop-holds : tie.Need-loop-holds Inv-loop μ-loop
-loop-holds c = record { begun = omega arith; within = omega arith; along = omega arith; size = refl; is = refl }
-
 loop-again : tie.Need-loop-again Inv-loop μ-loop
 loop-again c =
     let l = c .before .before .loop in
@@ -44,7 +41,7 @@ move-up-spec =
     μ-loop
     (λ c. search needs)
     (λ c. search needs)
-    loop-holds
+    (λ c. record { begun = omega arith; within = omega arith; along = omega arith; size = refl; is = refl })
     (λ c. search needs)
     (λ c. search needs)
     (λ c. search needs)

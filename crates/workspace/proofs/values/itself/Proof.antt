@@ -20,9 +20,6 @@ Inv-loop s table w₀ state range top room end row₀ n₀ w row n =
 abbrev μ-loop : tie.MeasureT-loop
 μ-loop s table w₀ state range top room end row₀ n₀ w row n = end - row
 
-returns : tie.Need-returns Inv-loop μ-loop
-returns c es at atoms = unpaid (flat-sized es atoms refl) (omega arith)
-
 loop-holds : tie.Need-loop-holds Inv-loop μ-loop
 loop-holds c =
     let a = c .before .before .before .before .args in
@@ -78,7 +75,7 @@ itself-spec =
     (tie.spec
     Inv-loop
     μ-loop
-    returns
+    (λ c es at atoms. unpaid (flat-sized es atoms refl) (omega arith))
     loop-holds
     (λ c. search needs)
     (λ c. search needs)
