@@ -3,12 +3,12 @@
 use Prim.Native.Nat.{ℕ, suc, _+_, _-_, _≤_, _<_}
 use mathlib.Core.Path.{_≡_, refl, sym, ap, _∙_}
 use mathlib.Core.List.{List, [], _∷_, _++_, append-assoc, append-nil}
-use lib.ListN.{length, getD, set, take, drop, length-append, take-append-drop}
-use lib.Seq.{slice, slice-cons, slice-empty, length-slice, length-take-le, take-at, drop-at, take-take, drop-drop, getD-take, getD-drop}
+use lib.ListN.{length, getD, set, take, drop, length-append, length-set, take-append-drop}
+use lib.Seq.{slice, slice-cons, slice-empty, length-slice, length-take-le, take-suc, take-at, drop-at, take-take, drop-drop, drop-append-le, drop-set-lt, take-set-le}
 use native.Mathlib.Omega.{arith}
 use native.Mathlib.Numerals.{add-one}
 use Rattle.writer.specs.Bytes.{put-at, Put}
-use Rattle.writer.proofs.Puts.{length-upto, length-put-at, put-at-more, stored}
+use Rattle.writer.proofs.Puts.{length-upto, length-put-at, stored}
 use Rattle.spec.specs.Expr.{Exprs, none, append, canonical}
 use Rattle.laws.proofs.Canonical.{canonical-append}
 use Rattle.rows.proofs.Slices.{slice-split, slice-take}
@@ -68,15 +68,6 @@ module _ {w w′ : List ℕ} {below from : ℕ} (u : Untouched w w′ below from
   stand-above {a} {b} h there =
       record { order = there .order; inside = omega (arith, u .size, there .inside); bytes = slice-above a b h ∙ there .bytes }
 
-  byte-below : (i : ℕ) → i < below → getD w′ i 0 ≡ getD w i 0
-  byte-below i h =
-      sym (getD-take below w′ i 0 h) ∙ ap (λ (l : List ℕ). getD l i 0) (u .lower) ∙ getD-take below w i 0 h
-
-  byte-above : (i : ℕ) → from ≤ i → getD w′ i 0 ≡ getD w i 0
-  byte-above i h =
-      let far : from + (i - from) ≡ i = omega arith in
-      rw (← far) (sym (getD-drop from w′ (i - from) 0) ∙ ap (λ (l : List ℕ). getD l (i - from) 0) (u .upper) ∙ getD-drop from w (i - from) 0)
-
 -- What is written
 
 module _ (w : List ℕ) (at : ℕ) (bs : List ℕ) (room : at + length bs ≤ length w) where
@@ -112,9 +103,6 @@ put-none w at =
     let here : at + 0 ≡ at = omega arith in
     record { place = omega arith; is = rw (here, append-nil (take at w)) (sym (take-append-drop at w)) }
 
-pub put-length : {w : List ℕ} {at : ℕ} {bs w′ : List ℕ} {past : ℕ} → at + length bs ≤ length w → Put w at bs w′ past → length w′ ≡ length w
-put-length {w} {at} {bs} room put = ap (λ (l : List ℕ). length l) (put .is) ∙ length-put-at w at bs room
-
 -- bytes written, and then those before them
 pub put-before : (w : List ℕ) (at : ℕ) (bs cs : List ℕ) → at + length bs + length cs ≤ length w
     → put-at (put-at w (at + length bs) cs) at bs ≡ put-at w at (bs ++ cs)
@@ -129,9 +117,6 @@ put-before w at bs cs room =
 
 -- Moves, byte for byte
 
-slice-one : (a b : ℕ) (w : List ℕ) → b ≡ a + 1 → a < length w → slice a b w ≡ getD w a 0 ∷ []
-slice-one a b w h h′ = rw (h, add-one a) (slice-cons a (suc a) w 0 (omega arith) (omega arith) ∙ rw (slice-empty (suc a) w))
-
 -- the bytes from one up to another, moved to a third
 abbrev pub moved : List ℕ → ℕ → ℕ → ℕ → List ℕ
 moved w from to at = put-at w at (slice from to w)
@@ -139,46 +124,35 @@ moved w from to at = put-at w at (slice from to w)
 pub moved-none : (w : List ℕ) (from to at : ℕ) → from ≡ to → w ≡ moved w from to at
 moved-none w from to at h = rw (h, slice-empty to w) (put-none w at .is)
 
--- the bytes from one up to another are moved; i of n are or are left
-pub record Moving (w₀ w : List ℕ) (i n from to at : ℕ) : Type 0 where
-  pub few : i ≤ n
+-- of the bytes from one up to another that are moved, those before p or from p on are; `rest` is what moving the others too leaves
+pub record Moving (w₀ w : List ℕ) (from to at p q : ℕ) (rest : List ℕ) : Type 0 where
+  pub begun : from ≤ p
+  pub within : p ≤ to
+  pub along : q + from ≡ at + p
   pub size : length w ≡ length w₀
-  pub is : w ≡ moved w₀ from to at
+  pub is : rest ≡ moved w₀ from to at
 
--- one byte more, of those behind, downwards
-pub moved-next : (w : List ℕ) (from at i : ℕ) → at ≤ from → from + i < length w → let w′ = moved w from (from + i) at in
-    set w′ (at + i) (getD w′ (from + i) 0) ≡ moved w from (from + (i + 1)) at
-moved-next w from at i h h′ =
-    let bs = slice from (from + i) w in
-    let w′ = put-at w at bs in
-    let size : length bs ≡ i = length-slice from (from + i) w (omega arith) ∙ omega arith in
-    let room : at + length bs ≤ length w = omega (arith, size) in
-    let b : ℕ = getD w (from + i) 0 in
-    let same : getD w′ (from + i) 0 ≡ b =
-    byte-above (put-untouched w at bs room at (at + length bs) (omega arith) (omega arith)) (from + i) (omega (arith, size)) in
-    let on : slice from (from + (i + 1)) w ≡ bs ++ (b ∷ []) =
-    slice-split from (from + i) (from + (i + 1)) w (omega arith) (omega arith) (omega arith)
-    ∙ ap (λ (l : List ℕ). bs ++ l) (slice-one (from + i) (from + (i + 1)) w (omega arith) h′) in
-    rw (same, on)
-    (stored w′ (at + i) (b ∷ []) (omega (arith, length-put-at w at bs room)) .is
-    ∙ ap (λ (k : ℕ). put-at w′ (at + k) (b ∷ [])) (sym size)
-    ∙ put-at-more w at bs room (b ∷ []))
+-- the first byte, then the others downwards
+pub moved-first : (w : List ℕ) (p to q : ℕ) → q ≤ p → p < to → to ≤ length w → moved (set w q (getD w p 0)) (p + 1) to (q + 1) ≡ moved w p to q
+moved-first w p to q h h′ h″ =
+    let b : ℕ = getD w p 0 in
+    let cs = slice (suc p) to w in
+    let size = length-slice (suc p) to w h″ in
+    let same : slice (suc p) to (set w q b) ≡ cs =
+    slice-take (suc p) to (set w q b) ∙ ap (take (to - suc p)) (drop-set-lt (suc p) w q b (omega arith)) ∙ sym (slice-take (suc p) to w) in
+    rw (add-one p, add-one q, same, slice-cons p to w 0 h′ h″)
+    (sym (stored (set w q b) (suc q) cs (simp length-set (omega arith)) .is) ∙ stored w q (b ∷ cs) (omega arith) .is)
 
--- one byte more, of those before, upwards
-pub moved-before : (w : List ℕ) (from to at k : ℕ) → from ≤ at → at + (to - from) ≤ length w → 0 < k → from + k ≤ to
-    → let w′ = moved w (from + k) to (at + k) in set w′ (at + (k - 1)) (getD w′ (from + (k - 1)) 0) ≡ moved w (from + (k - 1)) to (at + (k - 1))
-moved-before w from to at k h h′ h″ in-part =
-    let cs = slice (from + k) to w in
-    let w′ = put-at w (at + k) cs in
-    let size : length cs ≡ to - (from + k) = length-slice (from + k) to w (omega arith) in
-    let room : at + k + length cs ≤ length w = omega (arith, size) in
-    let i : ℕ = k - 1 in
-    let b : ℕ = getD w (from + i) 0 in
-    let same : getD w′ (from + i) 0 ≡ b =
-    byte-below (put-untouched w (at + k) cs room (at + k) (at + k + length cs) (omega arith) (omega arith)) (from + i) (omega arith) in
-    let past : suc (from + i) ≡ from + k = omega arith in
-    let behind : at + k ≡ at + i + 1 = omega arith in
-    let on : slice (from + i) to w ≡ b ∷ cs = slice-cons (from + i) to w 0 (omega arith) (omega arith) ∙ rw past in
-    rw (same, on)
-    (stored w′ (at + i) (b ∷ []) (omega (arith, length-put-at w (at + k) cs room)) .is
-    ∙ rw behind (put-before w (at + i) (b ∷ []) cs (omega (arith, room))))
+-- the last byte, then the others upwards
+pub moved-last : (w : List ℕ) (from p at q : ℕ) → from ≤ p → from ≤ at → q + from ≡ at + p → q < length w
+    → moved (set w q (getD w p 0)) from p at ≡ moved w from (p + 1) at
+moved-last w from p at q h h′ along inside =
+    let b : ℕ = getD w p 0 in
+    let bs = slice from p w in
+    let size = length-slice from p w (omega arith) in
+    let past : q ≡ at + length bs = omega arith in
+    let same : slice from p (set w q b) ≡ bs = ap (drop from) (take-set-le p w q b (omega arith)) in
+    let on : slice from (suc p) w ≡ bs ++ (b ∷ []) =
+    ap (drop from) (take-suc w p 0 (omega arith)) ∙ drop-append-le from (take p w) (b ∷ []) (omega (arith, length-take-le p w (omega arith))) in
+    rw (add-one p, same, on)
+    (ap (λ (l : List ℕ). put-at l at bs) (stored w q (b ∷ []) (omega arith) .is ∙ rw past) ∙ put-before w at bs (b ∷ []) (omega arith))

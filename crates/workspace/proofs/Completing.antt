@@ -1,7 +1,7 @@
 -- Laws of completing a value: its bytes written where all that stood there ends, or no room for them; of values that stand in the workspace
 -- already; of a definition's values; of a form's value; of an atom of the stream, and of atoms one after the other.
 -- Document 01: "when an expression's value is complete, its canonical length is charged". Assumes nothing.
-use Prim.Native.Nat.{ℕ, _+_, _-_, _*_, _≤_, _<_, max}
+use Prim.Native.Nat.{ℕ, _+_, _-_, _≤_, _<_}
 use mathlib.Core.Path.{_≡_, refl, sym, ap, _∙_}
 use mathlib.Core.List.{List, [], _∷_, _++_, append-assoc, append-nil}
 use lib.ListN.{length, set, take, drop, length-append, length-take, length-drop}
@@ -10,20 +10,16 @@ use borrow.Author.Tests.{ne-eqb}
 use native.Mathlib.Omega.{arith}
 use Rattle.spec.specs.Expr.{Atom, nil, array, int, ref, atom, form, Exprs, only, depth, deepest, atom-bytes, bytes, canonical}
 use Rattle.spec.specs.Nodes.{leaf, branch, Nodes, empty, cons, unnumbered, unnumbered-all}
-use Rattle.laws.specs.Demands.{Bytes}
-use Rattle.laws.proofs.Fits.{bytes-take, bytes-drop}
-use Rattle.laws.proofs.Shortest.{spelled-fits}
 use Rattle.atoms.specs.Tokens.{atom-head}
-use Rattle.writer.specs.Bytes.{put-at, with-head}
-use Rattle.writer.proofs.Puts.{length-put-at, put-at-more, stored}
+use Rattle.writer.specs.Bytes.{put-at, Put, with-head}
+use Rattle.writer.proofs.Puts.{length-put-at, put-at-more, stored, written-on}
 use Rattle.rows.specs.Rows.{cell, LeafAt, NodeAt, NodesAt}
-use Rattle.rows.specs.declared.forms.Form.{Form}
-use Rattle.workspace.specs.Completed.{Fitting, Stand, with-top, Complete, Incomplete, too-deep, too-long, BodyOf, Atoms, SomeAtoms, Stored}
+use Rattle.workspace.specs.Completed.{Fitting, Stand, with-top, Complete, Incomplete, too-deep, too-long, BodyOf, Atoms, Stored}
 use Rattle.workspace.specs.declared.values.State.{State}
 use Rattle.workspace.specs.declared.values.Body.{Body}
 use Rattle.rows.proofs.Nodes.{leaf-array, leaf-nil, leaf-int, leaf-ref, nodes-done, nodes-first, leaf-at, leaf-skipped}
 use Rattle.rows.proofs.Slices.{slice-take}
-use Rattle.workspace.proofs.Areas.{stand-size, put-untouched, slice-put, put-before, moved}
+use Rattle.workspace.proofs.Areas.{stand-size, put-untouched, slice-put, put-none, put-before, moved}
 
 -- Any values
 
@@ -87,16 +83,16 @@ form-depth vs = omega arith
 pub form-deep : (vs : Exprs) {st : State} {row : ℕ} → 63 < deepest vs → (row ≡ row) × Incomplete st (only (form vs)) 6
 form-deep vs h = (refl, too-deep (omega (arith, form-depth vs)))
 
-module _ (vs : Exprs) (n : ℕ) (size : length (canonical vs) ≡ n) where
-  pub form-sized : deepest vs ≤ 63 → Sized (only (form vs)) (n + 2)
+module _ (vs : Exprs) (n : ℕ) (size : length (canonical vs) + 2 ≡ n) where
+  pub form-sized : deepest vs ≤ 63 → Sized (only (form vs)) n
   form-sized h = record {
     shallow = omega (arith, form-depth vs);
     size = ap length (form-bytes vs) ∙ simp length-append (omega arith);
   }
 
   -- the values written, then 01 before and 02 behind them
-  pub form-written : (w : List ℕ) {w₁ : List ℕ} (start : ℕ) → start + (n + 2) ≤ length w → w₁ ≡ put-at w (start + 1) (canonical vs)
-      → set (set w₁ start 0x01) (start + (n + 2) - 1) 0x02 ≡ put-at w start (canonical (only (form vs)))
+  pub form-written : (w : List ℕ) {w₁ : List ℕ} (start : ℕ) → start + n ≤ length w → w₁ ≡ put-at w (start + 1) (canonical vs)
+      → set (set w₁ start 0x01) (start + n - 1) 0x02 ≡ put-at w start (canonical (only (form vs)))
   form-written w {w₁} start room is =
       let bs = canonical vs in
       let opened : List ℕ = 0x01 ∷ bs in
@@ -104,7 +100,7 @@ module _ (vs : Exprs) (n : ℕ) (size : length (canonical vs) ≡ n) where
       let front : set w₁ start 0x01 ≡ put-at w start opened =
       rw is (stored (put-at w (start + 1) bs) start (0x01 ∷ []) (omega (arith, length-put-at w (start + 1) bs upper)) .is
       ∙ put-before w start (0x01 ∷ []) bs upper) in
-      let past : start + (n + 2) - 1 ≡ start + length opened = omega arith in
+      let past : start + n - 1 ≡ start + length opened = omega arith in
       let lower : start + length opened ≤ length w = omega arith in
       rw (front, past, form-bytes vs)
       (stored (put-at w start opened) (start + length opened) (0x02 ∷ []) (omega (arith, length-put-at w start opened lower)) .is
@@ -153,75 +149,55 @@ atom-sized {a} size = record { shallow = only-atom a .1; size = ap length (only-
 
 -- Atoms of the stream, one after the other
 
-module _ (s t : List ℕ) (b : Bytes s) where
-  -- an atom's canonical bytes are no more than those in the stream
-  leaf-short : (r : ℕ) (a : Atom) → LeafAt s t r a → length (atom-bytes a) ≤ 65536
-  leaf-short r a l =
-      let own = bytes-drop (cell t r 1) (take (cell t r 2) s) (bytes-take (cell t r 2) s b) in
-      omega (arith, spelled-fits a (slice (cell t r 1) (cell t r 2) s) own (l .spells) .1, length-slice (cell t r 1) (cell t r 2) s (l .row .ends), l .row .ends, l .row .short)
-
-  -- and they are few
-  atoms-below : (r end : ℕ) (es : Nodes) → NodesAt s t r end es → Atoms es
-      → length (canonical (unnumbered-all es)) + 65536 * r ≤ 65536 * max r 65536
-  unfolding unnumbered bytes
-  atoms-below r end empty at atoms = omega arith
-  atoms-below r end (cons (leaf q a) es) at atoms =
-      let l = leaf-at s t r q a (nodes-first s t r end (leaf q a) es at .1) in
-      let rest = atoms-below (r + 1) end es (leaf-skipped s t r end q a es at) atoms in
-      simp length-append (omega (arith, leaf-short r a l, l .row .few))
-  atoms-below r end (cons (branch q fs) es) at atoms = absurd atoms
-
-  pub atoms-short : {f : Form} (some : SomeAtoms s t f) → length (canonical (unnumbered-all (some .nodes))) ≤ 65536 * 65536
-  atoms-short {f} some = omega (arith, atoms-below (f .first) (f .end) (some .nodes) (some .at) (some .atoms))
-
 pub atoms-flat : (es : Nodes) → Atoms es → deepest (unnumbered-all es) ≡ 0
 unfolding unnumbered depth
 atoms-flat empty atoms = refl
 atoms-flat (cons (leaf q a) es) atoms = omega (arith, atoms-flat es atoms)
 atoms-flat (cons (branch q fs) es) atoms = absurd atoms
 
--- of the bytes of the atoms es the first are done; those of the atoms from a row on are left
-pub record Upto (s t : List ℕ) (row end : ℕ) (es : Nodes) (Done : List ℕ → Type 0) : Type 0 where
+-- the value of a form of atoms
+pub flat-sized : (es : Nodes) → Atoms es → {n : ℕ} → length (canonical (unnumbered-all es)) + 2 ≡ n → Sized (only (form (unnumbered-all es))) n
+flat-sized es atoms {n} size = form-sized (unnumbered-all es) n size (omega (arith, atoms-flat es atoms))
+
+-- of the bytes of the atoms es the first n - 2 are written behind `top`; those of the atoms from a row on are left
+pub record Upto (s t w₀ w : List ℕ) (top n row end : ℕ) (es : Nodes) : Type 0 where
   pub done : List ℕ
-  pub told : Done done
+  pub put : Put w₀ (top + 1) done w (top + n - 1)
   pub left : Nodes
   pub at : NodesAt s t row end left
   pub atoms : Atoms left
   pub is : canonical (unnumbered-all es) ≡ done ++ canonical (unnumbered-all left)
 
--- the same of all atoms that may stand from row `first` on
-abbrev pub Partly : List ℕ → List ℕ → ℕ → ℕ → ℕ → (List ℕ → Type 0) → Type 0
-Partly s t first row end Done = (es : Nodes) → NodesAt s t first end es → Atoms es → Upto s t row end es Done
-
-pub atoms-start : {s t : List ℕ} {first end : ℕ} {Done : List ℕ → Type 0} → Done [] → Partly s t first first end Done
-atoms-start told es at atoms = record { done = []; told = told; left = es; at = at; atoms = atoms; is = refl }
+pub atoms-start : {s t : List ℕ} {first end : ℕ} (w : List ℕ) (top : ℕ) (es : Nodes) → NodesAt s t first end es → Atoms es → Upto s t w w top 2 first end es
+atoms-start w top es at atoms =
+    record { done = []; put = record { place = omega arith; is = put-none w (top + 1) .is }; left = es; at = at; atoms = atoms; is = refl }
 
 -- an atom stands at the row
-pub record AtomNext (s t : List ℕ) (row end : ℕ) (es : Nodes) (done : List ℕ) : Type 1 where
+pub record AtomNext (s t w₀ w : List ℕ) (top n row end : ℕ) (es : Nodes) : Type 0 where
   pub own : Atom
   pub leaf : LeafAt s t row own
-  pub fits : length done + length (atom-bytes own) ≤ length (canonical (unnumbered-all es))
-  pub next : (Done : List ℕ → Type 0) → Done (done ++ atom-bytes own) → Upto s t (row + 1) end es Done
+  pub fits : n + length (atom-bytes own) ≤ length (canonical (unnumbered-all es)) + 2
+  pub next : {w′ : List ℕ} {size : ℕ} → size ≡ length (atom-bytes own) → w′ ≡ put-at w (top + n - 1) (atom-bytes own) → Upto s t w₀ w′ top (n + size) (row + 1) end es
 
-module _ {s t : List ℕ} {row end : ℕ} {es : Nodes} {Done : List ℕ → Type 0} (u : Upto s t row end es Done) where
-  pub atoms-end : end ≤ row → Done (canonical (unnumbered-all es))
+module _ {s t w₀ w : List ℕ} {top n row end : ℕ} {es : Nodes} (u : Upto s t w₀ w top n row end es) where
+  pub atoms-end : end ≤ row → Put w₀ (top + 1) (canonical (unnumbered-all es)) w (top + n - 1)
   unfolding unnumbered bytes
-  atoms-end h = rw (rw (nodes-done s t row end (u .left) (u .at) h, append-nil (u .done)) at (u .is)) (u .told)
+  atoms-end h = rw (rw (nodes-done s t row end (u .left) (u .at) h, append-nil (u .done)) at (u .is)) (u .put)
 
-  pub atoms-next : row < end → AtomNext s t row end es (u .done)
+  pub atoms-next : top + n ≤ length w₀ → row < end → AtomNext s t w₀ w top n row end es
   unfolding NodeAt unnumbered bytes
-  atoms-next h = go (u .left) (u .at) (u .atoms) (u .is)
+  atoms-next room h = go (u .left) (u .at) (u .atoms) (u .is)
     where
       go : (left : Nodes) → NodesAt s t row end left → Atoms left → canonical (unnumbered-all es) ≡ u .done ++ canonical (unnumbered-all left)
-          → AtomNext s t row end es (u .done)
+          → AtomNext s t w₀ w top n row end es
       go empty at atoms is = absurd (omega (arith, at))
       go (cons (leaf q a) left) at atoms is = record {
         own = a;
         leaf = leaf-at s t row q a (nodes-first s t row end (leaf q a) left at .1);
-        fits = rw is (simp length-append (omega arith));
-        next = λ Done told. record {
+        fits = rw is (simp length-append (omega (arith, u .put .place)));
+        next = λ {w′} {size} sized put. record {
           done = u .done ++ atom-bytes a;
-          told = told;
+          put = written-on {bs = u .done} (omega (arith, u .put .place)) (u .put) (record { place = omega (arith, u .put .place); is = put });
           left = left;
           at = leaf-skipped s t row end q a left at;
           atoms = atoms;

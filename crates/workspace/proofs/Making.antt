@@ -1,18 +1,18 @@
 -- Laws of the join of two arrays that stand in the workspace. Document 01: "both arrays; their bytes joined". Assumes nothing.
-use Prim.Native.Nat.{ℕ, suc, _+_, _-_, _≤_, _<_}
-use mathlib.Core.Path.{_≡_, refl, sym, ap, _∙_, subst}
+use Prim.Native.Nat.{ℕ, _+_, _-_, _≤_, _<_}
+use mathlib.Core.Path.{_≡_, refl, sym, ap, _∙_}
 use mathlib.Core.List.{List, [], _∷_, _++_, append-assoc, append-nil, head-eq-of-cons-eq}
 use native.Mathlib.Omega.{arith}
 use lib.ListN.{length, drop, length-append}
-use lib.Seq.{slice, length-slice, drop-cons, take-at}
+use lib.Seq.{slice, length-slice, drop-cons}
 use borrow.Author.Tests.{lt-ltb}
 use Rattle.spec.specs.Expr.{nil, array, int, ref, Expr, atom, form, more, only, array-head, atom-bytes, bytes, canonical}
-use Rattle.spec.specs.Reading.{Token, opening, whole, further, tokens}
+use Rattle.spec.specs.Reading.{Token, opening, whole, tokens}
 use Rattle.laws.proofs.Basics.{impossible}
 use Rattle.laws.proofs.Fits.{FitsExpr, FitsAll}
 use Rattle.laws.proofs.Spelling.{canonical-atom}
 use Rattle.laws.proofs.Reading.{tokens-atom, tokens-form, canonical-expr}
-use Rattle.laws.proofs.Steps.{split-size, split-rest, tokens-from}
+use Rattle.laws.proofs.Steps.{split-size, split-rest}
 use Rattle.atoms.specs.Tokens.{token-at, shown}
 use Rattle.reader.proofs.Finding.{spelled-some}
 use Rattle.writer.specs.Bytes.{put-at, Put}
@@ -22,10 +22,9 @@ use Rattle.workspace.specs.Completed.{Fitting, Stand, Untouched, with-to
 use Rattle.workspace.specs.declared.made.Bytes.{Bytes}
 use Rattle.workspace.specs.declared.made.Bytes.the-variants.{Array, Other}
 use Rattle.workspace.specs.declared.values.State.{State}
-use Rattle.rows.proofs.Slices.{slice-take}
 use Rattle.workspace.proofs.Areas.{stand-size, untouched-then, slice-below, put-untouched, slice-put, moved}
 use Rattle.workspace.proofs.Completing.{Sized, written, only-atom}
-use Rattle.workspace.proofs.Spread.{slice-rest}
+use Rattle.workspace.proofs.Spread.{slice-rest, slice-front}
 
 -- The join of two arrays
 
@@ -101,7 +100,7 @@ pub record IsArray (w : List ℕ) (to : ℕ) (e : Expr) (p q : ℕ) : Type 0 whe
   pub part : slice p q w ≡ own
 
 -- what the code is told of a value that ends at `to`
-abbrev Operand : List ℕ → ℕ → Expr → Bytes → Type 0
+abbrev pub Operand : List ℕ → ℕ → Expr → Bytes → Type 0
 Operand w to e (Array p q) = IsArray w to e p q
 Operand w to e Other = (bs : List ℕ) → e ≡ atom (array bs) → ⊥
 
@@ -110,33 +109,24 @@ module _ (w : List ℕ) (p : ℕ) (e : Expr) (u : List ℕ) (fits : FitsExpr e) 
   stands-inside : p < length w
   stands-inside = omega (arith, split-size w p (bytes e) u here, spelled-some e (bytes e) (canonical-expr e fits))
 
-  tokens-first : tokens-from w p ≡ token-at w p ∷ tokens (p + 1) (further (token-at w p)) (drop (suc p) w)
-  unfolding tokens
-  tokens-first = rw (drop-cons w p 0 stands-inside)
-
   tokens-front : (x : Expr) → FitsExpr x → (ts : List Token) × (tokens p 0 (bytes x ++ u) ≡ front-token x p ∷ ts)
   unfolding bytes
   tokens-front (atom a) f = (tokens (p + length (atom-bytes a)) 0 u, tokens-atom a (atom-bytes a) (canonical-atom a f) p u)
   tokens-front (form es) f = (tokens (p + 1) 0 (canonical es ++ (0x02 ∷ u)), tokens-form (canonical es) p u)
 
   token-front : token-at w p ≡ front-token e p
-  token-front = head-eq-of-cons-eq (sym tokens-first ∙ ap (λ (l : List ℕ). tokens p 0 l) here ∙ tokens-front e fits .1)
+  unfolding tokens
+  token-front = head-eq-of-cons-eq (ap (λ (l : List ℕ). tokens p 0 l) (sym (drop-cons w p 0 stands-inside) ∙ here) ∙ tokens-front e fits .1)
 
   -- an array's own bytes are the last of its canonical ones
-  array-part : (bs : List ℕ) → e ≡ atom (array bs) → let to : ℕ = p + length (atom-bytes (array bs)) in
-      (to - length bs ≤ to) × (slice (to - length bs) to w ≡ bs)
+  array-part : (bs : List ℕ) → e ≡ atom (array bs) → let to : ℕ = p + length (atom-bytes (array bs)) in slice (to - length bs) to w ≡ bs
   unfolding bytes atom-bytes
   array-part bs is =
       let hs = array-head (length bs) in
       let to : ℕ = p + length (hs ++ bs) in
-      let split : drop p w ≡ hs ++ (bs ++ u) = here ∙ ap (λ (x : Expr). bytes x ++ u) is ∙ append-assoc hs bs u in
-      let size = length-append hs bs in
-      let from : p + length hs ≡ to - length bs = omega arith in
-      let long : to - (to - length bs) ≡ length bs = omega arith in (
-        omega arith,
-        slice-take (to - length bs) to w
-            ∙ rw (long, ← from, ← split-rest w p hs (bs ++ u) split) (take-at bs u (length bs) refl),
-      )
+      let split : drop p w ≡ hs ++ (bs ++ u) = here ∙ rw is (append-assoc hs bs u) in
+      let from : to - length bs ≡ p + length hs = omega (arith, length-append hs bs) in
+      slice-front (to - length bs) to w bs u (rw from (sym (split-rest w p hs (bs ++ u) split))) (omega (arith, length-append hs bs))
 
   operand : Operand w (p + length (bytes e)) e (array-at w p)
   unfolding bytes
@@ -144,16 +134,13 @@ module _ (w : List ℕ) (p : ℕ) (e : Expr) (u : List ℕ) (fits : FitsExpr e) 
     where
       go : (x : Expr) → e ≡ x → Operand w (p + length (bytes x)) x (array-of (shown (front-token x p)))
       go (atom nil) is = λ bs q. impossible (cc)
-      go (atom (array bs)) is = let part = array-part bs is in record { own = bs; is = refl; order = part .0; end = refl; part = part .1 }
+      go (atom (array bs)) is = record { own = bs; is = refl; order = omega arith; end = refl; part = array-part bs is }
       go (atom (int v)) is = λ bs q. impossible (cc)
       go (atom (ref m n)) is = λ bs q. impossible (cc)
       go (form es) is = λ bs q. impossible (cc)
 
 -- the two operands of a concat
 module _ {w : List ℕ} {start top : ℕ} {a b : Expr} (there : Stand w start top (more a (only b))) (fits : FitsAll (more a (only b))) where
-  abbrev mid : ℕ
-  mid = start + length (bytes a)
-
   rest : List ℕ
   rest = drop (top - start) (drop start w)
 
@@ -163,35 +150,14 @@ module _ {w : List ℕ} {start top : ℕ} {a b : Expr} (there : Stand w start to
       let both : canonical (more a (only b)) ≡ bytes a ++ bytes b = ap (λ (l : List ℕ). bytes a ++ l) (append-nil (bytes b)) in
       slice-rest start top w (bytes a ++ bytes b) (there .bytes ∙ both) ∙ append-assoc (bytes a) (bytes b) rest
 
-  second-here : drop mid w ≡ bytes b ++ rest
-  second-here = sym (split-rest w start (bytes a) (bytes b ++ rest) first-here)
-
-  second-end : mid + length (bytes b) ≡ top
+  pub operands-end : start + length (bytes a) + length (bytes b) ≡ top
   unfolding bytes
-  second-end =
-      omega (arith, there .order, stand-size there, length-append (bytes a) (bytes b ++ []), length-append (bytes b) [])
+  operands-end = omega (arith, there .order, stand-size there, length-append (bytes a) (bytes b ++ []), length-append (bytes b) [])
 
-  first-operand : Operand w mid a (array-at w start)
-  first-operand = operand w start a (bytes b ++ rest) (fits .0) first-here
+  pub first-operand : {r : Bytes} → r ≡ array-at w start → Operand w (start + length (bytes a)) a r
+  first-operand told = rw told (operand w start a (bytes b ++ rest) (fits .0) first-here)
 
-  second-operand : Operand w top b (array-at w mid)
-  second-operand = subst (λ (k : ℕ). Operand w k b (array-at w mid)) second-end (operand w mid b rest (fits .1 .0) second-here)
-
-  pub first-other : array-at w start ≡ Other → (bs : List ℕ) → a ≡ atom (array bs) → ⊥
-  first-other told = subst (Operand w mid a) told first-operand
-
-  module _ {p q : ℕ} (told : array-at w start ≡ Array p q) where
-    pub first-array : IsArray w mid a p q
-    first-array = subst (Operand w mid a) told first-operand
-
-    pub first-inside : q ≤ top
-    first-inside = omega (arith, first-array .end, second-end)
-
-    second-told : Operand w top b (array-at w q)
-    second-told = rw (first-array .end) second-operand
-
-    pub second-other : array-at w q ≡ Other → (bs : List ℕ) → b ≡ atom (array bs) → ⊥
-    second-other told′ = subst (Operand w top b) told′ second-told
-
-    pub second-array : {r s : ℕ} → array-at w q ≡ Array r s → IsArray w top b r s
-    second-array told′ = subst (Operand w top b) told′ second-told
+  pub second-operand : {q : ℕ} {r : Bytes} → q ≡ start + length (bytes a) → r ≡ array-at w q → Operand w top b r
+  second-operand {q} mid told =
+      rw (told, mid, ← operands-end)
+      (operand w (start + length (bytes a)) b rest (fits .1 .0) (sym (split-rest w start (bytes a) (bytes b ++ rest) first-here)))

@@ -13,7 +13,7 @@ use Rattle.laws.specs.Grammar.{Spells, SpellsAll}
 use Rattle.laws.proofs.Fits.{FitsAll}
 use Rattle.laws.proofs.Tokens.{tokens-few}
 use Rattle.laws.proofs.Rows.{rows-few}
-use Rattle.laws.proofs.Reading.{check-all, canonical-expr, canonical-spells}
+use Rattle.laws.proofs.Reading.{check-all, canonical-expr, canonical-spells, read-canonical}
 use Rattle.laws.proofs.Steps.{split-size, split-rest, tokens-from}
 use Rattle.laws.proofs.Items.{all-rows-count, rows-expr, spelled-rows, expr-first}
 use Rattle.reader.specs.Passes.{RightFrom}
@@ -36,7 +36,7 @@ spelled-few es s sp =
     omega (arith, rows-few (tokens 0 0 s), tokens-few s 0 0)
 
 -- values that are left at a byte are right
-values-right : (s : List ℕ) (p : ℕ) (vs : Exprs) → Values (drop p s) vs → RightFrom s p 0
+pub values-right : (s : List ℕ) (p : ℕ) (vs : Exprs) → Values (drop p s) vs → RightFrom s p 0
 unfolding check tokens
 values-right s p vs v =
     let spells : SpellsAll vs (drop p s) = subst (SpellsAll vs) (sym (v .is)) (canonical-spells vs (v .fits)) in
@@ -47,28 +47,28 @@ values-right s p vs v =
           ∙ check-all (length s) (length s) vs (drop p s) spells p 0 0 [] (omega (arith, v .shallow)) (omega arith),
     )
 
--- Of the values vs the first n are passed at byte p, where each stands is in `args`, and the others are left.
-pub record Passed (s : List ℕ) (base : ℕ) (args : List ℕ) (p n : ℕ) (vs left : Exprs) : Type 0 where
-  pub values : Values (drop p s) left
-  pub count : size vs ≡ n + size left
-  pub stand : (w args′ : List ℕ) → slice base (base + length s) w ≡ s → ((i : ℕ) → i < n → getD args′ i 0 ≡ getD args i 0)
-      → ArgumentsAt w args′ n (base + p) (base + length s) left → ArgumentsAt w args′ 0 base (base + length s) vs
-
-pub record Spreading (s : List ℕ) (base : ℕ) (args : List ℕ) (p n : ℕ) : Type 0 where
+-- of all values of a stream the first n are passed at byte p, where each stands is in `args`, and the others are left
+pub record Spreading (s : List ℕ) (base : ℕ) (args : List ℕ) (p n : ℕ) (all left : Exprs) : Type 0 where
   pub inside : p ≤ length s
   pub few : n ≤ p
-  pub some : (vs : Exprs) × Values s vs
-  pub each : (vs : Exprs) → Values s vs → (left : Exprs) × Passed s base args p n vs left
+  pub values : Values s all
+  pub others : Values (drop p s) left
+  pub count : size all ≡ n + size left
+  pub stand : (w args′ : List ℕ) → slice base (base + length s) w ≡ s → ((i : ℕ) → i < n → getD args′ i 0 ≡ getD args i 0)
+      → ArgumentsAt w args′ n (base + p) (base + length s) left → ArgumentsAt w args′ 0 base (base + length s) all
 
-pub spreading-start : (s : List ℕ) (base : ℕ) (args : List ℕ) → ((vs : Exprs) × Values s vs) → Spreading s base args 0 0
-spreading-start s base args some =
+pub spreading-start : {s : List ℕ} (base : ℕ) (args : List ℕ) {vs : Exprs} → Values s vs → Spreading s base args 0 0 vs vs
+spreading-start base args v =
     let start : base + 0 ≡ base = omega arith in
-    record {
-      inside = omega arith;
-      few = omega arith;
-      some = some;
-      each = λ vs v. (vs, record { values = v; count = omega arith; stand = λ w args′ here same at. rw start at at });
-    }
+    record { inside = omega arith; few = omega arith; values = v; others = v; count = omega arith; stand = λ w args′ here same at. rw start at at }
+
+-- a stream has one list of values
+values-same : (s : List ℕ) (vs us : Exprs) → length s ≤ 65536 → Values s vs → Values s us → vs ≡ us
+values-same s vs us short v u =
+    let room : ℕ = rows-all vs + rows-all us in
+    let one = rw (← v .is) at (read-canonical vs room (v .fits) (v .shallow) (rw (← v .is) short) (omega arith)) in
+    let two = rw (← u .is) at (read-canonical us room (u .fits) (u .shallow) (rw (← u .is) short) (omega arith)) in
+    cc
 
 -- what is left from the start of a part on begins with the part
 pub slice-rest : (a b : ℕ) (w x : List ℕ) → slice a b w ≡ x → drop a w ≡ x ++ drop (b - a) (drop a w)
@@ -76,93 +76,74 @@ slice-rest a b w x is =
     let rest = drop (b - a) (drop a w) in
     sym (take-append-drop (b - a) (drop a w)) ∙ ap (λ (l : List ℕ). l ++ rest) (sym (slice-take a b w) ∙ is)
 
+-- what stands in front of a rest is a part
+pub slice-front : (a b : ℕ) (w x u : List ℕ) → drop a w ≡ x ++ u → b ≡ a + length x → slice a b w ≡ x
+slice-front a b w x u is end = slice-take a b w ∙ rw is (take-at x u (b - a) (omega arith))
+
 -- bytes of a part of a list, as bytes of the list
 part-slice : (w s : List ℕ) (base p : ℕ) (x y : List ℕ) → slice base (base + length s) w ≡ s → p ≤ length s → drop p s ≡ x ++ y
     → slice (base + p) (base + (p + length x)) w ≡ x
 part-slice w s base p x y here h split =
-    let long : base + (p + length x) - (base + p) ≡ length x = omega arith in
     let rest = drop (base + length s - base) (drop base w) in
     let from : drop (base + p) w ≡ x ++ (y ++ rest) =
     sym (drop-drop p base w)
     ∙ ap (drop p) (slice-rest base (base + length s) w s here)
     ∙ drop-append-le p s rest h
-    ∙ ap (λ (z : List ℕ). z ++ rest) split
-    ∙ append-assoc x y rest in
-    slice-take (base + p) (base + (p + length x)) w ∙ rw (long, from) (take-at x (y ++ rest) (length x) refl)
+    ∙ rw split (append-assoc x y rest) in
+    slice-front (base + p) (base + (p + length x)) w x (y ++ rest) from (omega arith)
 
 -- the first of the values that are left ends at e
-pub record Ended (s : List ℕ) (base : ℕ) (args : List ℕ) (p n e : ℕ) : Type 0 where
+pub record Ended (s : List ℕ) (base : ℕ) (args : List ℕ) (p n : ℕ) (all : Exprs) (e : ℕ) : Type 0 where
   pub forward : p < e
   pub inside : e ≤ length s
-  pub next : Spreading s base (set args n (pack (base + p) (base + e))) e (n + 1)
+  pub left : Exprs
+  pub next : Spreading s base (set args n (pack (base + p) (base + e))) e (n + 1) all left
 
-module _ (s : List ℕ) (base : ℕ) (args : List ℕ) (p n : ℕ) (f : Spreading s base args p n) where
-  pub spreading-right : RightFrom s p 0
-  spreading-right = let one = f .each (f .some .0) (f .some .1) in values-right s p (one .0) (one .1 .values)
+module _ {s : List ℕ} {base : ℕ} {args : List ℕ} {p n : ℕ} {all : Exprs} where
+  pub spreading-end : (left : Exprs) → Spreading s base args p n all left → length s ≤ p → length s ≤ 65536
+      → (w : List ℕ) (vs : Exprs) → Values s vs → slice base (base + length s) w ≡ s → (n ≡ size vs) × ArgumentsAt w args 0 base (base + length s) vs
+  unfolding size bytes ArgumentsAt
+  spreading-end none f h short w vs v here =
+      rw (values-same s vs all short v (f .values)) (omega (arith, f .count), f .stand w args here (λ i l. refl) (omega (arith, f .inside)))
+  spreading-end (more c es) f h short w vs v here =
+      let some = spelled-some c (bytes c) (canonical-expr c (f .others .fits .0)) in
+      absurd (omega (arith, split-size s p (bytes c) (canonical es) (f .others .is)))
 
-  all-passed : (vs left : Exprs) → Passed s base args p n vs left → length s ≤ p → left ≡ none
-  unfolding bytes
-  all-passed vs none o h = refl
-  all-passed vs (more e es) o h =
-      let length-left = split-size s p (bytes e) (canonical es) (o .values .is) in
-      absurd (omega (arith, spelled-some e (bytes e) (canonical-expr e (o .values .fits .0))))
-
-  pub spreading-end : length s ≤ p → (w : List ℕ) (vs : Exprs) → Values s vs → slice base (base + length s) w ≡ s
-      → (n ≡ size vs) × ArgumentsAt w args 0 base (base + length s) vs
-  unfolding size ArgumentsAt
-  spreading-end h w vs v here =
-      let o = f .each vs v in
-      let all : Passed s base args p n vs none = rw (all-passed vs (o .0) (o .1) h) at (o .1) in
-      (omega (arith, all .count), all .stand w args here (λ i l. refl) (omega (arith, f .inside)))
-
-  module _ (e : ℕ) (at-end : e ≡ row-at (rows-of (tokens-from s p)) 0 .end) (packs : n < 64 → n < length args) (inside : p < length s) where
-    -- what holds of the values vs when the first that is left is passed
-    passed : (vs left : Exprs) → Passed s base args p n vs left
-        → (p < e) × (e ≤ length s) × (left′ : Exprs) × Passed s base (set args n (pack (base + p) (base + e))) e (n + 1) vs left′
-    unfolding size deepest bytes ArgumentsAt
-    passed vs none o = absurd (omega (arith, ap length (o .values .is), length-drop p s))
-    passed vs (more c es) o =
-        let v = o .values in
-        let x = bytes c in
-        let y = canonical es in
-        let spells : Spells c x = canonical-expr c (v .fits .0) in
-        let length-left = split-size s p x y (v .is) in
-        let some = spelled-some c x spells in
-        let first : row-at (rows-of (tokens-from s p)) 0 .end ≡ p + length x =
-        rw (v .is, rows-expr c x spells p y) (expr-first c x spells p (rows-of (tokens (p + length x) 0 y)) .1) in
-        let end : e ≡ p + length x = at-end ∙ first in (
-          omega arith,
-          omega arith,
-          es,
-          record {
-            values = record { is = rw end (sym (split-rest s p x y (v .is))); fits = v .fits .1; shallow = omega (arith, v .shallow) };
-            count = omega (arith, o .count);
-            stand = λ w args′ here same on. o .stand w args′ here
-                (λ i h. same i (omega arith) ∙ getD-set-other args n i (pack (base + p) (base + e)) 0 (λ z. omega arith)) (
-                  base + e,
-                  omega arith,
-                  omega arith,
-                  rw end (part-slice w s base p x y here (f .inside) (v .is)),
-                  λ h. same n (omega arith) ∙ getD-set-same args n (pack (base + p) (base + e)) 0 (packs h),
-                  on,
-                );
-          },
-        )
-
-    pub spreading-turn : Ended s base args p n e
-    spreading-turn =
-        let known = f .each (f .some .0) (f .some .1) in
-        let one = passed (f .some .0) (known .0) (known .1) in
-        record {
-          forward = one .0;
-          inside = one .1;
-          next = record {
-            inside = one .1;
-            few = omega (arith, one .0, f .few);
-            some = f .some;
-            each = λ vs v. let o = f .each vs v in let turn = passed vs (o .0) (o .1) in (turn .2, turn .3);
-          };
-        }
+  pub spreading-turn : (left : Exprs) → Spreading s base args p n all left → (e : ℕ) → e ≡ row-at (rows-of (tokens-from s p)) 0 .end
+      → (n < 64 → n < length args) → p < length s → Ended s base args p n all e
+  unfolding size deepest bytes ArgumentsAt
+  spreading-turn none f e at-end packs inside = absurd (omega (arith, ap length (f .others .is), length-drop p s))
+  spreading-turn (more c es) f e at-end packs inside =
+      let v = f .others in
+      let x = bytes c in
+      let y = canonical es in
+      let spells : Spells c x = canonical-expr c (v .fits .0) in
+      let length-left = split-size s p x y (v .is) in
+      let some = spelled-some c x spells in
+      let first : row-at (rows-of (tokens-from s p)) 0 .end ≡ p + length x =
+      rw (v .is, rows-expr c x spells p y) (expr-first c x spells p (rows-of (tokens (p + length x) 0 y)) .1) in
+      let end : e ≡ p + length x = at-end ∙ first in
+      record {
+        forward = omega arith;
+        inside = omega arith;
+        left = es;
+        next = record {
+          inside = omega arith;
+          few = omega (arith, f .few);
+          values = f .values;
+          others = record { is = rw end (sym (split-rest s p x y (v .is))); fits = v .fits .1; shallow = omega (arith, v .shallow) };
+          count = omega (arith, f .count);
+          stand = λ w args′ here same on. f .stand w args′ here
+              (λ i h. same i (omega arith) ∙ getD-set-other args n i (pack (base + p) (base + e)) 0 (λ z. omega arith)) (
+                base + e,
+                omega arith,
+                omega arith,
+                rw end (part-slice w s base p x y here (f .inside) (v .is)),
+                λ h. same n (omega arith) ∙ getD-set-same args n (pack (base + p) (base + e)) 0 (packs h),
+                on,
+              );
+        };
+      }
 
 -- Arguments found again
 

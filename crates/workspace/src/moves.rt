@@ -10,11 +10,12 @@ fn move_down(w: &mut [u8], from: usize, to: usize, at: usize)
     requires { ⌜ (from ≤ to) × (to ≤ length (now w)) × (at ≤ from) ⌝ }
     ensures { λ _. ⌜ now (w .exit) ≡ put-at (now (w .entry)) at (slice from to (now (w .entry))) ⌝ }
 {
-    let n = to - from;
-    let mut i: usize = 0;
-    while i < n {
-        w[at + i] = w[from + i];
-        i += 1;
+    let mut p = from;
+    let mut q = at;
+    while p < to {
+        w[q] = w[p];
+        p += 1;
+        q += 1;
     }
 }
 
@@ -23,10 +24,12 @@ fn move_up(w: &mut [u8], from: usize, to: usize, at: usize)
     requires { ⌜ (from ≤ to) × (from ≤ at) × (at + (to - from) ≤ length (now w)) ⌝ }
     ensures { λ _. ⌜ now (w .exit) ≡ put-at (now (w .entry)) at (slice from to (now (w .entry))) ⌝ }
 {
-    let mut i = to - from;
-    while 0 < i {
-        i -= 1;
-        w[at + i] = w[from + i];
+    let mut p = to;
+    let mut q = at + (to - from);
+    while from < p {
+        p -= 1;
+        q -= 1;
+        w[q] = w[p];
     }
 }
 

@@ -5,14 +5,13 @@ use rows::arrays;
 use rows::forms::Form;
 use rows::table;
 ghost use mathlib.Core.Path.{_≡_};
-ghost use mathlib.Core.List.{List};
-ghost use Prim.Native.Nat.{ℕ, _+_, _-_, _≤_};
+ghost use Prim.Native.Nat.{_+_, _-_, _≤_};
 ghost use lib.ListN.{length};
 ghost use lib.Dec.{eqb};
-ghost use Rattle.spec.specs.Expr.{if_then_else_, Atom, atom, form, Exprs, only, deepest, atom-bytes, canonical};
+ghost use Rattle.spec.specs.Expr.{if_then_else_, Atom, atom, form, Exprs, only, deepest, atom-bytes};
 ghost use Rattle.spec.specs.Nodes.{Nodes, unnumbered-all};
 ghost use Rattle.rows.specs.Rows.{LeafAt, NodesAt};
-ghost use Rattle.writer.specs.Bytes.{put-at, Put};
+ghost use Rattle.writer.specs.Bytes.{put-at};
 ghost use Rattle.workspace.specs.declared.values.Out.the-variants.{Done, Refused};
 ghost use Rattle.workspace.specs.Completed.{Fitting, Stand, with-top, with-floor, stepped, BodyOf, Atoms, SomeAtoms, Completed, Stored};
 
@@ -80,27 +79,6 @@ struct Body {
     to: usize,
 }
 
-impl Body {
-    // How many bytes the atom has, as it is written canonically.
-    fn size(self) -> usize
-        requires { ⌜ ((s : List ℕ) × (a : Atom) × BodyOf s a self) ⌝ }
-        ensures { λ r. ⌜ ((s : List ℕ) (a : Atom) → BodyOf s a self → r ≡ length (atom-bytes a)) ⌝ }
-    {
-        writer::atom_size(self.kind, self.to - self.from)
-    }
-
-    // Writes the atom; gives where its bytes end.
-    fn put(self, s: &[u8], w: &mut [u8], at: usize) -> usize
-        requires { ⌜ length (now w) ≤ 65536 ⌝ }
-        requires { ⌜ ((a : Atom) × BodyOf (now s) a self × (at + length (atom-bytes a) ≤ length (now w))) ⌝ }
-        ensures { λ r. ⌜ ((a : Atom) → BodyOf (now (s .entry)) a self → Put (now (w .entry)) at (atom-bytes a) (now (w .exit)) r) ⌝ }
-    {
-        let from = self.from;
-        let to = self.to;
-        writer::put_atom(self.kind, &s[from..to], w, at)
-    }
-}
-
 // The body of the atom at a row.
 fn body_at(s: &[u8], table: &[u32], row: usize) -> Body
     requires { ⌜ ((a : Atom) × LeafAt (now s) (now table) row a) ⌝ }
@@ -122,64 +100,58 @@ fn body_at(s: &[u8], table: &[u32], row: usize) -> Body
     }
 }
 
+// Writes the atom at a row as it is written canonically, if `room` is enough; gives how many bytes that is.
+fn put_leaf(s: &[u8], table: &[u32], w: &mut [u8], at: usize, room: usize, row: usize) -> usize
+    requires { ⌜ (at + room ≤ length (now w)) × (length (now w) ≤ 65536) ⌝ }
+    requires { ⌜ ((a : Atom) × LeafAt (now s) (now table) row a) ⌝ }
+    ensures { λ r. ⌜ ((a : Atom) → LeafAt (now (s .entry)) (now (table .entry)) row a → (r ≡ length (atom-bytes a)) × (r ≤ room → now (w .exit) ≡ put-at (now (w .entry)) at (atom-bytes a))) ⌝ }
+{
+    let body = body_at(s, table, row);
+    let from = body.from;
+    let to = body.to;
+    let n = writer::atom_size(body.kind, to - from);
+    if n <= room {
+        writer::put_atom(body.kind, &s[from..to], w, at);
+    }
+    n
+}
+
 // The value of an atom that stands for itself.
 pub fn own(s: &[u8], table: &[u32], w: &mut [u8], state: State, row: usize) -> Out
     requires { ⌜ Fitting (now w) state ⌝ }
     requires { ⌜ ((a : Atom) × LeafAt (now s) (now table) row a) ⌝ }
     ensures { λ r. ⌜ ((a : Atom) → LeafAt (now (s .entry)) (now (table .entry)) row a → Completed (now (w .entry)) (now (w .exit)) state (state .top) row (only (atom a)) r) ⌝ }
 {
-    let body = body_at(s, table, row);
-    let n = body.size();
     let top = state.top;
+    let n = put_leaf(s, table, w, top, state.room, row);
     if state.room < n {
         return Out::Refused(17, row);
     }
-    body.put(s, w, top);
     charged(state, n, top + n)
 }
 
-// How many bytes the atoms of a form have, as they are written canonically.
-fn atoms_size(s: &[u8], table: &[u32], form: Form) -> usize
-    requires { ⌜ SomeAtoms (now s) (now table) form ⌝ }
-    ensures { λ r. ⌜ ((es : Nodes) → NodesAt (now (s .entry)) (now (table .entry)) (form .first) (form .end) es → Atoms es → r ≡ length (canonical (unnumbered-all es))) ⌝ }
-{
-    let end = form.end;
-    let mut row = form.first;
-    let mut n: usize = 0;
-    while row < end {
-        n += body_at(s, table, row).size();
-        row += 1;
-    }
-    n
-}
-
-// Writes the atoms of a form from a byte of the workspace on.
-fn put_atoms(s: &[u8], table: &[u32], w: &mut [u8], at: usize, form: Form)
-    requires { ⌜ SomeAtoms (now s) (now table) form × (length (now w) ≤ 65536) ⌝ }
-    requires { ⌜ ((es : Nodes) → NodesAt (now s) (now table) (form .first) (form .end) es → Atoms es → at + length (canonical (unnumbered-all es)) ≤ length (now w)) ⌝ }
-    ensures { λ _. ⌜ ((es : Nodes) → NodesAt (now (s .entry)) (now (table .entry)) (form .first) (form .end) es → Atoms es → now (w .exit) ≡ put-at (now (w .entry)) at (canonical (unnumbered-all es))) ⌝ }
-{
-    let end = form.end;
-    let mut row = form.first;
-    let mut to = at;
-    while row < end {
-        to = body_at(s, table, row).put(s, w, to);
-        row += 1;
-    }
-}
-
-// The value of a form of atoms that stands for itself.
+// The value of a form of atoms that stands for itself; of its bytes n are charged so far, with its 01 and 02.
 pub fn itself(s: &[u8], table: &[u32], w: &mut [u8], state: State, range: Form) -> Out
     requires { ⌜ Fitting (now w) state ⌝ }
     requires { ⌜ SomeAtoms (now s) (now table) range ⌝ }
     ensures { λ r. ⌜ ((es : Nodes) → NodesAt (now (s .entry)) (now (table .entry)) (range .first) (range .end) es → Atoms es → Completed (now (w .entry)) (now (w .exit)) state (state .top) (range .row) (only (form (unnumbered-all es))) r) ⌝ }
 {
-    let n = atoms_size(s, table, range) + 2;
     let top = state.top;
-    if state.room < n {
+    let room = state.room;
+    if room < 2 {
         return Out::Refused(17, range.row);
     }
-    put_atoms(s, table, w, top + 1, range);
+    let end = range.end;
+    let mut row = range.first;
+    let mut n: usize = 2;
+    while row < end {
+        let size = put_leaf(s, table, w, top + n - 1, room - n, row);
+        if room - n < size {
+            return Out::Refused(17, range.row);
+        }
+        n += size;
+        row += 1;
+    }
     w[top] = 0x01;
     w[top + n - 1] = 0x02;
     charged(state, n, top + n)

@@ -10,9 +10,6 @@ use Rattle.workspace.specs.Joins.{array-of, array-at}
 use Rattle.workspace.proofs.made.array_at.Statement.{statement}
 use Rattle.workspace.proofs.made.array_at.Tie as tie
 
-returns : tie.Need-returns
-returns c = let a = c .before .before .args in rw (le-ltb (a .at) (length (a .w .now)) (c .if1 .taken))
-
 -- what stands there if the token is this one
 at-token : (c : tie.After-any-token) (r : Token) → c .any-token .result ≡ r → let a = c .before .before .before .args in array-of r ≡ array-at (a .w .now) (a .at)
 at-token c r e =
@@ -24,32 +21,23 @@ returns-2 c =
     let k = c .before .before in
     rw (eq-eqb (k .kind .given .0 .0) 2 (c .if2 .taken)) at (at-token (k .before .before) _ (k .kind .given .1))
 
-returns-3 : tie.Need-returns-3
-returns-3 c = at-token (c .before .before) Opening (c .enum-told .given .1)
-
-returns-4 : tie.Need-returns-4
-returns-4 c = at-token (c .before .before) Closing (c .enum-told2 .given .1)
-
 returns-5 : tie.Need-returns-5
 returns-5 c =
     let k = c .before .before in
     rw (ne-eqb (k .kind .given .0 .0) 2 (c .if2 .left)) at (at-token (k .before .before) _ (k .kind .given .1))
 
-returns-6 : tie.Need-returns-6
-returns-6 c = at-token (c .before .before) _ (c .enum-told3 .given .1)
-
 pub array-at-spec : {M : Type 1} → statement M
 array-at-spec =
     tie.close
     (tie.spec
-    returns
+    (λ c. let a = c .before .before .args in rw (le-ltb (a .at) (length (a .w .now)) (c .if1 .taken)))
     (λ c κs. search needs)
     (λ c. search needs)
     (λ c. search needs)
     (λ c. search needs)
     returns-2
     (λ c. search needs)
-    returns-3
-    returns-4
+    (λ c. at-token (c .before .before) Opening (c .enum-told .given .1))
+    (λ c. at-token (c .before .before) Closing (c .enum-told2 .given .1))
     returns-5
-    returns-6)
+    (λ c. at-token (c .before .before) _ (c .enum-told3 .given .1)))

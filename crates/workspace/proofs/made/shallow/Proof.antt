@@ -31,24 +31,6 @@ at-token : (c : tie.After-token-at Inv-loop μ-loop) (r : Answer) → c .token-a
     → NestingTurn (c .before .before .before .before .args .values .now) (c .before .before .loop .at) (c .before .before .loop .depth) r
 at-token c r e = nesting-turn _ _ _ (c .before .before .loop .inv) (left (c .before)) r (sym e ∙ c .token-at .ensures)
 
-returns : tie.Need-returns Inv-loop μ-loop
-returns c = at-token (c .before .before .before) Opening (c .before .enum-told .given .1) .0 (omega (arith, c .if1 .taken))
-
-loop-again : tie.Need-loop-again Inv-loop μ-loop
-loop-again c = at-token (c .before .before .before) Opening (c .before .enum-told .given .1) .1 (c .if1 .left)
-
-loop-again-2 : tie.Need-loop-again-2 Inv-loop μ-loop
-loop-again-2 c = at-token (c .before .before) Closing (c .enum-told2 .given .1) .1
-
-loop-again-3 : tie.Need-loop-again-3 Inv-loop μ-loop
-loop-again-3 c = at-token (c .before .before .before) _ (c .before .end .given .1) .1
-
-returns-2 : tie.Need-returns-2 Inv-loop μ-loop
-returns-2 c = absurd (at-token (c .before .before) _ (c .enum-told3 .given .1))
-
-returns-3 : tie.Need-returns-3 Inv-loop μ-loop
-returns-3 c = nesting-end _ _ _ (c .before .loop .inv) (c .loop-test .left)
-
 pub shallow-spec : {M : Type 1} → statement M
 shallow-spec =
     tie.close
@@ -60,19 +42,19 @@ shallow-spec =
     (λ c. omega (arith, c .loop .inv .few))
     (λ c κs. omega (arith, left c))
     (λ c. search needs)
-    returns
+    (λ c. at-token (c .before .before .before) Opening (c .before .enum-told .given .1) .0 (omega (arith, c .if1 .taken)))
     (λ c. omega arith)
     (λ c. omega arith)
     (λ c. omega arith)
-    loop-again
+    (λ c. at-token (c .before .before .before) Opening (c .before .enum-told .given .1) .1 (c .if1 .left))
     (λ c. search needs)
     (λ c. omega (arith, at-token (c .before .before) Closing (c .enum-told2 .given .1) .0))
     (λ c. omega arith)
     (λ c. omega arith)
-    loop-again-2
+    (λ c. at-token (c .before .before) Closing (c .enum-told2 .given .1) .1)
     (λ c. search needs)
     (λ c. omega (arith, at-token (c .before .before .before) _ (c .before .end .given .1) .0))
-    loop-again-3
+    (λ c. at-token (c .before .before .before) _ (c .before .end .given .1) .1)
     (λ c. search needs)
-    returns-2
-    returns-3)
+    (λ c. absurd (at-token (c .before .before) _ (c .enum-told3 .given .1)))
+    (λ c. nesting-end _ _ _ (c .before .loop .inv) (c .loop-test .left)))

@@ -26,17 +26,11 @@ told-depth : (c : tie.After-shallow) → let a = c .before .before .before .befo
     → FitsAll vs → c .shallow .result ≡ leb (deepest vs) 63
 told-depth c vs there fits = c .shallow .ensures vs (stand-part there) fits
 
-returns : tie.Need-returns
-returns c vs there fits = form-deep vs (leb-false (deepest vs) 63 (sym (told-depth (c .before) vs there fits) ∙ not-true _ (c .if1 .taken)))
-
 -- no deeper than they may be
 sized : (c : tie.Else1) → let a = c .before .before .before .before .before .args in (vs : Exprs) → Stand (a .w .now) (a .from) (a .state .top) vs
     → FitsAll vs → Sized (only (form vs)) (a .state .top - a .from + 2)
 sized c vs there fits =
-    form-sized vs _ (stand-size there) (leb-true (deepest vs) 63 (sym (told-depth (c .before) vs there fits) ∙ not-false _ (c .if1 .left)))
-
-returns-2 : tie.Need-returns-2
-returns-2 c vs there fits = unpaid (sized (c .before .before) vs there fits) (c .if2 .taken)
+    form-sized vs _ (omega (arith, stand-size there)) (leb-true (deepest vs) 63 (sym (told-depth (c .before) vs there fits) ∙ not-false _ (c .if1 .left)))
 
 returns-3 : tie.Need-returns-3
 returns-3 c vs there fits =
@@ -46,7 +40,7 @@ returns-3 c vs there fits =
     let p = start .pre .0 in
     rw (c .charged .ensures)
     (written (sized k vs there fits) (p .0) (omega (arith, there .order)) (omega arith)
-    (form-written vs _ (stand-size there) _ (start .args .start) (omega (arith, there .order, p .0 .paid, p .0 .below)) (rw (there .bytes) at (m .move-bytes .ensures))))
+    (form-written vs _ (omega (arith, stand-size there)) _ (start .args .start) (omega (arith, there .order, p .0 .paid, p .0 .below)) (rw (there .bytes) at (m .move-bytes .ensures))))
 
 pub wrapped-spec : {M : Type 1} → statement M
 wrapped-spec =
@@ -57,11 +51,11 @@ wrapped-spec =
     (λ c. search needs)
     shallow-requires
     (λ c. search needs)
-    returns
+    (λ c vs there fits. form-deep vs (leb-false (deepest vs) 63 (sym (told-depth (c .before) vs there fits) ∙ not-true _ (c .if1 .taken))))
     (λ c. search needs)
     (λ c. search needs)
     (λ c. search needs)
-    returns-2
+    (λ c vs there fits. unpaid (sized (c .before .before) vs there fits) (c .if2 .taken))
     (λ c. search needs)
     (λ c κs. search needs)
     (λ c. search needs)

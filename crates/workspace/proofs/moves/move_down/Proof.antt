@@ -1,39 +1,30 @@
 -- `workspace::moves::move_down` meets its contract: a loop that moves one byte more each turn. Assumes nothing.
 use borrow.Author.Needs.{needs}
-use Prim.Native.Nat.{_+_, _-_}
-use mathlib.Core.Path.{_≡_, refl}
+use Prim.Native.Nat.{_-_}
+use mathlib.Core.Path.{refl, _∙_}
 use native.Mathlib.Omega.{arith}
 use lib.ListN.{length-set}
-use Rattle.workspace.proofs.Areas.{moved-none, Moving, moved-next}
+use Rattle.workspace.proofs.Areas.{moved, moved-none, Moving, moved-first}
 use Rattle.workspace.proofs.moves.move_down.Statement.{statement}
 use Rattle.workspace.proofs.moves.move_down.Tie as tie
 
 abbrev Inv-loop : tie.InvT-loop
-Inv-loop w₀ from to at n i₀ w i = Moving w₀ w i (to - from) from (from + i) at
+Inv-loop w₀ from to at p₀ q₀ w p q = Moving w₀ w from to at p q (moved w p to q)
 
 abbrev μ-loop : tie.MeasureT-loop
-μ-loop w₀ from to at n i₀ w i = to - from - i
-
-loop-holds : tie.Need-loop-holds Inv-loop μ-loop
-loop-holds c =
-    let a = c .args in
-    record { few = omega arith; size = refl; is = moved-none (a .w .now) (a .from) (a .from + 0) (a .at) (omega arith) }
+μ-loop w₀ from to at p₀ q₀ w p q = to - p
 
 loop-again : tie.Need-loop-again Inv-loop μ-loop
 loop-again c =
-    let l = c .before .before in
-    let a = l .before .args in
+    let l = c .before .before .loop in
+    let to = c .before .before .before .args .to in
     record {
-      few = omega arith;
-      size = simp length-set (l .loop .inv .size);
-      is = rw (l .loop .inv .is) (moved-next (a .w .now) (a .from) (a .at) (l .loop .i) (omega arith) (omega arith));
+      begun = omega arith;
+      within = omega arith;
+      along = omega arith;
+      size = simp length-set (l .inv .size);
+      is = moved-first (l .w) (l .p) to (l .q) (omega arith) (omega arith) (omega arith) ∙ l .inv .is;
     }
-
-returns : tie.Need-returns Inv-loop μ-loop
-returns c =
-    let a = c .before .before .args in
-    let all : a .from + c .before .loop .i ≡ a .to = omega arith in
-    rw all at (c .before .loop .inv .is)
 
 pub move-down-spec : {M : Type 1} → statement M
 move-down-spec =
@@ -41,9 +32,7 @@ move-down-spec =
     (tie.spec
     Inv-loop
     μ-loop
-    (λ c. search needs)
-    loop-holds
-    (λ c. search needs)
+    (λ c. record { begun = omega arith; within = omega arith; along = omega arith; size = refl; is = refl })
     (λ c. search needs)
     (λ c. search needs)
     (λ c. search needs)
@@ -51,4 +40,4 @@ move-down-spec =
     (λ c. search needs)
     loop-again
     (λ c. search needs)
-    returns)
+    (λ c. let l = c .before .loop in moved-none (l .w) (l .p) (c .before .before .args .to) (l .q) (omega arith) ∙ l .inv .is))

@@ -5,9 +5,6 @@ use Rattle.workspace.proofs.Completing.{unpaid, written, part-sized}
 use Rattle.workspace.proofs.values.copied.Statement.{statement}
 use Rattle.workspace.proofs.values.copied.Tie as tie
 
-returns : tie.Need-returns
-returns c vs there shallow = unpaid (part-sized shallow there) (c .if1 .taken)
-
 returns-2 : tie.Need-returns-2
 returns-2 c vs there shallow =
     let k = c .before .before .before in
@@ -20,7 +17,7 @@ copied-spec =
     tie.close
     (tie.spec
     (λ c. search needs)
-    returns
+    (λ c vs there shallow. unpaid (part-sized shallow there) (c .if1 .taken))
     (λ c κs. search needs)
     (λ c. search needs)
     (λ c κs. search needs)

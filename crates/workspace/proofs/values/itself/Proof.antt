@@ -1,56 +1,93 @@
--- `workspace::values::itself` meets its contract: its atoms are written if there is room, and closed in by 01 and 02. Assumes nothing.
+-- `workspace::values::itself` meets its contract: atom by atom its bytes are written while there is room, and closed in by 01 and 02.
+-- Assumes nothing.
 use borrow.Author.Needs.{needs}
-use Prim.Native.Nat.{_+_}
-use mathlib.Core.Path.{sym}
+use Prim.Native.Nat.{_+_, _-_, _≤_}
+use mathlib.Core.Path.{_≡_, refl}
 use native.Mathlib.Omega.{arith}
-use lib.ListN.{length-set}
-use Rattle.spec.specs.Expr.{form, only}
+use lib.ListN.{length, length-set}
+use Rattle.spec.specs.Expr.{canonical}
 use Rattle.spec.specs.Nodes.{Nodes, unnumbered-all}
-use Rattle.laws.proofs.Steps.{all-bytes}
 use Rattle.rows.specs.Rows.{NodesAt}
 use Rattle.workspace.specs.Completed.{Atoms}
-use Rattle.workspace.proofs.Completing.{Sized, unpaid, written, form-sized, form-written, atoms-short, atoms-flat}
+use Rattle.workspace.proofs.Completing.{unpaid, written, form-written, flat-sized, Upto, AtomNext, atoms-start, atoms-end, atoms-next}
 use Rattle.workspace.proofs.values.itself.Statement.{statement}
 use Rattle.workspace.proofs.values.itself.Tie as tie
 
-add-n : tie.Need-add-n
-add-n c =
-    let start = c .before .before .before .before in
-    let some = start .pre .1 in
-    let bytes = all-bytes (start .args .s .now) (λ i. c .before .before .before .shared-slice-known .given i .fits) in
-    omega (arith, c .atoms-size .ensures (some .nodes) (some .at) (some .atoms), atoms-short _ _ bytes some)
+abbrev Inv-loop : tie.InvT-loop
+Inv-loop s table w₀ state range top room end row₀ n₀ w row n =
+    (2 ≤ n) × (n ≤ room) × (length w ≡ length w₀) × ((es : Nodes) → NodesAt s table row₀ end es → Atoms es → Upto s table w₀ w top n row end es)
 
-sized : (c : tie.After-atoms-size) (es : Nodes) → let a = c .before .before .before .before .args in
-    NodesAt (a .s .now) (a .table .now) (a .range .first) (a .range .end) es → Atoms es → Sized (only (form (unnumbered-all es))) (c .atoms-size .result + 2)
-sized c es at atoms = form-sized (unnumbered-all es) _ (sym (c .atoms-size .ensures es at atoms)) (omega (arith, atoms-flat es atoms))
+abbrev μ-loop : tie.MeasureT-loop
+μ-loop s table w₀ state range top room end row₀ n₀ w row n = end - row
 
-returns : tie.Need-returns
-returns c es at atoms = unpaid (sized (c .before .before) es at atoms) (c .if1 .taken)
+loop-holds : tie.Need-loop-holds Inv-loop μ-loop
+loop-holds c =
+    let a = c .before .before .before .before .args in
+    (omega arith, omega arith, refl, λ es at atoms. atoms-start (a .w .now) (a .state .top) es at atoms)
 
-put-atoms-requires : tie.Need-put-atoms-requires
-put-atoms-requires c κs =
-    let k = c .before .before .before in
-    let pre = k .before .before .before .before .pre in
-    ((pre .1, pre .0 .short), λ es at atoms. omega (arith, k .atoms-size .ensures es at atoms, pre .0 .paid, pre .0 .below))
+-- the next of the atoms, if they are these
+module _ (c : tie.In-loop Inv-loop μ-loop) where
+  abbrev start : tie.Start Inv-loop μ-loop
+  start = c .before .before .before .before .before .before
 
-returns-2 : tie.Need-returns-2
+  next : (es : Nodes) → NodesAt (start .args .s .now) (start .args .table .now) (start .args .range .first) (start .args .range .end) es → Atoms es
+      → AtomNext (start .args .s .now) (start .args .table .now) (start .args .w .now) (c .before .loop .w) (start .args .state .top) (c .before .loop .n)
+      (c .before .loop .row) (start .args .range .end) es
+  next es at atoms =
+      let inv = c .before .loop .inv in
+      atoms-next (inv .3 es at atoms) (omega (arith, inv .1, start .pre .0 .paid, start .pre .0 .below)) (c .loop-test .taken)
+
+  some : AtomNext (start .args .s .now) (start .args .table .now) (start .args .w .now) (c .before .loop .w) (start .args .state .top) (c .before .loop .n)
+      (c .before .loop .row) (start .args .range .end) (start .pre .1 .nodes)
+  some = next (start .pre .1 .nodes) (start .pre .1 .at) (start .pre .1 .atoms)
+
+returns-2 : tie.Need-returns-2 Inv-loop μ-loop
 returns-2 c es at atoms =
     let p = c .before .before .before in
-    let k = p .before .before .before .before in
-    let fits = k .before .before .before .before .pre .0 in
+    let l = p .before .before in
+    let a = next l es at atoms in
+    unpaid (flat-sized es atoms refl) (omega (arith, a .fits, p .put-leaf .ensures (a .own) (a .leaf) .0, c .if2 .taken))
+
+loop-again : tie.Need-loop-again Inv-loop μ-loop
+loop-again c =
+    let p = c .before .before .before in
+    let l = p .before .before in
+    let inv = l .before .loop .inv in (
+      omega (arith, inv .0),
+      omega (arith, c .if2 .left),
+      omega (arith, inv .2),
+      λ es at atoms. let a = next l es at atoms in let put = p .put-leaf .ensures (a .own) (a .leaf) in a .next (put .0) (put .1 (c .if2 .left)),
+    )
+
+returns-3 : tie.Need-returns-3 Inv-loop μ-loop
+returns-3 c es at atoms =
+    let l = c .before .before in
+    let fits = l .before .before .before .before .before .pre .0 in
+    let put = atoms-end (l .loop .inv .3 es at atoms) (c .before .loop-test .left) in
+    let size : length (canonical (unnumbered-all es)) + 2 ≡ l .loop .n = omega (arith, put .place, l .loop .inv .0) in
     rw (c .charged .ensures)
-    (written (sized k es at atoms) fits (omega arith) (omega arith)
-    (form-written (unnumbered-all es) _ (sym (k .atoms-size .ensures es at atoms)) _ _ (omega (arith, fits .paid, fits .below)) (p .put-atoms .ensures es at atoms)))
+    (written (flat-sized es atoms size) fits (omega arith) (l .loop .inv .1)
+    (form-written (unnumbered-all es) _ size _ _ (omega (arith, l .loop .inv .1, fits .paid, fits .below)) (put .is)))
 
 pub itself-spec : {M : Type 1} → statement M
 itself-spec =
     tie.close
     (tie.spec
-    (λ c κs. search needs)
-    add-n
-    returns
+    Inv-loop
+    μ-loop
+    (λ c es at atoms. unpaid (flat-sized es atoms refl) (omega arith))
+    loop-holds
     (λ c. search needs)
-    put-atoms-requires
+    (λ c. search needs)
+    (λ c. search needs)
+    (λ c κs. ((omega arith, omega arith), (some (c .before) .own, some (c .before) .leaf)))
+    (λ c. search needs)
+    (λ c. search needs)
+    returns-2
+    (λ c. search needs)
+    (λ c. omega (arith, some (c .before .before .before .before .before) .leaf .row .few))
+    (λ c. search needs)
+    loop-again
     (λ c. search needs)
     (λ c. search needs)
     (λ c. search needs)
@@ -58,4 +95,4 @@ itself-spec =
     (λ c. search needs)
     (λ c κs. search needs)
     (λ c. search needs)
-    returns-2)
+    returns-3)
