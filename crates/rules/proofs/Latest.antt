@@ -52,6 +52,16 @@ module _ (numbers : List ℕ) where
 latest-under : (a b : List ℕ) (n len : ℕ) → n ≤ len → latest a len ≡ latest b len → latest a n ≡ latest b n
 latest-under a b n len h e = latest-fewer a n len h ∙ ap (drop (len - n)) e ∙ sym (latest-fewer b n len h)
 
+-- what the first `count` tell, while code goes from the latest to the first: it is what the first i tell
+pub record Searching {A : Type 0} (tell : List ℕ → A) (numbers : List ℕ) (count i : ℕ) : Type 0 where
+  pub fewer : i ≤ count
+  pub tells : tell (latest numbers i) ≡ tell (latest numbers count)
+
+-- the latest of these and those behind it
+pub searched : {A : Type 0} {tell : List ℕ → A} {numbers : List ℕ} {count i : ℕ} → Searching tell numbers count i → 0 < i
+    → tell (getD numbers (i - 1) 0 ∷ latest numbers (i - 1)) ≡ tell (latest numbers count)
+searched {numbers} {i} l h = rw (← latest-first numbers i h) (l .tells)
+
 -- Views
 
 -- one definition more, one association more
@@ -62,25 +72,19 @@ abbrev pub with-association : ℕ → View → View
 with-association x v = record { definitions = v .definitions; associations = x ∷ v .associations }
 
 module _ (associations definitions : List ℕ) (sc : Scope) (x : ℕ) where
-  abbrev added : List ℕ
-  added = set definitions (sc .defined) x
-
-  abbrev associated : List ℕ
-  associated = set associations (sc .associated) x
-
   pub view-added : sc .defined < length definitions
-      → view associations added (record { defined = sc .defined + 1; associated = sc .associated }) ≡ with-definition x (view associations definitions sc)
+      → view associations (set definitions (sc .defined) x) (record { defined = sc .defined + 1; associated = sc .associated }) ≡ with-definition x (view associations definitions sc)
   view-added h = rw (latest-added definitions (sc .defined) x h)
 
   pub view-associated : sc .associated < length associations
-      → view associated definitions (record { defined = sc .defined; associated = sc .associated + 1 }) ≡ with-association x (view associations definitions sc)
+      → view (set associations (sc .associated) x) definitions (record { defined = sc .defined; associated = sc .associated + 1 }) ≡ with-association x (view associations definitions sc)
   view-associated h = rw (latest-added associations (sc .associated) x h)
 
   -- what was visible before stays
-  pub view-before-added : view associations added sc ≡ view associations definitions sc
+  pub view-before-added : view associations (set definitions (sc .defined) x) sc ≡ view associations definitions sc
   view-before-added = rw (latest-kept definitions (sc .defined) x (sc .defined) (omega arith))
 
-  pub view-before-associated : view associated definitions sc ≡ view associations definitions sc
+  pub view-before-associated : view (set associations (sc .associated) x) definitions sc ≡ view associations definitions sc
   view-before-associated = rw (latest-kept associations (sc .associated) x (sc .associated) (omega arith))
 
 -- what a scope shows stays if what a larger one shows does
