@@ -2,7 +2,7 @@
 -- and of what a key finds. Document 01: "a list of definitions that are visible at each place", "the latest visible definition". Assumes nothing.
 use Prim.Native.Nat.{ℕ, zero, suc, _+_, _-_, _≤_, _<_}
 use mathlib.Core.Path.{_≡_, refl, sym, ap, _∙_}
-use mathlib.Core.List.{List, _∷_}
+use mathlib.Core.List.{List, [], _∷_}
 use native.Mathlib.Omega.{arith}
 use native.Mathlib.Numerals.{add-one}
 use lib.ListN.{length, getD, set, drop}
@@ -62,6 +62,11 @@ pub searched : {A : Type 0} {tell : List ℕ → A} {numbers : List ℕ} {count 
     → tell (getD numbers (i - 1) 0 ∷ latest numbers (i - 1)) ≡ tell (latest numbers count)
 searched {numbers} {i} l h = rw (← latest-first numbers i h) (l .tells)
 
+-- none are left
+pub searched-all : {A : Type 0} {tell : List ℕ → A} {numbers : List ℕ} {count i : ℕ} → Searching tell numbers count i → i ≤ 0 → tell [] ≡ tell (latest numbers count)
+unfolding latest
+searched-all {i} l h = let z : i ≡ 0 = omega arith in rw z at (l .tells)
+
 -- Views
 
 -- one definition more, one association more
@@ -73,11 +78,13 @@ with-association x v = record { definitions = v .definitions; associations = x �
 
 module _ (associations definitions : List ℕ) (sc : Scope) (x : ℕ) where
   pub view-added : sc .defined < length definitions
-      → view associations (set definitions (sc .defined) x) (record { defined = sc .defined + 1; associated = sc .associated }) ≡ with-definition x (view associations definitions sc)
+      → view associations (set definitions (sc .defined) x) (record { defined = sc .defined + 1; associated = sc .associated })
+          ≡ with-definition x (view associations definitions sc)
   view-added h = rw (latest-added definitions (sc .defined) x h)
 
   pub view-associated : sc .associated < length associations
-      → view (set associations (sc .associated) x) definitions (record { defined = sc .defined; associated = sc .associated + 1 }) ≡ with-association x (view associations definitions sc)
+      → view (set associations (sc .associated) x) definitions (record { defined = sc .defined; associated = sc .associated + 1 })
+          ≡ with-association x (view associations definitions sc)
   view-associated h = rw (latest-added associations (sc .associated) x h)
 
   -- what was visible before stays

@@ -1,7 +1,7 @@
 -- Laws of associations: what an entry tells of its marker and id, and what all of them tell of all namespaces.
 -- Document 01: "associates ref's marker with id", "id used before". Assumes nothing.
 use Prim.Native.Nat.{ℕ, zero, suc, _+_, _≤_, _<_}
-use mathlib.Core.Path.{_≡_, refl, ap, _∙_}
+use mathlib.Core.Path.{_≡_, refl, ap}
 use mathlib.Core.List.{List, [], _∷_}
 use mathlib.Core.Bool.{Bool, true, false}
 use native.Mathlib.Omega.{arith}

@@ -20,7 +20,7 @@ use Rattle.workspace.specs.Packed.{pack}
 use Rattle.workspace.specs.Completed.{Stand, ArgumentsAt, Untouched}
 use Rattle.workspace.proofs.Packing.{from-packed, to-packed}
 use Rattle.workspace.proofs.Areas.{untouched-none, slice-below, stand-above}
-use Rattle.rules.specs.Entries.{function-bit, definition, key-in, content-in}
+use Rattle.rules.specs.Entries.{function-bit, definition, content-in}
 use Rattle.rules.specs.Scope.{View, find}
 use Rattle.rules.specs.Associations.{AssociationAt, Linked}
 use Rattle.rules.specs.Settings.{CodeAt, EntryAt, value-at, function-at, Shows, Sees, ArgumentsOf, no-code, in-code}
@@ -94,18 +94,18 @@ module _ (s t w : List ℕ) (floor : ℕ) where
         function-answer code visible body behind at (omega (arith, h)) (rw one sh)
 
     -- the latest definition is of the key, or it isn't
-    answers-next : (e : ℕ) (es : List ℕ) (ds : Scope) (k l : ℕ) (c : Defined) (b : Bool) → eqb (key-of k l) key ≡ b → EntryAt s t w floor e k l c → Shows s t w floor es ds
-        → Answers s t w floor es (find key es) (look-up m n ds) → Answers s t w floor (e ∷ es) (find key (e ∷ es)) (if b then latest c ds else look-up m n ds)
+    answers-next : (e : ℕ) (es : List ℕ) (ds : Scope) (k l : ℕ) (c : Defined) (b : Bool) → eqb (key-of k l) key ≡ b → EntryAt s t w floor e k l c
+        → Shows s t w floor es ds → Answers s t w floor (e ∷ es) (find key es) (look-up m n ds)
+        → Answers s t w floor (e ∷ es) (find key (e ∷ es)) (if b then latest c ds else look-up m n ds)
     answers-next e es ds k l (value vs) true q (value-at from to f is p low order short stand) sh rest =
-        let found : find key (e ∷ es) ≡ Value from to = sym (find-value key e es (is ∙ eqb-true _ _ q)) ∙ rw (p, from-packed from to order short, to-packed from to order short) in
-        rw found (value-answer from to vs ds stand order low)
+        rw (← find-value key e es (is ∙ eqb-true _ _ q), p, from-packed from to order short, to-packed from to order short) (value-answer from to vs ds stand order low)
     answers-next e es ds k l (function body) true q (function-at f is code) sh rest =
         let one : suc (length es) - length es ≡ 1 = omega arith in
         rw (← find-function key e es (omega (arith, is, eqb-true (key-of k l) key q))) (function-answer (content-in e) (length es) body ds code (omega arith) (rw one sh))
     answers-next e es ds k l (value vs) false q (value-at from to f is p low order short stand) sh rest =
-        rw (← find-other key e es (λ h. eqb-false _ _ q (sym is ∙ h)) (λ h. omega (arith, is, h, key-small k l (f .1) (f .2)))) (answers-more e es rest)
+        rw (← find-other key e es (λ h. eqb-false _ _ q (sym is ∙ h)) (λ h. omega (arith, is, h, key-small k l (f .1) (f .2)))) rest
     answers-next e es ds k l (function body) false q (function-at f is code) sh rest =
-        rw (← find-other key e es (λ h. omega (arith, is, h, key-small m n (fits .1) (fits .2))) (λ h. eqb-false (key-of k l) key q (omega (arith, is, h)))) (answers-more e es rest)
+        rw (← find-other key e es (λ h. omega (arith, is, h, key-small m n (fits .1) (fits .2))) (λ h. eqb-false (key-of k l) key q (omega (arith, is, h)))) rest
 
     pub answers : (es : List ℕ) (ds : Scope) → Shows s t w floor es ds → Answers s t w floor es (find key es) (look-up m n ds)
     unfolding Shows find look-up
@@ -114,7 +114,7 @@ module _ (s t w : List ℕ) (floor : ℕ) where
     answers (e ∷ es) [] sh = absurd sh
     answers (e ∷ es) (d ∷ ds) sh =
         let test = key-test (d .marker) (d .name) m n (entry-fits e (d .marker) (d .name) (d .content) (sh .0) .2) (fits .2) in
-        rw (← test) (answers-next e es ds (d .marker) (d .name) (d .content) _ refl (sh .0) (sh .1) (answers es ds (sh .1)))
+        rw (← test) (answers-next e es ds (d .marker) (d .name) (d .content) _ refl (sh .0) (sh .1) (answers-more e es (answers es ds (sh .1))))
 
 -- Sees
 

@@ -7,8 +7,7 @@ use lib.ListN.{length, getD}
 use lib.Seq.{slice}
 use Rattle.spec.specs.Expr.{some}
 use Rattle.rows.proofs.Slices.{slice-take}
-use Rattle.rules.specs.Scope.{latest}
-use Rattle.rules.proofs.Latest.{Searching, searched}
+use Rattle.rules.proofs.Latest.{Searching, searched, searched-all}
 use Rattle.rules.proofs.Linking.{identifies, linked-inside, some-identified}
 use Rattle.rules.proofs.namespaces.used.Statement.{statement}
 use Rattle.rules.proofs.namespaces.used.Tie as tie
@@ -20,11 +19,11 @@ abbrev μ-loop : tie.MeasureT-loop
 μ-loop s associations from to i₀ i = i
 
 -- the latest id that is left is inside the stream
-ends : (c : tie.After-size-in Inv-loop μ-loop) → c .before .place-in .result + c .size-in .result ≤ length (c .before .before .before .before .before .before .args .s .now)
+ends : (c : tie.After-size-in Inv-loop μ-loop)
+    → c .before .place-in .result + c .size-in .result ≤ length (c .before .before .before .before .before .before .args .s .now)
 ends c =
-    let l = c .before .before .before in
-    let inside = linked-inside _ _ _ (l .before .loop .i - 1) _ (l .before .before .before .pre .0 .linked) (omega (arith, l .before .loop .inv .fewer, l .loop-test .taken)) in
-    rw (c .before .place-in .ensures, c .size-in .ensures) inside
+    let l = c .before .before .before .before in
+    rw (c .before .place-in .ensures, c .size-in .ensures) (linked-inside _ _ _ (l .loop .i - 1) _ (l .before .before .pre .0 .linked) (omega arith))
 
 -- what the comparison tells of it
 told : (c : tie.After-same-bytes Inv-loop μ-loop) → let l = c .before .before .before .before .before .before .before in
@@ -32,7 +31,7 @@ told : (c : tie.After-same-bytes Inv-loop μ-loop) → let l = c .before .before
     identifies (a .s .now) (slice (a .from) (a .to) (a .s .now)) (getD (a .associations .now) (l .loop .i - 1) 0) ≡ c .same-bytes .result
 told c =
     let k = c .before .before .before in
-    rw (← k .before .place-in .ensures, ← k .size-in .ensures, slice-take, slice-take) (sym (c .same-bytes .ensures))
+    rw (← k .before .place-in .ensures, ← k .size-in .ensures) (simp slice-take (sym (c .same-bytes .ensures)))
 
 returns : tie.Need-returns Inv-loop μ-loop
 unfolding some
@@ -46,13 +45,8 @@ loop-again c =
     let l = c .before .before .before .before .before .before .before in
     record { fewer = search needs; tells = rw (told (c .before) ∙ c .if1 .left) at (searched (l .before .loop .inv) (l .loop-test .taken)) }
 
-returns-2 : tie.Need-returns-2 Inv-loop μ-loop
-unfolding some latest
-returns-2 c ks n =
-    let z : c .before .loop .i ≡ 0 = omega arith in
-    rw z at (c .before .loop .inv .tells) ∙ some-identified _ _ _ ks n
-
 pub used-spec : {M : Type 1} → statement M
+unfolding some
 used-spec =
     tie.close
     (tie.spec
@@ -75,4 +69,4 @@ used-spec =
     returns
     (λ c. search needs)
     loop-again
-    returns-2)
+    (λ c ks n. searched-all (c .before .loop .inv) (c .loop-test .left) ∙ some-identified _ _ _ ks n))

@@ -1,11 +1,9 @@
 -- `rules::scope::Scope::has_marker` meets its contract: what is left to search has the marker if the whole has it. Assumes nothing.
 use borrow.Author.Needs.{needs}
-use mathlib.Core.Path.{_≡_, sym, _∙_}
-use native.Mathlib.Omega.{arith}
+use mathlib.Core.Path.{sym, _∙_}
 use borrow.Author.Tests.{eq-eqb, ne-eqb}
 use Rattle.spec.specs.Expr.{some}
-use Rattle.rules.specs.Scope.{latest}
-use Rattle.rules.proofs.Latest.{Searching, searched}
+use Rattle.rules.proofs.Latest.{Searching, searched, searched-all}
 use Rattle.rules.proofs.Linking.{marks, some-marked}
 use Rattle.rules.proofs.scope.Scope.has_marker.Statement.{statement}
 use Rattle.rules.proofs.scope.Scope.has_marker.Tie as tie
@@ -30,13 +28,8 @@ loop-again c =
     let other = ne-eqb _ _ (λ q. c .if1 .left (c .before .marker-in .ensures ∙ q)) in
     record { fewer = search needs; tells = rw other at (searched (l .before .loop .inv) (l .loop-test .taken)) }
 
-returns-2 : tie.Need-returns-2 Inv-loop μ-loop
-unfolding some latest
-returns-2 c s ks n =
-    let z : c .before .loop .i ≡ 0 = omega arith in
-    rw z at (c .before .loop .inv .tells) ∙ some-marked s _ _ ks n
-
 pub has-marker-spec : {M : Type 1} → statement M
+unfolding some
 has-marker-spec =
     tie.close
     (tie.spec
@@ -50,4 +43,4 @@ has-marker-spec =
     returns
     (λ c. search needs)
     loop-again
-    returns-2)
+    (λ c s ks n. searched-all (c .before .loop .inv) (c .loop-test .left) ∙ some-marked s _ _ ks n))

@@ -1,9 +1,8 @@
 -- `rules::scope::Scope::look_up` meets its contract: what is left to search finds what the whole does. Assumes nothing.
 use borrow.Author.Needs.{needs}
-use mathlib.Core.Path.{_≡_, sym, _∙_}
-use native.Mathlib.Omega.{arith}
-use Rattle.rules.specs.Scope.{latest, find}
-use Rattle.rules.proofs.Latest.{latest-length, Searching, searched, find-value, find-function, find-other}
+use mathlib.Core.Path.{sym, _∙_}
+use Rattle.rules.specs.Scope.{find}
+use Rattle.rules.proofs.Latest.{latest-length, Searching, searched, searched-all, find-value, find-function, find-other}
 use Rattle.rules.proofs.scope.Scope.look_up.Statement.{statement}
 use Rattle.rules.proofs.scope.Scope.look_up.Tie as tie
 
@@ -35,13 +34,8 @@ loop-again c =
     let rest = find-other _ _ _ (λ q. c .before .if1 .left (is ∙ q)) (λ q. c .if2 .left (is ∙ q)) ∙ searched (l .before .loop .inv) (l .loop-test .taken) in
     record { fewer = search needs; tells = rest }
 
-returns-3 : tie.Need-returns-3 Inv-loop μ-loop
-unfolding find latest
-returns-3 c =
-    let z : c .before .loop .i ≡ 0 = omega arith in
-    rw z at (c .before .loop .inv .tells)
-
 pub look-up-spec : {M : Type 1} → statement M
+unfolding find
 look-up-spec =
     tie.close
     (tie.spec
@@ -62,4 +56,4 @@ look-up-spec =
     returns-2
     (λ c. search needs)
     loop-again
-    returns-3)
+    (λ c. searched-all (c .before .loop .inv) (c .loop-test .left)))
