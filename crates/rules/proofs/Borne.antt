@@ -34,10 +34,10 @@ module _ (marker : ℕ) where
   pub reference-bears : {s t : List ℕ} {r : ℕ} (k q : ℕ) (a : Atom) → Bytes s → LeafAt s t r a → cell t r 0 ≡ 4 → ((m n : ℕ) → LeafAt s t r (ref m n) → k ≡ key-of m n)
       → eqb marker (k / 256) ≡ some (eqb marker) (markers (leaf q a))
   unfolding some markers
-  reference-bears {s} {t} {r} k q a b l h e = go (kind-ref a (leaf-kind l ∙ h))
-    where
-      go : (m : ℕ) × (n : ℕ) × (a ≡ ref m n) → eqb marker (k / 256) ≡ some (eqb marker) (markers (leaf q a))
-      go (m, n, is) = let there = rw is at l in rw (is, e m n there, key-marker m n (leaf-fits b there .2), or-false (eqb marker m))
+  reference-bears k q a b l h e =
+      let is = kind-ref a (leaf-kind l ∙ h) in
+      let there = rw (is .2) at l in
+      rw (is .2, e (is .0) (is .1) there, key-marker (is .0) (is .1) (leaf-fits b there .2), or-false (eqb marker (is .0)))
 
 -- Rows one after the other
 

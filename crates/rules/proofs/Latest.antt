@@ -1,10 +1,10 @@
 -- Laws of what a scope shows of the lent arrays: how much it is, less of it, one entry more, and that what is written past it changes nothing of it;
 -- and of what a key finds. Document 01: "a list of definitions that are visible at each place", "the latest visible definition". Assumes nothing.
 use Prim.Native.Nat.{ℕ, zero, suc, _+_, _-_, _≤_, _<_}
-use mathlib.Core.Path.{_≡_, refl, sym, ap, _∙_}
+use mathlib.Core.Path.{_≡_, refl, ap}
 use mathlib.Core.List.{List, [], _∷_}
 use native.Mathlib.Omega.{arith}
-use native.Mathlib.Numerals.{add-one}
+use native.Mathlib.Numerals.{add-one, unary-clauses}
 use lib.ListN.{length, getD, set, drop}
 use lib.Seq.{getD-set-same, getD-set-other}
 use borrow.Author.Tests.{eq-eqb, ne-eqb}
@@ -22,20 +22,13 @@ module _ (numbers : List ℕ) where
   latest-length zero = refl
   latest-length (suc n) = ap suc (latest-length n)
 
-  -- the latest is the last
-  pub latest-first : (n : ℕ) → 0 < n → latest numbers n ≡ getD numbers (n - 1) 0 ∷ latest numbers (n - 1)
+  latest-back : (k n : ℕ) → latest numbers n ≡ drop k (latest numbers (n + k))
   unfolding latest
-  latest-first zero h = absurd (omega arith)
-  latest-first (suc n) h = let back : suc n - 1 ≡ n = omega arith in rw back
-
-  latest-back : (k n len : ℕ) → k + n ≡ len → latest numbers n ≡ drop k (latest numbers len)
-  unfolding latest
-  latest-back zero n len h = let all : n ≡ len = omega arith in ap (latest numbers) all
-  latest-back (suc k) n zero h = absurd (omega arith)
-  latest-back (suc k) n (suc len) h = latest-back k n len (omega arith)
+  latest-back zero n = simp unary-clauses
+  latest-back (suc k) n = simp unary-clauses (latest-back k n)
 
   pub latest-fewer : (n len : ℕ) → n ≤ len → latest numbers n ≡ drop (len - n) (latest numbers len)
-  latest-fewer n len h = latest-back (len - n) n len (omega arith)
+  latest-fewer n len h = let all : n + (len - n) ≡ len = omega arith in rw all at (latest-back (len - n) n)
 
   module _ (i x : ℕ) where
     -- what is stored at i changes none before it
@@ -48,24 +41,22 @@ module _ (numbers : List ℕ) where
     unfolding latest
     latest-added h = rw (add-one i, getD-set-same numbers i x 0 h, latest-kept i (omega arith))
 
--- if the first `len` are the same in two arrays, so are the first n of them
-latest-under : (a b : List ℕ) (n len : ℕ) → n ≤ len → latest a len ≡ latest b len → latest a n ≡ latest b n
-latest-under a b n len h e = latest-fewer a n len h ∙ ap (drop (len - n)) e ∙ sym (latest-fewer b n len h)
-
 -- what the first `count` tell, while code goes from the latest to the first: it is what the first i tell
 pub record Searching {A : Type 0} (tell : List ℕ → A) (numbers : List ℕ) (count i : ℕ) : Type 0 where
   pub fewer : i ≤ count
   pub tells : tell (latest numbers i) ≡ tell (latest numbers count)
 
--- the latest of these and those behind it
-pub searched : {A : Type 0} {tell : List ℕ → A} {numbers : List ℕ} {count i : ℕ} → Searching tell numbers count i → 0 < i
-    → tell (getD numbers (i - 1) 0 ∷ latest numbers (i - 1)) ≡ tell (latest numbers count)
-searched {numbers} {i} l h = rw (← latest-first numbers i h) (l .tells)
+module _ {A : Type 0} {tell : List ℕ → A} {numbers : List ℕ} {count : ℕ} where
+  -- the latest of these, which is the last, and those behind it
+  pub searched : (i : ℕ) → Searching tell numbers count i → 0 < i → tell (getD numbers (i - 1) 0 ∷ latest numbers (i - 1)) ≡ tell (latest numbers count)
+  unfolding latest
+  searched zero l h = absurd (omega arith)
+  searched (suc i) l h = let back : suc i - 1 ≡ i = omega arith in rw back (l .tells)
 
--- none are left
-pub searched-all : {A : Type 0} {tell : List ℕ → A} {numbers : List ℕ} {count i : ℕ} → Searching tell numbers count i → i ≤ 0 → tell [] ≡ tell (latest numbers count)
-unfolding latest
-searched-all {i} l h = let z : i ≡ 0 = omega arith in rw z at (l .tells)
+  -- none are left
+  pub searched-all : {i : ℕ} → Searching tell numbers count i → i ≤ 0 → tell [] ≡ tell (latest numbers count)
+  unfolding latest
+  searched-all {i} l h = let z : i ≡ 0 = omega arith in rw z at (l .tells)
 
 -- Views
 
@@ -79,12 +70,12 @@ with-association x v = record { definitions = v .definitions; associations = x �
 module _ (associations definitions : List ℕ) (sc : Scope) (x : ℕ) where
   pub view-added : sc .defined < length definitions
       → view associations (set definitions (sc .defined) x) (record { defined = sc .defined + 1; associated = sc .associated })
-          ≡ with-definition x (view associations definitions sc)
+      ≡ with-definition x (view associations definitions sc)
   view-added h = rw (latest-added definitions (sc .defined) x h)
 
   pub view-associated : sc .associated < length associations
       → view (set associations (sc .associated) x) definitions (record { defined = sc .defined; associated = sc .associated + 1 })
-          ≡ with-association x (view associations definitions sc)
+      ≡ with-association x (view associations definitions sc)
   view-associated h = rw (latest-added associations (sc .associated) x h)
 
   -- what was visible before stays
@@ -98,10 +89,9 @@ module _ (associations definitions : List ℕ) (sc : Scope) (x : ℕ) where
 pub view-under : (associations definitions associations′ definitions′ : List ℕ) (outer sc : Scope) → outer .defined ≤ sc .defined → outer .associated ≤ sc .associated
     → view associations′ definitions′ sc ≡ view associations definitions sc → view associations′ definitions′ outer ≡ view associations definitions outer
 view-under associations definitions associations′ definitions′ outer sc h h′ same =
-    rw (
-      latest-under definitions′ definitions (outer .defined) (sc .defined) h (ap (λ (v : View). v .definitions) same),
-      latest-under associations′ associations (outer .associated) (sc .associated) h′ (ap (λ (v : View). v .associations) same),
-    )
+    let defined = ap (λ (v : View). v .definitions) same in
+    let associated = ap (λ (v : View). v .associations) same in
+    cc (latest-fewer definitions _ _ h, latest-fewer definitions′ _ _ h, latest-fewer associations _ _ h′, latest-fewer associations′ _ _ h′, defined, associated)
 
 -- What a key finds
 

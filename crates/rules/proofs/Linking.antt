@@ -3,12 +3,11 @@
 use Prim.Native.Nat.{ℕ, zero, suc, _+_, _≤_, _<_}
 use mathlib.Core.Path.{_≡_, refl, ap}
 use mathlib.Core.List.{List, [], _∷_}
-use mathlib.Core.Bool.{Bool, true, false}
+use mathlib.Core.Bool.{Bool}
 use native.Mathlib.Omega.{arith}
 use lib.ListN.{length, getD}
 use lib.Seq.{slice}
 use lib.Dec.{eqb}
-use borrow.Author.Tests.{eqb-true, eqb-false}
 use Rattle.spec.specs.Expr.{same, some}
 use Rattle.spec.specs.Plan.{Namespace}
 use Rattle.rules.specs.Entries.{marker-in, place-in, size-in}
@@ -47,16 +46,13 @@ module _ (s : List ℕ) where
   linked-length (e ∷ es) (k ∷ ks) n = ap suc (linked-length es ks (n .1))
 
   -- each id is inside the stream
-  pub linked-inside : (associations : List ℕ) (count i : ℕ) (ks : List Namespace) → Linked s (latest associations count) ks → i < count
+  pub linked-inside : (associations : List ℕ) (k i count : ℕ) (ks : List Namespace) → Linked s (latest associations count) ks → k + suc i ≡ count
       → place-in (getD associations i 0) + size-in (getD associations i 0) ≤ length s
   unfolding Linked latest
-  linked-inside es zero i ks n h = absurd (omega arith)
-  linked-inside es (suc count) i [] n h = absurd n
-  linked-inside es (suc count) i (k ∷ ks) n h = go (eqb i count) refl (linked-inside es count i ks (n .1))
-    where
-      go : let e = getD es i 0 in (b : Bool) → eqb i count ≡ b → (i < count → place-in e + size-in e ≤ length s) → place-in e + size-in e ≤ length s
-      go true q rest = rw (eqb-true i count q, place-is (n .0), size-is (n .0)) (n .0 .inside)
-      go false q rest = rest (omega (arith, eqb-false i count q))
+  linked-inside es k i zero ks n h = absurd (omega arith)
+  linked-inside es k i (suc count) [] n h = absurd n
+  linked-inside es zero i (suc count) (x ∷ ks) n h = let last : i ≡ count = omega arith in rw (last, place-is (n .0), size-is (n .0)) (n .0 .inside)
+  linked-inside es (suc k) i (suc count) (x ∷ ks) n h = linked-inside es k i count ks (n .1) (omega arith)
 
   -- a test of entries that is a test of namespaces
   module _ (test : ℕ → Bool) (test′ : Namespace → Bool) (each : (e : ℕ) (k : Namespace) → AssociationAt s e k → test e ≡ test′ k) where

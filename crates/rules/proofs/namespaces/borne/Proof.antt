@@ -19,11 +19,6 @@ Inv-loop s table row marker r₀ r =
 abbrev μ-loop : tie.MeasureT-loop
 μ-loop s table row marker r₀ r = row - r
 
-bears-requires : tie.Need-bears-requires Inv-loop μ-loop
-bears-requires c κs =
-    let l = c .before in
-    (_, nodes-more _ _ _ _ _ (l .loop .inv _ (l .before .before .before .pre .1) .stand) (c .loop-test .taken) .node)
-
 returns : tie.Need-returns Inv-loop μ-loop
 returns c es n =
     let b = c .before in
@@ -42,7 +37,7 @@ borne-spec =
     Inv-loop
     μ-loop
     (λ c es n. record { nodes = es; stand = n; tells = refl })
-    bears-requires
+    (λ c κs. (_, nodes-more _ _ _ _ _ (c .before .loop .inv _ (c .before .before .before .before .pre .1) .stand) (c .loop-test .taken) .node))
     returns
     (λ c. search needs)
     (λ c. search needs)

@@ -23,7 +23,8 @@ ends : (c : tie.After-size-in Inv-loop μ-loop)
     → c .before .place-in .result + c .size-in .result ≤ length (c .before .before .before .before .before .before .args .s .now)
 ends c =
     let l = c .before .before .before .before in
-    rw (c .before .place-in .ensures, c .size-in .ensures) (linked-inside _ _ _ (l .loop .i - 1) _ (l .before .before .pre .0 .linked) (omega arith))
+    let a = l .before .before .args in
+    rw (c .before .place-in .ensures, c .size-in .ensures) (linked-inside _ _ (a .scope .associated - l .loop .i) (l .loop .i - 1) _ _ (l .before .before .pre .0 .linked) (omega arith))
 
 -- what the comparison tells of it
 told : (c : tie.After-same-bytes Inv-loop μ-loop) → let l = c .before .before .before .before .before .before .before in
@@ -37,13 +38,13 @@ returns : tie.Need-returns Inv-loop μ-loop
 unfolding some
 returns c ks n =
     let l = c .before .before .before .before .before .before .before in
-    rw (told (c .before) ∙ c .if1 .taken) at (searched (l .before .loop .inv) (l .loop-test .taken)) ∙ some-identified _ _ _ ks n
+    rw (told (c .before) ∙ c .if1 .taken) at (searched _ (l .before .loop .inv) (l .loop-test .taken)) ∙ some-identified _ _ _ ks n
 
 loop-again : tie.Need-loop-again Inv-loop μ-loop
 unfolding some
 loop-again c =
     let l = c .before .before .before .before .before .before .before in
-    record { fewer = search needs; tells = rw (told (c .before) ∙ c .if1 .left) at (searched (l .before .loop .inv) (l .loop-test .taken)) }
+    record { fewer = search needs; tells = rw (told (c .before) ∙ c .if1 .left) at (searched _ (l .before .loop .inv) (l .loop-test .taken)) }
 
 pub used-spec : {M : Type 1} → statement M
 unfolding some

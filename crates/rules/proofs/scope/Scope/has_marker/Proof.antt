@@ -19,14 +19,14 @@ unfolding some
 returns c s ks n =
     let l = c .before .before .before in
     let same = eq-eqb _ _ (sym (c .before .marker-in .ensures) ∙ c .if1 .taken) in
-    rw same at (searched (l .before .loop .inv) (l .loop-test .taken)) ∙ some-marked s _ _ ks n
+    rw same at (searched _ (l .before .loop .inv) (l .loop-test .taken)) ∙ some-marked s _ _ ks n
 
 loop-again : tie.Need-loop-again Inv-loop μ-loop
 unfolding some
 loop-again c =
     let l = c .before .before .before in
     let other = ne-eqb _ _ (λ q. c .if1 .left (c .before .marker-in .ensures ∙ q)) in
-    record { fewer = search needs; tells = rw other at (searched (l .before .loop .inv) (l .loop-test .taken)) }
+    record { fewer = search needs; tells = rw other at (searched _ (l .before .loop .inv) (l .loop-test .taken)) }
 
 pub has-marker-spec : {M : Type 1} → statement M
 unfolding some

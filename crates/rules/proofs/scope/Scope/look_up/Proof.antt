@@ -16,14 +16,14 @@ returns : tie.Need-returns Inv-loop μ-loop
 returns c =
     let k = c .before .before .before in
     let l = k .before .before .before in
-    let all = find-value _ _ _ (sym (k .before .key-in .ensures) ∙ k .if1 .taken) ∙ searched (l .before .loop .inv) (l .loop-test .taken) in
+    let all = find-value _ _ _ (sym (k .before .key-in .ensures) ∙ k .if1 .taken) ∙ searched _ (l .before .loop .inv) (l .loop-test .taken) in
     rw (c .before .packed-from .ensures, c .packed-to .ensures, c .before .before .content-in .ensures) all
 
 returns-2 : tie.Need-returns-2 Inv-loop μ-loop
 returns-2 c =
     let k = c .before .before in
     let l = k .before .before .before .before in
-    let all = find-function _ _ _ (sym (k .before .before .key-in .ensures) ∙ k .if2 .taken) ∙ searched (l .before .loop .inv) (l .loop-test .taken) in
+    let all = find-function _ _ _ (sym (k .before .before .key-in .ensures) ∙ k .if2 .taken) ∙ searched _ (l .before .loop .inv) (l .loop-test .taken) in
     rw (c .code-row .ensures, c .before .content-in2 .ensures) (rw latest-length at all)
 
 loop-again : tie.Need-loop-again Inv-loop μ-loop
@@ -31,7 +31,7 @@ loop-again c =
     let k = c .before .before in
     let l = k .before .before in
     let is = k .key-in .ensures in
-    let rest = find-other _ _ _ (λ q. c .before .if1 .left (is ∙ q)) (λ q. c .if2 .left (is ∙ q)) ∙ searched (l .before .loop .inv) (l .loop-test .taken) in
+    let rest = find-other _ _ _ (λ q. c .before .if1 .left (is ∙ q)) (λ q. c .if2 .left (is ∙ q)) ∙ searched _ (l .before .loop .inv) (l .loop-test .taken) in
     record { fewer = search needs; tells = rest }
 
 pub look-up-spec : {M : Type 1} → statement M
