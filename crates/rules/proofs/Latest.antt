@@ -1,5 +1,6 @@
--- Laws of what a scope shows of the lent arrays: how much it is, less of it, one entry more, and that what is written past it changes nothing of it;
--- and of what a key finds. Document 01: "a list of definitions that are visible at each place", "the latest visible definition". Assumes nothing.
+-- Laws of what a scope shows of the lent arrays: how much it is, less of it, one entry more, that what is written past it changes nothing of it, and
+-- what is left of it while code goes from the latest entry to the first.
+-- Document 01: "a list of definitions that are visible at each place", "the latest visible definition". Assumes nothing.
 use Prim.Native.Nat.{ℕ, zero, suc, _+_, _-_, _≤_, _<_}
 use mathlib.Core.Path.{_≡_, refl, ap}
 use mathlib.Core.List.{List, [], _∷_}
@@ -7,12 +8,8 @@ use native.Mathlib.Omega.{arith}
 use native.Mathlib.Numerals.{add-one, unary-clauses}
 use lib.ListN.{length, getD, set, drop}
 use lib.Seq.{getD-set-same, getD-set-other}
-use borrow.Author.Tests.{eq-eqb, ne-eqb}
-use Rattle.workspace.specs.Packed.{packed-from, packed-to}
-use Rattle.rules.specs.Entries.{function-bit, key-in, content-in}
-use Rattle.rules.specs.Scope.{latest, View, view, find}
+use Rattle.rules.specs.Scope.{latest, View, view}
 use Rattle.rules.specs.declared.scope.Scope.{Scope}
-use Rattle.rules.specs.declared.scope.Found.the-variants.{Value, Function}
 
 -- The first n numbers of an array
 
@@ -92,18 +89,3 @@ view-under associations definitions associations′ definitions′ outer sc h h�
     let defined = ap (λ (v : View). v .definitions) same in
     let associated = ap (λ (v : View). v .associations) same in
     cc (latest-fewer definitions _ _ h, latest-fewer definitions′ _ _ h, latest-fewer associations _ _ h′, latest-fewer associations′ _ _ h′, defined, associated)
-
--- What a key finds
-
-module _ (key e : ℕ) (es : List ℕ) where
-  pub find-value : key-in e ≡ key → Value (packed-from (content-in e)) (packed-to (content-in e)) ≡ find key (e ∷ es)
-  unfolding find
-  find-value h = rw (eq-eqb (key-in e) key h)
-
-  pub find-function : key-in e ≡ key + function-bit → Function (content-in e) (length es) ≡ find key (e ∷ es)
-  unfolding find
-  find-function h = rw (ne-eqb (key-in e) key (λ h′. omega (arith, h, h′)), eq-eqb (key-in e) (key + function-bit) h)
-
-  pub find-other : (key-in e ≡ key → ⊥) → (key-in e ≡ key + function-bit → ⊥) → find key es ≡ find key (e ∷ es)
-  unfolding find
-  find-other h h′ = rw (ne-eqb (key-in e) key h, ne-eqb (key-in e) (key + function-bit) h′)

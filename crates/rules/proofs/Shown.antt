@@ -8,7 +8,7 @@ use mathlib.Core.Bool.{Bool, true, false}
 use native.Mathlib.Omega.{arith}
 use lib.ListN.{length, drop}
 use lib.Dec.{eqb}
-use borrow.Author.Tests.{eqb-true, eqb-false}
+use borrow.Author.Tests.{eqb-true, eqb-false, eq-eqb, ne-eqb}
 use Rattle.spec.specs.Expr.{if_then_else_, ref, Exprs, none, more}
 use Rattle.spec.specs.Nodes.{Nodes}
 use Rattle.spec.specs.Plan.{Defined, value, function, Definition, Scope, Found as Sought, latest, nothing, look-up, Namespace, Arguments, Here}
@@ -20,14 +20,14 @@ use Rattle.workspace.specs.Packed.{pack}
 use Rattle.workspace.specs.Completed.{Stand, ArgumentsAt, Untouched}
 use Rattle.workspace.proofs.Packing.{from-packed, to-packed}
 use Rattle.workspace.proofs.Areas.{untouched-none, slice-below, stand-above}
-use Rattle.rules.specs.Entries.{function-bit, definition, content-in}
+use Rattle.rules.specs.Entries.{function-bit, definition, key-in, content-in}
 use Rattle.rules.specs.Scope.{View, find}
 use Rattle.rules.specs.Associations.{AssociationAt, Linked}
 use Rattle.rules.specs.Settings.{CodeAt, EntryAt, value-at, function-at, Shows, Sees, ArgumentsOf, no-code, in-code}
 use Rattle.rules.specs.declared.scope.Found.{Found}
 use Rattle.rules.specs.declared.scope.Found.the-variants.{Value, Function, Nothing}
 use Rattle.rules.specs.declared.here.Frame.{Frame}
-use Rattle.rules.proofs.Latest.{with-definition, with-association, find-value, find-function, find-other}
+use Rattle.rules.proofs.Latest.{with-definition, with-association}
 
 -- Entries
 
@@ -97,15 +97,19 @@ module _ (s t w : List ℕ) (floor : ℕ) where
     answers-next : (e : ℕ) (es : List ℕ) (ds : Scope) (k l : ℕ) (c : Defined) (b : Bool) → eqb (key-of k l) key ≡ b → EntryAt s t w floor e k l c
         → Shows s t w floor es ds → Answers s t w floor (e ∷ es) (find key es) (look-up m n ds)
         → Answers s t w floor (e ∷ es) (find key (e ∷ es)) (if b then latest c ds else look-up m n ds)
+    unfolding find
     answers-next e es ds k l (value vs) true q (value-at from to f is p low order short stand) sh rest =
-        rw (← find-value key e es (is ∙ eqb-true _ _ q), p, from-packed from to order short, to-packed from to order short) (value-answer from to vs ds stand order low)
+        rw (eq-eqb (key-in e) key (is ∙ eqb-true _ _ q), p, from-packed from to order short, to-packed from to order short) (value-answer from to vs ds stand order low)
     answers-next e es ds k l (function body) true q (function-at f is code) sh rest =
         let one : suc (length es) - length es ≡ 1 = omega arith in
-        rw (← find-function key e es (omega (arith, is, eqb-true (key-of k l) key q))) (function-answer (content-in e) (length es) body ds code (omega arith) (rw one sh))
+        let same = eqb-true (key-of k l) key q in
+        rw (ne-eqb (key-in e) key (λ h. omega arith), eq-eqb (key-in e) (key + function-bit) (omega arith))
+        (function-answer (content-in e) (length es) body ds code (omega arith) (rw one sh))
     answers-next e es ds k l (value vs) false q (value-at from to f is p low order short stand) sh rest =
-        rw (← find-other key e es (λ h. eqb-false _ _ q (sym is ∙ h)) (λ h. omega (arith, is, h, key-small k l (f .1) (f .2)))) rest
+        rw (ne-eqb (key-in e) key (λ h. eqb-false _ _ q (sym is ∙ h)), ne-eqb (key-in e) (key + function-bit) (λ h. omega (arith, key-small k l (f .1) (f .2)))) rest
     answers-next e es ds k l (function body) false q (function-at f is code) sh rest =
-        rw (← find-other key e es (λ h. omega (arith, is, h, key-small m n (fits .1) (fits .2))) (λ h. eqb-false (key-of k l) key q (omega (arith, is, h)))) rest
+        let other = eqb-false (key-of k l) key q in
+        rw (ne-eqb (key-in e) key (λ h. omega (arith, key-small m n (fits .1) (fits .2))), ne-eqb (key-in e) (key + function-bit) (λ h. other (omega arith))) rest
 
     pub answers : (es : List ℕ) (ds : Scope) → Shows s t w floor es ds → Answers s t w floor es (find key es) (look-up m n ds)
     unfolding Shows find look-up

@@ -23,8 +23,9 @@ ends : (c : tie.After-size-in Inv-loop μ-loop)
     → c .before .place-in .result + c .size-in .result ≤ length (c .before .before .before .before .before .before .args .s .now)
 ends c =
     let l = c .before .before .before .before in
-    let a = l .before .before .args in
-    rw (c .before .place-in .ensures, c .size-in .ensures) (linked-inside _ _ (a .scope .associated - l .loop .i) (l .loop .i - 1) _ _ (l .before .before .pre .0 .linked) (omega arith))
+    let count = l .before .before .args .scope .associated in
+    let inside = linked-inside _ _ (count - l .loop .i) (l .loop .i - 1) count _ (l .before .before .pre .0 .linked) (omega arith) in
+    rw (c .before .place-in .ensures, c .size-in .ensures) inside
 
 -- what the comparison tells of it
 told : (c : tie.After-same-bytes Inv-loop μ-loop) → let l = c .before .before .before .before .before .before .before in
