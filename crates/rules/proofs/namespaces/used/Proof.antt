@@ -39,13 +39,13 @@ returns : tie.Need-returns Inv-loop μ-loop
 unfolding some
 returns c ks n =
     let l = c .before .before .before .before .before .before .before in
-    rw (told (c .before) ∙ c .if1 .taken) at (searched _ (l .before .loop .inv) (l .loop-test .taken)) ∙ some-identified _ _ _ ks n
+    rw (told (c .before) ∙ c .if1 .taken) at (searched _ (l .before .loop .inv) (omega (arith, l .loop-test .taken))) ∙ some-identified _ _ _ ks n
 
 loop-again : tie.Need-loop-again Inv-loop μ-loop
 unfolding some
 loop-again c =
     let l = c .before .before .before .before .before .before .before in
-    record { fewer = search needs; tells = rw (told (c .before) ∙ c .if1 .left) at (searched _ (l .before .loop .inv) (l .loop-test .taken)) }
+    record { fewer = search needs; tells = rw (told (c .before) ∙ c .if1 .left) at (searched _ (l .before .loop .inv) (omega (arith, l .loop-test .taken))) }
 
 pub used-spec : {M : Type 1} → statement M
 unfolding some
