@@ -1,18 +1,15 @@
--- Laws of what a scope shows of the lent arrays: how much it is, less of it, one entry more, and that what is written past it changes nothing of it;
--- and of what a key finds. Document 01: "a list of definitions that are visible at each place", "the latest visible definition". Assumes nothing.
+-- Laws of what a scope shows of the lent arrays: how much it is, less of it, one entry more, that what is written past it changes nothing of it, and
+-- what is left of it while code goes from the latest entry to the first.
+-- Document 01: "a list of definitions that are visible at each place", "the latest visible definition". Assumes nothing.
 use Prim.Native.Nat.{ℕ, zero, suc, _+_, _-_, _≤_, _<_}
-use mathlib.Core.Path.{_≡_, refl, sym, ap, _∙_}
-use mathlib.Core.List.{List, _∷_}
+use mathlib.Core.Path.{_≡_, refl, ap}
+use mathlib.Core.List.{List, [], _∷_}
 use native.Mathlib.Omega.{arith}
-use native.Mathlib.Numerals.{add-one}
+use native.Mathlib.Numerals.{add-one, unary-clauses}
 use lib.ListN.{length, getD, set, drop}
 use lib.Seq.{getD-set-same, getD-set-other}
-use borrow.Author.Tests.{eq-eqb, ne-eqb}
-use Rattle.workspace.specs.Packed.{packed-from, packed-to}
-use Rattle.rules.specs.Entries.{function-bit, key-in, content-in}
-use Rattle.rules.specs.Scope.{latest, View, view, find}
+use Rattle.rules.specs.Scope.{latest, View, view}
 use Rattle.rules.specs.declared.scope.Scope.{Scope}
-use Rattle.rules.specs.declared.scope.Found.the-variants.{Value, Function}
 
 -- The first n numbers of an array
 
@@ -22,20 +19,13 @@ module _ (numbers : List ℕ) where
   latest-length zero = refl
   latest-length (suc n) = ap suc (latest-length n)
 
-  -- the latest is the last
-  pub latest-first : (n : ℕ) → 0 < n → latest numbers n ≡ getD numbers (n - 1) 0 ∷ latest numbers (n - 1)
+  latest-back : (k n : ℕ) → latest numbers n ≡ drop k (latest numbers (n + k))
   unfolding latest
-  latest-first zero h = absurd (omega arith)
-  latest-first (suc n) h = let back : suc n - 1 ≡ n = omega arith in rw back
-
-  latest-back : (k n len : ℕ) → k + n ≡ len → latest numbers n ≡ drop k (latest numbers len)
-  unfolding latest
-  latest-back zero n len h = let all : n ≡ len = omega arith in ap (latest numbers) all
-  latest-back (suc k) n zero h = absurd (omega arith)
-  latest-back (suc k) n (suc len) h = latest-back k n len (omega arith)
+  latest-back zero n = simp unary-clauses
+  latest-back (suc k) n = simp unary-clauses (latest-back k n)
 
   pub latest-fewer : (n len : ℕ) → n ≤ len → latest numbers n ≡ drop (len - n) (latest numbers len)
-  latest-fewer n len h = latest-back (len - n) n len (omega arith)
+  latest-fewer n len h = let all : n + (len - n) ≡ len = omega arith in rw all at (latest-back (len - n) n)
 
   module _ (i x : ℕ) where
     -- what is stored at i changes none before it
@@ -48,9 +38,22 @@ module _ (numbers : List ℕ) where
     unfolding latest
     latest-added h = rw (add-one i, getD-set-same numbers i x 0 h, latest-kept i (omega arith))
 
--- if the first `len` are the same in two arrays, so are the first n of them
-latest-under : (a b : List ℕ) (n len : ℕ) → n ≤ len → latest a len ≡ latest b len → latest a n ≡ latest b n
-latest-under a b n len h e = latest-fewer a n len h ∙ ap (drop (len - n)) e ∙ sym (latest-fewer b n len h)
+-- what the first `count` tell, while code goes from the latest to the first: it is what the first i tell
+pub record Searching {A : Type 0} (tell : List ℕ → A) (numbers : List ℕ) (count i : ℕ) : Type 0 where
+  pub fewer : i ≤ count
+  pub tells : tell (latest numbers i) ≡ tell (latest numbers count)
+
+module _ {A : Type 0} {tell : List ℕ → A} {numbers : List ℕ} {count : ℕ} where
+  -- the latest of these, which is the last, and those behind it
+  pub searched : (i : ℕ) → Searching tell numbers count i → 0 < i → tell (getD numbers (i - 1) 0 ∷ latest numbers (i - 1)) ≡ tell (latest numbers count)
+  unfolding latest
+  searched zero l h = absurd (omega arith)
+  searched (suc i) l h = let back : suc i - 1 ≡ i = omega arith in rw back (l .tells)
+
+  -- none are left
+  pub searched-all : {i : ℕ} → Searching tell numbers count i → i ≤ 0 → tell [] ≡ tell (latest numbers count)
+  unfolding latest
+  searched-all {i} l h = let z : i ≡ 0 = omega arith in rw z at (l .tells)
 
 -- Views
 
@@ -62,47 +65,27 @@ abbrev pub with-association : ℕ → View → View
 with-association x v = record { definitions = v .definitions; associations = x ∷ v .associations }
 
 module _ (associations definitions : List ℕ) (sc : Scope) (x : ℕ) where
-  abbrev added : List ℕ
-  added = set definitions (sc .defined) x
-
-  abbrev associated : List ℕ
-  associated = set associations (sc .associated) x
-
   pub view-added : sc .defined < length definitions
-      → view associations added (record { defined = sc .defined + 1; associated = sc .associated }) ≡ with-definition x (view associations definitions sc)
+      → view associations (set definitions (sc .defined) x) (record { defined = sc .defined + 1; associated = sc .associated })
+      ≡ with-definition x (view associations definitions sc)
   view-added h = rw (latest-added definitions (sc .defined) x h)
 
   pub view-associated : sc .associated < length associations
-      → view associated definitions (record { defined = sc .defined; associated = sc .associated + 1 }) ≡ with-association x (view associations definitions sc)
+      → view (set associations (sc .associated) x) definitions (record { defined = sc .defined; associated = sc .associated + 1 })
+      ≡ with-association x (view associations definitions sc)
   view-associated h = rw (latest-added associations (sc .associated) x h)
 
   -- what was visible before stays
-  pub view-before-added : view associations added sc ≡ view associations definitions sc
+  pub view-before-added : view associations (set definitions (sc .defined) x) sc ≡ view associations definitions sc
   view-before-added = rw (latest-kept definitions (sc .defined) x (sc .defined) (omega arith))
 
-  pub view-before-associated : view associated definitions sc ≡ view associations definitions sc
+  pub view-before-associated : view (set associations (sc .associated) x) definitions sc ≡ view associations definitions sc
   view-before-associated = rw (latest-kept associations (sc .associated) x (sc .associated) (omega arith))
 
 -- what a scope shows stays if what a larger one shows does
 pub view-under : (associations definitions associations′ definitions′ : List ℕ) (outer sc : Scope) → outer .defined ≤ sc .defined → outer .associated ≤ sc .associated
     → view associations′ definitions′ sc ≡ view associations definitions sc → view associations′ definitions′ outer ≡ view associations definitions outer
 view-under associations definitions associations′ definitions′ outer sc h h′ same =
-    rw (
-      latest-under definitions′ definitions (outer .defined) (sc .defined) h (ap (λ (v : View). v .definitions) same),
-      latest-under associations′ associations (outer .associated) (sc .associated) h′ (ap (λ (v : View). v .associations) same),
-    )
-
--- What a key finds
-
-module _ (key e : ℕ) (es : List ℕ) where
-  pub find-value : key-in e ≡ key → Value (packed-from (content-in e)) (packed-to (content-in e)) ≡ find key (e ∷ es)
-  unfolding find
-  find-value h = rw (eq-eqb (key-in e) key h)
-
-  pub find-function : key-in e ≡ key + function-bit → Function (content-in e) (length es) ≡ find key (e ∷ es)
-  unfolding find
-  find-function h = rw (ne-eqb (key-in e) key (λ h′. omega (arith, h, h′)), eq-eqb (key-in e) (key + function-bit) h)
-
-  pub find-other : (key-in e ≡ key → ⊥) → (key-in e ≡ key + function-bit → ⊥) → find key es ≡ find key (e ∷ es)
-  unfolding find
-  find-other h h′ = rw (ne-eqb (key-in e) key h, ne-eqb (key-in e) (key + function-bit) h′)
+    let defined = ap (λ (v : View). v .definitions) same in
+    let associated = ap (λ (v : View). v .associations) same in
+    cc (latest-fewer definitions _ _ h, latest-fewer definitions′ _ _ h, latest-fewer associations _ _ h′, latest-fewer associations′ _ _ h′, defined, associated)

@@ -31,7 +31,10 @@ impl Here {
         ensures { λ r. ⌜ r ≡ at-top-level ⌝ }
     {
         Self {
-            scope: Scope::new(),
+            scope: Scope {
+                defined: 0,
+                associated: 0,
+            },
             within: Within::Top,
             frame: Frame {
                 depth: 0,

@@ -12,8 +12,8 @@ ghost use Prim.Native.Nat.{ℕ, _+_, _≤_};
 ghost use lib.ListN.{length};
 ghost use lib.Seq.{slice};
 ghost use lib.Dec.{eqb};
-ghost use Rattle.spec.specs.Expr.{same, some, Atom, if-ref};
-ghost use Rattle.spec.specs.Nodes.{Node, Nodes, markers-all};
+ghost use Rattle.spec.specs.Expr.{same, some, Atom};
+ghost use Rattle.spec.specs.Nodes.{Node, leaf, Nodes, markers, markers-all};
 ghost use Rattle.spec.specs.Plan.{Namespace, clash, undefinable};
 ghost use Rattle.rows.specs.Rows.{cell, LeafAt, NodeAt, NodesAt};
 ghost use Rattle.rules.specs.Scope.{latest};
@@ -41,12 +41,12 @@ fn used(s: &[u8], associations: &[u64; 64], scope: Scope, from: usize, to: usize
 // Whether the reference at a row bears a marker.
 fn bears(s: &[u8], table: &[u32], row: usize, marker: u32) -> bool
     requires { ⌜ ((e : Node) × NodeAt (now s) (now table) row e) ⌝ }
-    ensures { λ r. ⌜ ((a : Atom) → LeafAt (now (s .entry)) (now (table .entry)) row a → r ≡ if-ref a (λ m n. eqb m marker) false) × (cell (now (table .entry)) row 0 ≡ 1 → r ≡ false) ⌝ }
+    ensures { λ r. ⌜ ((q : ℕ) (a : Atom) → LeafAt (now (s .entry)) (now (table .entry)) row a → r ≡ some (eqb marker) (markers (leaf q a))) × (cell (now (table .entry)) row 0 ≡ 1 → r ≡ false) ⌝ }
 {
     if table::kind(table, row) != Kind::REFERENCE {
         return false;
     }
-    table::key(s, table, row) / 256 == marker
+    marker == table::key(s, table, row) / 256
 }
 
 // Whether a reference before a row of the top level bears a marker.

@@ -41,15 +41,6 @@ fn put(numbers: &mut [u64], n: usize, number: u64)
 }
 
 impl Scope {
-    pub fn new() -> Self
-        ensures { λ r. ⌜ r ≡ record { defined = 0; associated = 0 } ⌝ }
-    {
-        Self {
-            defined: 0,
-            associated: 0,
-        }
-    }
-
     // One more definition, written past those that are visible.
     pub fn add(self, definitions: &mut [u64; 256], key: u32, content: u32) -> Self
         requires { ⌜ self .defined < 256 ⌝ }

@@ -4,12 +4,12 @@ use native.Mathlib.Omega.{arith}
 use Rattle.laws.proofs.Steps.{all-bytes}
 use Rattle.rows.proofs.Nodes.{node-whole}
 use Rattle.rows.proofs.Parts.{reference-at}
-use Rattle.rules.proofs.Borne.{own-other, own-ref}
+use Rattle.rules.proofs.Borne.{other-bears, reference-bears}
 use Rattle.rules.proofs.namespaces.bears.Statement.{statement}
 use Rattle.rules.proofs.namespaces.bears.Tie as tie
 
 returns : tie.Need-returns
-returns c = (λ a l. own-other _ a l (λ h. c .if1 .taken (c .before .kind .ensures ∙ h)), λ e. refl)
+returns c = (λ q a l. other-bears _ q a (λ h. c .if1 .taken (c .before .kind .ensures ∙ l .row .kind-is ∙ h)), λ e. refl)
 
 key-requires : tie.Need-key-requires
 key-requires c κs =
@@ -22,7 +22,7 @@ returns-2 c =
     let known = kind .before .before in
     let is = sym (kind .kind .ensures) ∙ c .before .if1 .left in
     let b = all-bytes (known .before .args .s .now) (λ i. known .shared-slice-known .given i .fits) in
-    (λ a l. own-ref _ _ a b l is (c .key .ensures), λ e. absurd (omega (arith, is, e)))
+    (λ q a l. reference-bears _ _ q a b l is (c .key .ensures), λ e. absurd (omega (arith, is, e)))
 
 pub bears-spec : {M : Type 1} → statement M
 bears-spec = tie.close (tie.spec (λ c κs. node-whole _ _ _ _ (c .before .before .pre .1) .0) returns key-requires returns-2)

@@ -1,36 +1,34 @@
 -- `rules::namespaces::borne` meets its contract: the rows that are left bear the marker if any does. Assumes nothing.
 use borrow.Author.Needs.{needs}
 use Prim.Native.Nat.{_-_}
-use mathlib.Core.Path.{sym, _∙_}
+use mathlib.Core.Path.{refl}
+use mathlib.Core.Bool.{false}
 use lib.Dec.{eqb}
 use Rattle.spec.specs.Expr.{some}
 use Rattle.spec.specs.Nodes.{Nodes, markers-all}
 use Rattle.rows.specs.Rows.{NodesAt}
-use Rattle.rules.proofs.Borne.{own-row, Ahead, ahead-all, ahead-first, ahead-none}
+use Rattle.rows.proofs.Nodes.{nodes-more}
+use Rattle.rules.proofs.Borne.{Ahead, ahead-next, ahead-none}
 use Rattle.rules.proofs.namespaces.borne.Statement.{statement}
 use Rattle.rules.proofs.namespaces.borne.Tie as tie
 
 abbrev Inv-loop : tie.InvT-loop
 Inv-loop s table row marker r₀ r =
-    (es : Nodes) → NodesAt s table 0 row es → Ahead marker s table r row (some (eqb marker) (markers-all es))
+    (es : Nodes) → NodesAt s table 0 row es → Ahead marker s table r row false (some (eqb marker) (markers-all es))
 
 abbrev μ-loop : tie.MeasureT-loop
 μ-loop s table row marker r₀ r = row - r
 
-bears-requires : tie.Need-bears-requires Inv-loop μ-loop
-bears-requires c κs =
-    let l = c .before in
-    (_, ahead-first (l .loop .inv _ (l .before .before .before .pre .1)) (c .loop-test .taken) .node)
-
 returns : tie.Need-returns Inv-loop μ-loop
 returns c es n =
-    let f = ahead-first (c .before .before .before .loop .inv es n) (c .before .before .loop-test .taken) in
-    f .passes (sym (own-row _ _ _ _ (f .is) (f .node) (c .before .bears .ensures)) ∙ c .if1 .taken)
+    let b = c .before in
+    let found = rw (c .if1 .taken) at (ahead-next (b .before .before .loop .inv es n) (b .before .loop-test .taken) (b .bears .ensures)) in
+    found .tells
 
 loop-again : tie.Need-loop-again Inv-loop μ-loop
 loop-again c es n =
-    let f = ahead-first (c .before .before .before .loop .inv es n) (c .before .before .loop-test .taken) in
-    f .fails (sym (own-row _ _ _ _ (f .is) (f .node) (c .before .bears .ensures)) ∙ c .if1 .left)
+    let b = c .before in
+    rw (c .if1 .left) at (ahead-next (b .before .before .loop .inv es n) (b .before .loop-test .taken) (b .bears .ensures))
 
 pub borne-spec : {M : Type 1} → statement M
 borne-spec =
@@ -38,8 +36,8 @@ borne-spec =
     (tie.spec
     Inv-loop
     μ-loop
-    (λ c es n. ahead-all es n)
-    bears-requires
+    (λ c es n. record { nodes = es; stand = n; tells = refl })
+    (λ c κs. (_, nodes-more _ _ _ _ _ (c .before .loop .inv _ (c .before .before .before .before .pre .1) .stand) (c .loop-test .taken) .node))
     returns
     (λ c. search needs)
     (λ c. search needs)

@@ -1,87 +1,60 @@
 -- `rules::namespaces::used` meets its contract: what is left to search has the id if the whole has it. Assumes nothing.
 use borrow.Author.Needs.{needs}
-use Prim.Native.Nat.{ℕ, _+_, _-_, _≤_}
+use Prim.Native.Nat.{_+_, _-_, _≤_}
 use mathlib.Core.Path.{_≡_, sym, _∙_}
-use mathlib.Core.List.{List}
-use mathlib.Core.Bool.{Bool}
 use native.Mathlib.Omega.{arith}
-use lib.ListN.{length, take, drop, getD}
+use lib.ListN.{length, getD}
 use lib.Seq.{slice}
-use Rattle.spec.specs.Expr.{same, some}
-use Rattle.spec.specs.Plan.{Namespace}
+use Rattle.spec.specs.Expr.{some}
 use Rattle.rows.proofs.Slices.{slice-take}
-use Rattle.rules.specs.Scope.{latest}
-use Rattle.rules.specs.Associations.{AssociationAt, Linked}
-use Rattle.rules.proofs.Linking.{id-part, Left, Latest, left-all, left-latest, left-none}
+use Rattle.rules.proofs.Latest.{Searching, searched, searched-all}
+use Rattle.rules.proofs.Linking.{identifies, linked-inside, some-identified}
 use Rattle.rules.proofs.namespaces.used.Statement.{statement}
 use Rattle.rules.proofs.namespaces.used.Tie as tie
 
-abbrev has : List ℕ → Namespace → Bool
-has bs k = same (k .id) bs
-
-record Searching (s associations : List ℕ) (from to count i : ℕ) : Type 0 where
-  few : i ≤ 64
-  left : (ks : List Namespace) → Linked s (latest associations count) ks → Left s associations (has (slice from to s)) (some (has (slice from to s)) ks) i
-
 abbrev Inv-loop : tie.InvT-loop
-Inv-loop s associations from to i₀ i = Searching s associations from to i₀ i
+Inv-loop s associations from to i₀ i = Searching (some (identifies s (slice from to s))) associations i₀ i
 
 abbrev μ-loop : tie.MeasureT-loop
 μ-loop s associations from to i₀ i = i
 
--- the latest of the associations that are left, and its id's bytes
-module _ (c : tie.After-size-in Inv-loop μ-loop) where
-  abbrev start : tie.Start Inv-loop μ-loop
-  start = c .before .before .before .before .before .before
+-- the latest id that is left is inside the stream
+ends : (c : tie.After-size-in Inv-loop μ-loop)
+    → c .before .place-in .result + c .size-in .result ≤ length (c .before .before .before .before .before .before .args .s .now)
+ends c =
+    let l = c .before .before .before .before in
+    let count = l .before .before .args .scope .associated in
+    let inside = linked-inside _ _ (count - l .loop .i) (l .loop .i - 1) count _ (l .before .before .pre .0 .linked) (omega arith) in
+    rw (c .before .place-in .ensures, c .size-in .ensures) inside
 
-  abbrev at-loop : tie.At-loop Inv-loop μ-loop
-  at-loop = c .before .before .before .before
-
-  abbrev s : List ℕ
-  s = start .args .s .now
-
-  found : (ks : List Namespace) → let a = start .args in Linked s (latest (a .associations .now) (a .scope .associated)) ks
-      → Latest s (a .associations .now) (has (slice (a .from) (a .to) s)) (some (has (slice (a .from) (a .to) s)) ks) (at-loop .loop .i - 1)
-  found ks n = left-latest (at-loop .loop .inv .left ks n) (omega (arith, c .before .before .before .loop-test .taken))
-
-  abbrev from : ℕ
-  from = c .before .place-in .result
-
-  abbrev size : ℕ
-  size = c .size-in .result
-
-  part : (k : Namespace) → AssociationAt s (getD (start .args .associations .now) (at-loop .loop .i - 1) 0) k
-      → (from + size ≤ length s) × (take (from + size - from) (drop from s) ≡ k .id)
-  part k at = id-part at from size (c .before .place-in .ensures) (c .size-in .ensures)
-
-  ends : from + size ≤ length s
-  ends = part _ (found _ (start .pre .0 .linked) .at) .0
-
--- what the comparison tells of the latest
-told : (c : tie.After-same-bytes Inv-loop μ-loop) (ks : List Namespace) → let l = c .before .before .before in
-    let a = start l .args in
-    (n : Linked (s l) (latest (a .associations .now) (a .scope .associated)) ks) → c .same-bytes .result ≡ has (slice (a .from) (a .to) (s l)) (found l ks n .is)
-told c ks n =
-    let l = c .before .before .before in
-    let a = start l .args in
-    rw (sym (part l _ (found l ks n .at) .1), slice-take (a .from) (a .to) (s l)) (c .same-bytes .ensures)
+-- what the comparison tells of it
+told : (c : tie.After-same-bytes Inv-loop μ-loop) → let l = c .before .before .before .before .before .before .before in
+    let a = l .before .before .args in
+    identifies (a .s .now) (slice (a .from) (a .to) (a .s .now)) (getD (a .associations .now) (l .loop .i - 1) 0) ≡ c .same-bytes .result
+told c =
+    let k = c .before .before .before in
+    rw (← k .before .place-in .ensures, ← k .size-in .ensures) (simp slice-take (sym (c .same-bytes .ensures)))
 
 returns : tie.Need-returns Inv-loop μ-loop
-returns c ks n = found (c .before .before .before .before) ks n .passes (sym (told (c .before) ks n) ∙ c .if1 .taken)
+unfolding some
+returns c ks n =
+    let l = c .before .before .before .before .before .before .before in
+    rw (told (c .before) ∙ c .if1 .taken) at (searched _ (l .before .loop .inv) (omega (arith, l .loop-test .taken))) ∙ some-identified _ _ _ ks n
 
 loop-again : tie.Need-loop-again Inv-loop μ-loop
-loop-again c = record {
-  few = search needs;
-  left = λ ks n. found (c .before .before .before .before) ks n .fails (sym (told (c .before) ks n) ∙ c .if1 .left);
-}
+unfolding some
+loop-again c =
+    let l = c .before .before .before .before .before .before .before in
+    record { fewer = search needs; tells = rw (told (c .before) ∙ c .if1 .left) at (searched _ (l .before .loop .inv) (omega (arith, l .loop-test .taken))) }
 
 pub used-spec : {M : Type 1} → statement M
+unfolding some
 used-spec =
     tie.close
     (tie.spec
     Inv-loop
     μ-loop
-    (λ c. record { few = search needs; left = λ ks n. left-all ks n })
+    (λ c. search needs)
     (λ c. search needs)
     (λ c. search needs)
     (λ c. search needs)
@@ -98,4 +71,4 @@ used-spec =
     returns
     (λ c. search needs)
     loop-again
-    (λ c ks n. left-none (c .before .loop .inv .left ks n) (c .loop-test .left)))
+    (λ c ks n. searched-all (c .before .loop .inv) (c .loop-test .left) ∙ some-identified _ _ _ ks n))

@@ -1,69 +1,46 @@
 -- `rules::scope::Scope::look_up` meets its contract: what is left to search finds what the whole does. Assumes nothing.
 use borrow.Author.Needs.{needs}
-use Prim.Native.Nat.{ℕ, _-_, _≤_, _<_}
-use mathlib.Core.Path.{_≡_, sym, _∙_}
-use mathlib.Core.List.{List, _∷_}
-use native.Mathlib.Omega.{arith}
-use lib.ListN.{getD}
-use Rattle.rules.specs.Scope.{latest, find}
-use Rattle.rules.proofs.Latest.{latest-length, latest-first, find-value, find-function, find-other}
+use mathlib.Core.Path.{sym, _∙_}
+use borrow.Author.Tests.{eq-eqb, ne-eqb}
+use Rattle.rules.specs.Scope.{find}
+use Rattle.rules.proofs.Latest.{latest-length, Searching, searched, searched-all}
 use Rattle.rules.proofs.scope.Scope.look_up.Statement.{statement}
 use Rattle.rules.proofs.scope.Scope.look_up.Tie as tie
 
-record Searching (definitions : List ℕ) (key count i : ℕ) : Type 0 where
-  few : i ≤ 256
-  finds : find key (latest definitions i) ≡ find key (latest definitions count)
-
 abbrev Inv-loop : tie.InvT-loop
-Inv-loop definitions key i₀ i = Searching definitions key i₀ i
+Inv-loop definitions key i₀ i = Searching (find key) definitions i₀ i
 
 abbrev μ-loop : tie.MeasureT-loop
 μ-loop definitions key i₀ i = i
 
--- the latest of the entries that are left, and those behind it
-module _ (c : tie.At-loop Inv-loop μ-loop) (h : 0 < c .loop .i) where
-  abbrev last : ℕ
-  last = getD (c .before .args .definitions .now) (c .loop .i - 1) 0
-
-  abbrev behind : List ℕ
-  behind = latest (c .before .args .definitions .now) (c .loop .i - 1)
-
-  found : let a = c .before .args in find (a .key) (last ∷ behind) ≡ find (a .key) (latest (a .definitions .now) (a .self .defined))
-  found = rw (← latest-first _ (c .loop .i) h) (c .loop .inv .finds)
-
 returns : tie.Need-returns Inv-loop μ-loop
+unfolding find
 returns c =
     let k = c .before .before .before in
-    let l = k .before .before .before .before in
-    let h = k .before .before .before .loop-test .taken in
-    let content = c .before .before .content-in .ensures in
-    rw (c .before .packed-from .ensures, c .packed-to .ensures, content) (find-value _ (last l h) (behind l h) (sym (k .before .key-in .ensures) ∙ k .if1 .taken) ∙ found l h)
+    let l = k .before .before .before in
+    let all = rw (eq-eqb _ _ (sym (k .before .key-in .ensures) ∙ k .if1 .taken)) at (searched _ (l .before .loop .inv) (l .loop-test .taken)) in
+    rw (c .before .packed-from .ensures, c .packed-to .ensures, c .before .before .content-in .ensures) all
 
 returns-2 : tie.Need-returns-2 Inv-loop μ-loop
+unfolding find
 returns-2 c =
     let k = c .before .before in
-    let l = k .before .before .before .before .before in
-    let h = k .before .before .before .before .loop-test .taken in
-    rw (c .code-row .ensures, c .before .content-in2 .ensures) (rw latest-length at (find-function _ (last l h) (behind l h) (sym (k .before .before .key-in .ensures) ∙ k .if2 .taken) ∙ found l h))
+    let l = k .before .before .before .before in
+    let is = k .before .before .key-in .ensures in
+    let all = rw (ne-eqb _ _ (λ q. k .before .if1 .left (is ∙ q)), eq-eqb _ _ (sym is ∙ k .if2 .taken)) at (searched _ (l .before .loop .inv) (l .loop-test .taken)) in
+    rw (c .code-row .ensures, c .before .content-in2 .ensures) (rw latest-length at all)
 
 loop-again : tie.Need-loop-again Inv-loop μ-loop
+unfolding find
 loop-again c =
     let k = c .before .before in
-    let l = k .before .before .before in
-    let h = k .before .before .loop-test .taken in
+    let l = k .before .before in
     let is = k .key-in .ensures in
-    record {
-      few = search needs;
-      finds = find-other _ (last l h) (behind l h) (λ q. c .before .if1 .left (is ∙ q)) (λ q. c .if2 .left (is ∙ q)) ∙ found l h;
-    }
-
-returns-3 : tie.Need-returns-3 Inv-loop μ-loop
-unfolding find latest
-returns-3 c =
-    let z : c .before .loop .i ≡ 0 = omega arith in
-    rw z at (c .before .loop .inv .finds)
+    let all = searched _ (l .before .loop .inv) (l .loop-test .taken) in
+    record { fewer = search needs; tells = rw (ne-eqb _ _ (λ q. c .before .if1 .left (is ∙ q)), ne-eqb _ _ (λ q. c .if2 .left (is ∙ q))) at all }
 
 pub look-up-spec : {M : Type 1} → statement M
+unfolding find
 look-up-spec =
     tie.close
     (tie.spec
@@ -84,4 +61,4 @@ look-up-spec =
     returns-2
     (λ c. search needs)
     loop-again
-    returns-3)
+    (λ c. searched-all (c .before .loop .inv) (c .loop-test .left)))
