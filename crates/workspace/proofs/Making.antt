@@ -22,9 +22,9 @@ use Rattle.workspace.specs.Completed.{Fitting, Stand, Untouched, with-to
 use Rattle.workspace.specs.declared.made.Bytes.{Bytes}
 use Rattle.workspace.specs.declared.made.Bytes.the-variants.{Array, Other}
 use Rattle.workspace.specs.declared.values.State.{State}
-use Rattle.workspace.proofs.Areas.{stand-size, untouched-then, slice-below, put-untouched, slice-put, moved}
+use Rattle.workspace.proofs.Areas.{stand-size, slice-front, untouched-then, slice-below, put-untouched, slice-put, moved}
 use Rattle.workspace.proofs.Completing.{Sized, written, only-atom}
-use Rattle.workspace.proofs.Spread.{slice-rest, slice-front}
+use Rattle.workspace.proofs.Spread.{slice-rest}
 
 -- The join of two arrays
 

@@ -38,9 +38,10 @@ returns-3 c vs there fits =
     let k = m .before .before .before .before in
     let start = k .before .before .before .before .before in
     let p = start .pre .0 in
+    let put = rw (there .bytes) at (m .move-bytes .ensures) in
     rw (c .charged .ensures)
     (written (sized k vs there fits) (p .0) (omega (arith, there .order)) (omega arith)
-    (form-written vs _ (omega (arith, stand-size there)) _ (start .args .start) (omega (arith, there .order, p .0 .paid, p .0 .below)) (rw (there .bytes) at (m .move-bytes .ensures))))
+    (form-written vs _ (omega (arith, stand-size there)) _ (start .args .start) (omega (arith, there .order, p .0 .paid, p .0 .below)) put))
 
 pub wrapped-spec : {M : Type 1} → statement M
 wrapped-spec =
