@@ -20,11 +20,6 @@ Inv-loop s table w₀ state range top room end row₀ n₀ w row n =
 abbrev μ-loop : tie.MeasureT-loop
 μ-loop s table w₀ state range top room end row₀ n₀ w row n = end - row
 
-loop-holds : tie.Need-loop-holds Inv-loop μ-loop
-loop-holds c =
-    let a = c .before .before .before .before .args in
-    (omega arith, omega arith, refl, λ es at atoms. atoms-start (a .w .now) (a .state .top) es at atoms)
-
 -- the next of the atoms, if they are these
 module _ (c : tie.In-loop Inv-loop μ-loop) where
   abbrev start : tie.Start Inv-loop μ-loop
@@ -74,7 +69,7 @@ itself-spec =
     Inv-loop
     μ-loop
     (λ c es at atoms. unpaid (flat-sized es atoms refl) (omega arith))
-    loop-holds
+    (λ c. let a = c .before .before .before .before .args in (omega arith, omega arith, refl, atoms-start (a .w .now) (a .state .top)))
     (λ c. search needs)
     (λ c. search needs)
     (λ c. search needs)
