@@ -7,10 +7,11 @@ use lib.ListN.{length, getD, set, take, drop, length-append, length-set, take-ap
 use lib.Seq.{slice, slice-cons, slice-empty, length-slice, length-take-le, take-suc, take-at, drop-at, take-take, drop-drop, drop-append-le, drop-set-lt, take-set-le}
 use native.Mathlib.Omega.{arith}
 use native.Mathlib.Numerals.{add-one}
-use Rattle.writer.specs.Bytes.{put-at, Put}
-use Rattle.writer.proofs.Puts.{length-upto, length-put-at, stored}
+use Rattle.writer.specs.Bytes.{put-at}
+use Rattle.writer.proofs.Puts.{length-put-at, stored}
 use Rattle.spec.specs.Expr.{Exprs, none, append, canonical}
 use Rattle.laws.proofs.Canonical.{canonical-append}
+use Rattle.laws.proofs.Steps.{split-rest}
 use Rattle.rows.proofs.Slices.{slice-split, slice-take}
 use Rattle.workspace.specs.Completed.{Stand, Untouched}
 
@@ -33,6 +34,10 @@ stand-append {w} {a} {b} {c} {vs} {us} x y = record {
 
 pub stand-part : {w : List ℕ} {from to : ℕ} {vs : Exprs} → Stand w from to vs → take (to - from) (drop from w) ≡ canonical vs
 stand-part {w} {from} {to} there = sym (slice-take from to w) ∙ there .bytes
+
+-- what stands in front of a rest is a part
+pub slice-front : (a b : ℕ) (w x u : List ℕ) → drop a w ≡ x ++ u → b ≡ a + length x → slice a b w ≡ x
+slice-front a b w x u is end = slice-take a b w ∙ rw is (take-at x u (b - a) (omega arith))
 
 -- What is left as it was
 
@@ -71,37 +76,27 @@ module _ {w w′ : List ℕ} {below from : ℕ} (u : Untouched w w′ below from
 -- What is written
 
 module _ (w : List ℕ) (at : ℕ) (bs : List ℕ) (room : at + length bs ≤ length w) where
-  put-lower : take at (put-at w at bs) ≡ take at w
+  put-split : put-at w at bs ≡ take at w ++ (bs ++ drop (at + length bs) w)
   unfolding put-at
-  put-lower =
-      ap (take at) (append-assoc (take at w) bs (drop (at + length bs) w))
-      ∙ take-at (take at w) (bs ++ drop (at + length bs) w) at (length-take-le at w (omega arith))
+  put-split = append-assoc (take at w) bs (drop (at + length bs) w)
 
-  put-upper : drop (at + length bs) (put-at w at bs) ≡ drop (at + length bs) w
-  unfolding put-at
-  put-upper = drop-at (take at w ++ bs) (drop (at + length bs) w) (at + length bs) (length-upto w at bs room)
+  put-lower : take at (put-at w at bs) ≡ take at w
+  put-lower = ap (take at) put-split ∙ take-at (take at w) (bs ++ drop (at + length bs) w) at (length-take-le at w (omega arith))
+
+  put-from : drop at (put-at w at bs) ≡ bs ++ drop (at + length bs) w
+  put-from = ap (drop at) put-split ∙ drop-at (take at w) (bs ++ drop (at + length bs) w) at (length-take-le at w (omega arith))
 
   pub put-untouched : (below from : ℕ) → below ≤ at → at + length bs ≤ from → Untouched w (put-at w at bs) below from
   put-untouched below from h h′ =
-      untouched-less below from h h′ (record { size = length-put-at w at bs room; lower = put-lower; upper = put-upper })
+      let upper = sym (split-rest (put-at w at bs) at bs (drop (at + length bs) w) put-from) in
+      untouched-less below from h h′ (record { size = length-put-at w at bs room; lower = put-lower; upper = upper })
 
   pub slice-put : slice at (at + length bs) (put-at w at bs) ≡ bs
-  unfolding put-at
-  slice-put =
-      ap (drop at) (take-at (take at w ++ bs) (drop (at + length bs) w) (at + length bs) (length-upto w at bs room))
-      ∙ drop-at (take at w) bs at (length-take-le at w (omega arith))
+  slice-put = slice-front at (at + length bs) (put-at w at bs) bs (drop (at + length bs) w) put-from refl
 
-  put-from : drop at (put-at w at bs) ≡ bs ++ drop (at + length bs) w
-  unfolding put-at
-  put-from =
-      ap (drop at) (append-assoc (take at w) bs (drop (at + length bs) w))
-      ∙ drop-at (take at w) (bs ++ drop (at + length bs) w) at (length-take-le at w (omega arith))
-
-pub put-none : (w : List ℕ) (at : ℕ) → Put w at [] w at
+pub put-none : (w : List ℕ) (at : ℕ) → w ≡ put-at w at []
 unfolding put-at
-put-none w at =
-    let here : at + 0 ≡ at = omega arith in
-    record { place = omega arith; is = rw (here, append-nil (take at w)) (sym (take-append-drop at w)) }
+put-none w at = let here : at + 0 ≡ at = omega arith in rw (here, append-nil (take at w)) (sym (take-append-drop at w))
 
 -- bytes written, and then those before them
 pub put-before : (w : List ℕ) (at : ℕ) (bs cs : List ℕ) → at + length bs + length cs ≤ length w
@@ -122,15 +117,7 @@ abbrev pub moved : List ℕ → ℕ → ℕ → ℕ → List ℕ
 moved w from to at = put-at w at (slice from to w)
 
 pub moved-none : (w : List ℕ) (from to at : ℕ) → from ≡ to → w ≡ moved w from to at
-moved-none w from to at h = rw (h, slice-empty to w) (put-none w at .is)
-
--- of the bytes from one up to another that are moved, those before p or from p on are; `rest` is what moving the others too leaves
-pub record Moving (w₀ w : List ℕ) (from to at p q : ℕ) (rest : List ℕ) : Type 0 where
-  pub begun : from ≤ p
-  pub within : p ≤ to
-  pub along : q + from ≡ at + p
-  pub size : length w ≡ length w₀
-  pub is : rest ≡ moved w₀ from to at
+moved-none w from to at h = rw (h, slice-empty to w) (put-none w at)
 
 -- the first byte, then the others downwards
 pub moved-first : (w : List ℕ) (p to q : ℕ) → q ≤ p → p < to → to ≤ length w → moved (set w q (getD w p 0)) (p + 1) to (q + 1) ≡ moved w p to q

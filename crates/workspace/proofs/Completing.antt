@@ -108,24 +108,17 @@ module _ (vs : Exprs) (n : ℕ) (size : length (canonical vs) + 2 ≡ n) where
 
 -- An atom of the stream
 
--- an array's bytes, or all bytes of another atom
 module _ {s t : List ℕ} {r : ℕ} {b : Body} (kind : b .kind ≡ cell t r 0) (to : b .to ≡ cell t r 2) where
+  body-of : (a : Atom) → LeafAt s t r a → b .from ≤ b .to → with-head (b .kind) (slice (b .from) (b .to) s) ≡ atom-bytes a → BodyOf s a b
+  body-of a l order is =
+      record { order = order; inside = omega (arith, l .row .ends); short = l .row .short; is = rw (← slice-take (b .from) (b .to) s) is }
+
   pub body-array : {bs : List ℕ} → LeafAt s t r (array bs) → b .from ≡ cell t r 2 - length bs → BodyOf s (array bs) b
   unfolding atom-bytes
-  body-array l from = record {
-    order = omega arith;
-    inside = omega (arith, l .row .ends);
-    short = l .row .short;
-    is = rw (kind ∙ l .row .kind-is, ← slice-take (b .from) (b .to) s, from, to) (ap (with-head 2) (leaf-array l .0));
-  }
+  body-array {bs} l from = body-of (array bs) l (omega arith) (rw (kind ∙ l .row .kind-is, from, to) (ap (with-head 2) (leaf-array l .0)))
 
   pub body-other : (a : Atom) → LeafAt s t r a → (b .kind ≡ 2 → ⊥) → b .from ≡ cell t r 1 → BodyOf s a b
-  body-other a l h from = record {
-    order = omega (arith, l .row .starts);
-    inside = omega (arith, l .row .ends);
-    short = l .row .short;
-    is = rw (ne-eqb (b .kind) 2 h, ← slice-take (b .from) (b .to) s, from, to) (go a l);
-  }
+  body-other a l h from = body-of a l (omega (arith, l .row .starts)) (rw (ne-eqb (b .kind) 2 h, from, to) (go a l))
     where
       go : (a : Atom) → LeafAt s t r a → slice (cell t r 1) (cell t r 2) s ≡ atom-bytes a
       go nil l = leaf-nil l
@@ -170,7 +163,7 @@ pub record Upto (s t w₀ w : List ℕ) (top n row end : ℕ) (es : Nodes) : Typ
 
 pub atoms-start : {s t : List ℕ} {first end : ℕ} (w : List ℕ) (top : ℕ) (es : Nodes) → NodesAt s t first end es → Atoms es → Upto s t w w top 2 first end es
 atoms-start w top es at atoms =
-    record { done = []; put = record { place = omega arith; is = put-none w (top + 1) .is }; left = es; at = at; atoms = atoms; is = refl }
+    record { done = []; put = record { place = omega arith; is = put-none w (top + 1) }; left = es; at = at; atoms = atoms; is = refl }
 
 -- an atom stands at the row
 pub record AtomNext (s t w₀ w : List ℕ) (top n row end : ℕ) (es : Nodes) : Type 0 where

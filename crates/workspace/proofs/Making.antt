@@ -22,9 +22,9 @@ use Rattle.workspace.specs.Completed.{Fitting, Stand, Untouched, with-to
 use Rattle.workspace.specs.declared.made.Bytes.{Bytes}
 use Rattle.workspace.specs.declared.made.Bytes.the-variants.{Array, Other}
 use Rattle.workspace.specs.declared.values.State.{State}
-use Rattle.workspace.proofs.Areas.{stand-size, untouched-then, slice-below, put-untouched, slice-put, moved}
+use Rattle.workspace.proofs.Areas.{stand-size, slice-front, untouched-then, slice-below, put-untouched, slice-put, moved}
 use Rattle.workspace.proofs.Completing.{Sized, written, only-atom}
-use Rattle.workspace.proofs.Spread.{slice-rest, slice-front}
+use Rattle.workspace.proofs.Spread.{slice-rest}
 
 -- The join of two arrays
 
@@ -52,18 +52,15 @@ module _ (w : List ℕ) (st : State) (a b c d : ℕ) (fits : Fitting w st) (insi
   first-size : length (slice a b w) ≡ b - a
   first-size = length-slice a b w (omega (arith, fits .paid, fits .below))
 
-  both-size : length both ≡ join-length a b c d
-  both-size = length-append (slice a b w) (slice c d w) ∙ rw (first-size, length-slice c d w (omega (arith, fits .paid, fits .below)))
+  second-size : length (slice c d w) ≡ d - c
+  second-size = length-slice c d w (omega (arith, fits .paid, fits .below))
 
-  join-bytes : canonical (only (atom (array both))) ≡ head ++ both
+  join-bytes : canonical (only (atom (array both))) ≡ (head ++ slice a b w) ++ slice c d w
   unfolding atom-bytes
-  join-bytes = only-atom (array both) .0 ∙ rw both-size
+  join-bytes = only-atom (array both) .0 ∙ rw (length-append (slice a b w) (slice c d w), first-size, second-size) (sym (append-assoc head (slice a b w) (slice c d w)))
 
   pub join-sized : Sized (only (atom (array both))) n
-  join-sized = record {
-    shallow = only-atom (array both) .1;
-    size = ap length join-bytes ∙ length-append head both ∙ omega (arith, both-size);
-  }
+  join-sized = record { shallow = only-atom (array both) .1; size = ap length join-bytes ∙ simp (length-append, first-size, second-size) (omega arith) }
 
   -- the head above the top, behind it the two parts, then all of it moved down
   pub join-kept : {start : ℕ} {w₁ w₂ w₃ w′ : List ℕ} {at : ℕ} → start ≤ st .top → n ≤ st .room → Put w (st .top) head w₁ at
@@ -74,10 +71,10 @@ module _ (w : List ℕ) (st : State) (a b c d : ℕ) (fits : Fitting w st) (insi
       let all = canonical (only (atom (array both))) in
       let size = join-sized .size in
       let room : top + length all ≤ length w = omega (arith, fits .paid, fits .below) in
-      let part : length (head ++ slice a b w) ≡ length head + (b - a) = length-append head (slice a b w) ∙ omega (arith, first-size) in
+      let part = length-append head (slice a b w) in
       let one : Put w top (head ++ slice a b w) w₂ (at + (b - a)) = rw first (put-behind w w₁ top a b at head headed inside (omega arith)) in
-      let two = put-behind w w₂ top c d (at + (b - a)) (head ++ slice a b w) one inside′ (omega arith) in
-      let put : w₃ ≡ put-at w top all = second ∙ two .is ∙ ap (put-at w top) (append-assoc head (slice a b w) (slice c d w) ∙ sym join-bytes) in
+      let two = put-behind w w₂ top c d (at + (b - a)) (head ++ slice a b w) one inside′ (omega (arith, first-size)) in
+      let put : w₃ ≡ put-at w top all = second ∙ two .is ∙ ap (put-at w top) (sym join-bytes) in
       let back : slice top (top + n) w₃ ≡ all = rw (put, ← size) (slice-put w top all room) in
       let others : Untouched w w₃ start (st .floor) = rw put (put-untouched w top all room start (st .floor) h (omega (arith, fits .paid))) in
       let fits₃ : Fitting w₃ st = record { paid = fits .paid; below = omega (arith, others .size, fits .below); short = omega (arith, others .size, fits .short) } in
@@ -141,23 +138,20 @@ module _ (w : List ℕ) (p : ℕ) (e : Expr) (u : List ℕ) (fits : FitsExpr e) 
 
 -- the two operands of a concat
 module _ {w : List ℕ} {start top : ℕ} {a b : Expr} (there : Stand w start top (more a (only b))) (fits : FitsAll (more a (only b))) where
-  rest : List ℕ
-  rest = drop (top - start) (drop start w)
-
-  first-here : drop start w ≡ bytes a ++ (bytes b ++ rest)
-  unfolding bytes rest
-  first-here =
+  operands-here : (u : List ℕ) × (drop start w ≡ bytes a ++ (bytes b ++ u))
+  unfolding bytes
+  operands-here =
       let both : canonical (more a (only b)) ≡ bytes a ++ bytes b = ap (λ (l : List ℕ). bytes a ++ l) (append-nil (bytes b)) in
-      slice-rest start top w (bytes a ++ bytes b) (there .bytes ∙ both) ∙ append-assoc (bytes a) (bytes b) rest
+      (_, slice-rest start top w (bytes a ++ bytes b) (there .bytes ∙ both) ∙ append-assoc (bytes a) (bytes b) _)
 
   pub operands-end : start + length (bytes a) + length (bytes b) ≡ top
   unfolding bytes
   operands-end = omega (arith, there .order, stand-size there, length-append (bytes a) (bytes b ++ []), length-append (bytes b) [])
 
   pub first-operand : {r : Bytes} → r ≡ array-at w start → Operand w (start + length (bytes a)) a r
-  first-operand told = rw told (operand w start a (bytes b ++ rest) (fits .0) first-here)
+  first-operand told = rw told (operand w start a (bytes b ++ operands-here .0) (fits .0) (operands-here .1))
 
   pub second-operand : {q : ℕ} {r : Bytes} → q ≡ start + length (bytes a) → r ≡ array-at w q → Operand w top b r
   second-operand {q} mid told =
-      rw (told, mid, ← operands-end)
-      (operand w (start + length (bytes a)) b rest (fits .1 .0) (sym (split-rest w start (bytes a) (bytes b ++ rest) first-here)))
+      let behind = sym (split-rest w start (bytes a) (bytes b ++ operands-here .0) (operands-here .1)) in
+      rw (told, mid, ← operands-end) (operand w (start + length (bytes a)) b (operands-here .0) (fits .1 .0) behind)

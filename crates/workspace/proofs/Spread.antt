@@ -5,7 +5,7 @@ use mathlib.Core.Path.{_≡_, refl, sym, ap, _∙_, subst}
 use mathlib.Core.List.{List, [], _++_, append-assoc, append-nil}
 use native.Mathlib.Omega.{arith}
 use lib.ListN.{length, drop, getD, set, length-drop, take-append-drop}
-use lib.Seq.{slice, take-at, drop-drop, drop-append-le, getD-set-same, getD-set-other}
+use lib.Seq.{slice, drop-drop, drop-append-le, getD-set-same, getD-set-other}
 use Rattle.spec.specs.Expr.{Exprs, none, more, size, first, without, rows-all, deepest, bytes, canonical}
 use Rattle.spec.specs.Reading.{tokens, check, rows-of}
 use Rattle.spec.specs.Calls.{row-at}
@@ -22,7 +22,7 @@ use Rattle.workspace.specs.Packed.{pack, packed-from, packed-to}
 use Rattle.workspace.specs.Completed.{Stand, ArgumentsAt}
 use Rattle.rows.proofs.Slices.{slice-split, slice-take}
 use Rattle.workspace.proofs.Packing.{from-packed, to-packed}
-use Rattle.workspace.proofs.Areas.{stand-none}
+use Rattle.workspace.proofs.Areas.{stand-none, slice-front}
 
 -- values with these bytes that can be read
 pub record Values (s : List ℕ) (vs : Exprs) : Type 0 where
@@ -30,21 +30,17 @@ pub record Values (s : List ℕ) (vs : Exprs) : Type 0 where
   pub fits : FitsAll vs
   pub shallow : deepest vs ≤ 64
 
-spelled-few : (es : Exprs) (s : List ℕ) → SpellsAll es s → rows-all es ≤ length s
-spelled-few es s sp =
-    let counted : length (rows-of (tokens 0 0 s)) ≡ rows-all es = ap length (spelled-rows es s sp) ∙ all-rows-count es s sp 0 in
-    omega (arith, rows-few (tokens 0 0 s), tokens-few s 0 0)
-
 -- values that are left at a byte are right
 pub values-right : (s : List ℕ) (p : ℕ) (vs : Exprs) → Values (drop p s) vs → RightFrom s p 0
 unfolding check tokens
 values-right s p vs v =
-    let spells : SpellsAll vs (drop p s) = subst (SpellsAll vs) (sym (v .is)) (canonical-spells vs (v .fits)) in
-    let few = spelled-few vs (drop p s) spells in
-    let size = length-drop p s in (
+    let x = drop p s in
+    let spells : SpellsAll vs x = subst (SpellsAll vs) (sym (v .is)) (canonical-spells vs (v .fits)) in
+    let counted : length (rows-of (tokens 0 0 x)) ≡ rows-all vs = ap length (spelled-rows vs x spells) ∙ all-rows-count vs x spells 0 in
+    let few : rows-all vs ≤ length s = omega (arith, rows-few (tokens 0 0 x), tokens-few x 0 0, length-drop p s) in (
       0,
-      ap (λ (x : List ℕ). check (length s) (length s) (tokens p 0 x) 0 0) (sym (append-nil (drop p s)))
-          ∙ check-all (length s) (length s) vs (drop p s) spells p 0 0 [] (omega (arith, v .shallow)) (omega arith),
+      ap (λ (l : List ℕ). check (length s) (length s) (tokens p 0 l) 0 0) (sym (append-nil x))
+          ∙ check-all (length s) (length s) vs x spells p 0 0 [] (omega (arith, v .shallow)) (omega arith),
     )
 
 -- of all values of a stream the first n are passed at byte p, where each stands is in `args`, and the others are left
@@ -75,10 +71,6 @@ pub slice-rest : (a b : ℕ) (w x : List ℕ) → slice a b w ≡ x → drop a w
 slice-rest a b w x is =
     let rest = drop (b - a) (drop a w) in
     sym (take-append-drop (b - a) (drop a w)) ∙ ap (λ (l : List ℕ). l ++ rest) (sym (slice-take a b w) ∙ is)
-
--- what stands in front of a rest is a part
-pub slice-front : (a b : ℕ) (w x u : List ℕ) → drop a w ≡ x ++ u → b ≡ a + length x → slice a b w ≡ x
-slice-front a b w x u is end = slice-take a b w ∙ rw is (take-at x u (b - a) (omega arith))
 
 -- bytes of a part of a list, as bytes of the list
 part-slice : (w s : List ℕ) (base p : ℕ) (x y : List ℕ) → slice base (base + length s) w ≡ s → p ≤ length s → drop p s ≡ x ++ y

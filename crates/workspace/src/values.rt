@@ -130,7 +130,7 @@ pub fn own(s: &[u8], table: &[u32], w: &mut [u8], state: State, row: usize) -> O
     charged(state, n, top + n)
 }
 
-// The value of a form of atoms that stands for itself; of its bytes n are charged so far, with its 01 and 02.
+// The value of a form of atoms that stands for itself; n counts its bytes so far, with its 01 and 02.
 pub fn itself(s: &[u8], table: &[u32], w: &mut [u8], state: State, range: Form) -> Out
     requires { ⌜ Fitting (now w) state ⌝ }
     requires { ⌜ SomeAtoms (now s) (now table) range ⌝ }

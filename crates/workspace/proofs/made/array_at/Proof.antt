@@ -16,16 +16,6 @@ at-token c r e =
     let a = c .before .before .before .args in
     rw (lt-ltb (a .at) (length (a .w .now)) (c .before .if1 .left)) (ap array-of (sym e ∙ c .any-token .ensures))
 
-returns-2 : tie.Need-returns-2
-returns-2 c =
-    let k = c .before .before in
-    rw (eq-eqb (k .kind .given .0 .0) 2 (c .if2 .taken)) at (at-token (k .before .before) _ (k .kind .given .1))
-
-returns-5 : tie.Need-returns-5
-returns-5 c =
-    let k = c .before .before in
-    rw (ne-eqb (k .kind .given .0 .0) 2 (c .if2 .left)) at (at-token (k .before .before) _ (k .kind .given .1))
-
 pub array-at-spec : {M : Type 1} → statement M
 array-at-spec =
     tie.close
@@ -35,9 +25,9 @@ array-at-spec =
     (λ c. search needs)
     (λ c. search needs)
     (λ c. search needs)
-    returns-2
+    (λ c. let k = c .before .before in rw (eq-eqb (k .kind .given .0 .0) 2 (c .if2 .taken)) at (at-token (k .before .before) _ (k .kind .given .1)))
     (λ c. search needs)
     (λ c. at-token (c .before .before) Opening (c .enum-told .given .1))
     (λ c. at-token (c .before .before) Closing (c .enum-told2 .given .1))
-    returns-5
+    (λ c. let k = c .before .before in rw (ne-eqb (k .kind .given .0 .0) 2 (c .if2 .left)) at (at-token (k .before .before) _ (k .kind .given .1)))
     (λ c. at-token (c .before .before) _ (c .enum-told3 .given .1)))

@@ -2,10 +2,9 @@
 -- Assumes nothing.
 use borrow.Author.Needs.{needs}
 use Prim.Native.Nat.{_+_, _-_}
-use mathlib.Core.Path.{_≡_, sym, ap, _∙_}
+use mathlib.Core.Path.{sym, ap, _∙_}
 use native.Mathlib.Omega.{arith}
 use lib.ListN.{length, length-set}
-use lib.Dec.{leb}
 use borrow.Author.Tests.{leb-true, leb-false, not-true, not-false}
 use Rattle.spec.specs.Expr.{form, Exprs, only, deepest}
 use Rattle.laws.proofs.Fits.{FitsAll}
@@ -21,16 +20,11 @@ shallow-requires c κs =
     let part = stand-part (v .1) in
     (omega (arith, ap length part ∙ stand-size (v .1), v .1 .inside), (v .0, part, v .2))
 
--- what was told of these values
-told-depth : (c : tie.After-shallow) → let a = c .before .before .before .before .args in (vs : Exprs) → Stand (a .w .now) (a .from) (a .state .top) vs
-    → FitsAll vs → c .shallow .result ≡ leb (deepest vs) 63
-told-depth c vs there fits = c .shallow .ensures vs (stand-part there) fits
-
 -- no deeper than they may be
 sized : (c : tie.Else1) → let a = c .before .before .before .before .before .args in (vs : Exprs) → Stand (a .w .now) (a .from) (a .state .top) vs
     → FitsAll vs → Sized (only (form vs)) (a .state .top - a .from + 2)
 sized c vs there fits =
-    form-sized vs _ (omega (arith, stand-size there)) (leb-true (deepest vs) 63 (sym (told-depth (c .before) vs there fits) ∙ not-false _ (c .if1 .left)))
+    form-sized vs _ (omega (arith, stand-size there)) (leb-true (deepest vs) 63 (sym (c .before .shallow .ensures vs (stand-part there) fits) ∙ not-false _ (c .if1 .left)))
 
 returns-3 : tie.Need-returns-3
 returns-3 c vs there fits =
@@ -38,9 +32,10 @@ returns-3 c vs there fits =
     let k = m .before .before .before .before in
     let start = k .before .before .before .before .before in
     let p = start .pre .0 in
+    let put = rw (there .bytes) at (m .move-bytes .ensures) in
     rw (c .charged .ensures)
     (written (sized k vs there fits) (p .0) (omega (arith, there .order)) (omega arith)
-    (form-written vs _ (omega (arith, stand-size there)) _ (start .args .start) (omega (arith, there .order, p .0 .paid, p .0 .below)) (rw (there .bytes) at (m .move-bytes .ensures))))
+    (form-written vs _ (omega (arith, stand-size there)) _ (start .args .start) (omega (arith, there .order, p .0 .paid, p .0 .below)) put))
 
 pub wrapped-spec : {M : Type 1} → statement M
 wrapped-spec =
@@ -51,7 +46,7 @@ wrapped-spec =
     (λ c. search needs)
     shallow-requires
     (λ c. search needs)
-    (λ c vs there fits. form-deep vs (leb-false (deepest vs) 63 (sym (told-depth (c .before) vs there fits) ∙ not-true _ (c .if1 .taken))))
+    (λ c vs there fits. form-deep vs (leb-false (deepest vs) 63 (sym (c .before .shallow .ensures vs (stand-part there) fits) ∙ not-true _ (c .if1 .taken))))
     (λ c. search needs)
     (λ c. search needs)
     (λ c. search needs)

@@ -5,9 +5,9 @@ use Prim.Native.Nat.{_+_, _-_, _≤_}
 use mathlib.Core.Path.{_≡_, refl}
 use native.Mathlib.Omega.{arith}
 use lib.ListN.{length, length-set}
-use Rattle.spec.specs.Expr.{canonical}
+use Rattle.spec.specs.Expr.{Atom, canonical}
 use Rattle.spec.specs.Nodes.{Nodes, unnumbered-all}
-use Rattle.rows.specs.Rows.{NodesAt}
+use Rattle.rows.specs.Rows.{LeafAt, NodesAt}
 use Rattle.workspace.specs.Completed.{Atoms}
 use Rattle.workspace.proofs.Completing.{unpaid, written, form-written, flat-sized, Upto, AtomNext, atoms-start, atoms-end, atoms-next}
 use Rattle.workspace.proofs.values.itself.Statement.{statement}
@@ -20,26 +20,19 @@ Inv-loop s table w₀ state range top room end row₀ n₀ w row n =
 abbrev μ-loop : tie.MeasureT-loop
 μ-loop s table w₀ state range top room end row₀ n₀ w row n = end - row
 
-loop-holds : tie.Need-loop-holds Inv-loop μ-loop
-loop-holds c =
-    let a = c .before .before .before .before .args in
-    (omega arith, omega arith, refl, λ es at atoms. atoms-start (a .w .now) (a .state .top) es at atoms)
-
 -- the next of the atoms, if they are these
 module _ (c : tie.In-loop Inv-loop μ-loop) where
   abbrev start : tie.Start Inv-loop μ-loop
   start = c .before .before .before .before .before .before
 
-  next : (es : Nodes) → NodesAt (start .args .s .now) (start .args .table .now) (start .args .range .first) (start .args .range .end) es → Atoms es
-      → AtomNext (start .args .s .now) (start .args .table .now) (start .args .w .now) (c .before .loop .w) (start .args .state .top) (c .before .loop .n)
-      (c .before .loop .row) (start .args .range .end) es
+  next : (es : Nodes) → let a = start .args in let l = c .before .loop in NodesAt (a .s .now) (a .table .now) (a .range .first) (a .range .end) es → Atoms es
+      → AtomNext (a .s .now) (a .table .now) (a .w .now) (l .w) (a .state .top) (l .n) (l .row) (a .range .end) es
   next es at atoms =
       let inv = c .before .loop .inv in
       atoms-next (inv .3 es at atoms) (omega (arith, inv .1, start .pre .0 .paid, start .pre .0 .below)) (c .loop-test .taken)
 
-  some : AtomNext (start .args .s .now) (start .args .table .now) (start .args .w .now) (c .before .loop .w) (start .args .state .top) (c .before .loop .n)
-      (c .before .loop .row) (start .args .range .end) (start .pre .1 .nodes)
-  some = next (start .pre .1 .nodes) (start .pre .1 .at) (start .pre .1 .atoms)
+  some : (a : Atom) × LeafAt (start .args .s .now) (start .args .table .now) (c .before .loop .row) a
+  some = let a = next _ (start .pre .1 .at) (start .pre .1 .atoms) in (a .own, a .leaf)
 
 returns-2 : tie.Need-returns-2 Inv-loop μ-loop
 returns-2 c es at atoms =
@@ -76,16 +69,16 @@ itself-spec =
     Inv-loop
     μ-loop
     (λ c es at atoms. unpaid (flat-sized es atoms refl) (omega arith))
-    loop-holds
+    (λ c. let a = c .before .before .before .before .args in (omega arith, omega arith, refl, atoms-start (a .w .now) (a .state .top)))
     (λ c. search needs)
     (λ c. search needs)
     (λ c. search needs)
-    (λ c κs. ((omega arith, omega arith), (some (c .before) .own, some (c .before) .leaf)))
+    (λ c κs. ((omega arith, omega arith), some (c .before)))
     (λ c. search needs)
     (λ c. search needs)
     returns-2
     (λ c. search needs)
-    (λ c. omega (arith, some (c .before .before .before .before .before) .leaf .row .few))
+    (λ c. omega (arith, some (c .before .before .before .before .before) .1 .row .few))
     (λ c. search needs)
     loop-again
     (λ c. search needs)
