@@ -38,15 +38,15 @@ use Rattle.rules.proofs.Expecting.{refused-two, refused-ref, refused-ar
 -- Where it stands
 
 -- at the top level, with what stands before its row
-pub record TopAt (s t : List ℕ) (row : ℕ) (q : Within) : Type 0 where
-  pub earlier : List ℕ
-  pub is : q ≡ top earlier
-  pub before : Nodes
-  pub at : NodesAt s t 0 row before
-  pub same-markers : (m : ℕ) → some (eqb m) earlier ≡ some (eqb m) (markers-all before)
+record TopAt (s t : List ℕ) (row : ℕ) (q : Within) : Type 0 where
+  earlier : List ℕ
+  is : q ≡ top earlier
+  before : Nodes
+  at : NodesAt s t 0 row before
+  same-markers : (m : ℕ) → some (eqb m) earlier ≡ some (eqb m) (markers-all before)
 
 module _ {s t : List ℕ} {row : ℕ} where
-  pub top-at : {l : Listed} {q : Within} → ElementOf s t row l q → l ≡ Top → TopAt s t row q
+  top-at : {l : Listed} {q : Within} → ElementOf s t row l q → l ≡ Top → TopAt s t row q
   top-at (of-top {earlier} es h m) e = record { earlier = earlier; is = refl; before = es; at = h; same-markers = m }
   top-at of-data e = impossible (cc)
   top-at of-other e = impossible (cc)

@@ -1,5 +1,4 @@
 -- `rules::plan::namespace` meets its contract. Assumes nothing.
-use borrow.Author.Needs.{needs}
 use Prim.Native.Nat.{ℕ, _-_, _/_, _≤_}
 use mathlib.Core.Path.{_≡_, refl, sym, _∙_}
 use mathlib.Core.List.{List}
@@ -74,28 +73,28 @@ returns-5 c definitions args es at led =
 
 clash-requires : tie.Need-clash-requires
 clash-requires c κs =
-    let k = c .before .before .before in
+    let k = c .before .before .before .before in
     let pre = start (k .before .before) .pre in
     let l = some-right (k .before .before) .array-there in
     (some-linked _ _ (pre .1 .2), (some-earlier (pre .1 .2) (pre .0), (part k _ l .0, omega (arith, k .before .end .ensures, l .row .ends))))
 
 -- what is answered for whether they clash with what is known, and whether no more can be
-answered : (c : tie.After-clash) (clashing full : Bool) → c .clash .result ≡ clashing → let k = c .before .before .before .before in
+answered : (c : tie.After-clash) (clashing full : Bool) → c .clash .result ≡ clashing → let k = c .before .before .before .before .before in
     let i = start (k .before .before) .args in
     leb 64 (i .here .scope .associated) ≡ full → (definitions args : List ℕ) (es : Nodes) → NodesAt (i .s .now) (i .table .now) (i .form .first) (i .form .end) es → head-word es ≡ ns
     → Answers (i .s .now) (i .table .now) args (view (i .associations .now) definitions (i .here .scope)) (i .here) (branch (i .form .row) es) (λ h. plan-ns (h .within) es h)
-    (if clashing then Refuse 14 else if full then Refuse 19 else Ns (i .form) (c .before .key .result / 256) (id stream (k .body .result) (k .before .end .result - k .body .result)))
+    (if clashing then Refuse 14 else if full then Refuse 19 else Ns (i .form) (c .before .before .key .result / 256) (id stream (k .body .result) (k .before .end .result - k .body .result)))
 answered c clashing full is counted definitions args es at led =
-    let k = c .before .before .before .before in
+    let k = c .before .before .before .before .before in
     let o = k .before .before in
     let g = right o es at in
     let bytes = all-bytes (s o) (λ i. o .before .before .before .before .before .before .before .before .shared-slice-known .given i .fits) in
-    ns-answers g bytes _ _ _ (c .before .key .ensures _ _ (g .reference)) (k .body .ensures _ (g .array-there)) (k .before .end .ensures) (omega arith) (omega arith) _ _ definitions _ (start o .pre .0) at led
+    ns-answers g bytes _ _ _ (c .before .before .key .ensures _ _ (g .reference)) (k .body .ensures _ (g .array-there)) (k .before .end .ensures) (omega arith) (omega arith) _ _ definitions _ (start o .pre .0) at led
     clashing full (λ ks fs earlier l e m. sym (c .clash .ensures ks fs earlier l e m) ∙ is) counted
 
 id-requires : tie.Need-id-requires
 id-requires c κs =
-    let k = c .before .before .before .before .before .before .before in
+    let k = c .before .before .before .before .before .before .before .before in
     let l = some-right (k .before .before) .array-there in
     (omega arith, omega (arith, k .before .end .ensures, l .row .ends, l .row .short), omega arith, omega arith)
 
