@@ -29,7 +29,7 @@ use Rattle.rules.specs.declared.plan.Callee.{Callee}
 use Rattle.rules.specs.declared.plan.After.{After}
 use Rattle.rules.specs.declared.plan.After.the-variants.{Make, Call}
 use Rattle.rules.proofs.Shown.{shows-kept, sees-kept}
-use Rattle.evaluator.specs.Listed.{Ready, SomeReady, Over, Met, LeftBy, GoesInside, FinishedBy, by-form, by-define, by-concat, Finishable, Finishing, SomeFinishing, Calling, SomeCalling, Ending, ends-made, ends-called, SomeEnding, CanEnd, EndedBy}
+use Rattle.evaluator.specs.Listed.{Ready, SomeReady, Over, Met, LeftBy, GoesInside, FinishedBy, by-form, by-define, by-concat, Finishable, Finishing, SomeFinishing, Calling, SomeCalling, Ending, SomeEnding, CanEnd, EndedBy}
 use Rattle.evaluator.specs.declared.element.Left.{Left as Answer}
 use Rattle.evaluator.specs.declared.element.Left.the-variants.{Done as Ended, Refused as Stopped}
 use Rattle.evaluator.specs.declared.run.Open.{Open}
@@ -73,15 +73,6 @@ steps-of (Stopped n r) = 0
 
 -- A form whose elements were evaluated
 
-module _ {s t : List ℕ} {bound codes : ℕ} {w : List ℕ} {v : View} {st : State} {at : Seen} {start : ℕ} {h : Here} {vs : Exprs} where
-  ends-in-making : (m : Making) {f : Finish} → Ending s t bound codes w v st at start h vs (Make m) f
-      → FinishedBy (at .scope) m f × Finishing w st start f vs × Sees s t w (st .floor) v h
-  ends-in-making _ (ends-made m f by ready sees) = (by, ready, sees)
-
-  ends-in-call : (c : Callee) {f : Finish} → Ending s t bound codes w v st at start h vs (Call c) f
-      → (body : Nodes) × (behind : Definitions) × (f ≡ as-call body behind) × Calling s t bound codes w v st at c start body behind h vs
-  ends-in-call _ (ends-called c body behind calls) = (body, behind, refl, calls)
-
 -- its values are to be finished; `see` is what a scope shows
 module _ {s t w : List ℕ} (see : Scope → View) {st : State} {at : Seen} {opened : Open} {sc : Scope} (ended : SomeEnding s t w (see (at .scope)) st at opened × (sc ≡ at .scope)) where
   -- what is visible then is what was
@@ -91,7 +82,7 @@ module _ {s t w : List ℕ} (see : Scope → View) {st : State} {at : Seen} {ope
   module _ {m : Making} (e : opened .after ≡ Make m) where
     pub can-make : SomeFinishing w sc st m (opened .start)
     can-make =
-        let made = ends-in-making m (rw e at (ended .0 .ends)) in
+        let made = rw e at (ended .0 .ends) in
         record { finish = ended .0 .finish; values = ended .0 .values; by = rw (ended .1) (made .0); finishing = made .1 }
 
     pub making-ends : (w′ : List ℕ) (see′ : Scope → View) (left : Answer) {out : Answer} → out ≡ Ended st sc → ((codes : ℕ) (h : Here) (f : Finish) (vs : Exprs)
@@ -99,7 +90,7 @@ module _ {s t w : List ℕ} (see : Scope → View) {st : State} {at : Seen} {ope
         → LeftBy s t w w′ see′ sc (with-top st (st .room) (opened .start)) (hold (st .steps) (st .room) (finish (run-code codes) (opened .row) h f vs)) left)
         → EndedBy s t w w′ (see (at .scope)) see′ at opened left out
     making-ends w′ see′ left told makes = rw told λ bound codes h vs f ends.
-        let made = ends-in-making m (rw e at ends) in
+        let made = rw e at ends in
         rw (ended .1) at (makes codes h f vs (rw (ended .1) (made .0)) (made .1) (rw (ended .1) (made .2)))
 
   module _ {c : Callee} (e : opened .after ≡ Call c) {at′ : Seen} (e′ : at′ ≡ showing sc at) where
@@ -109,7 +100,7 @@ module _ {s t w : List ℕ} (see : Scope → View) {st : State} {at : Seen} {ope
     pub can-call : SomeCalling s t w (see (at′ .scope)) st at′ c (opened .start)
     can-call =
         let x = ended .0 in
-        let called = ends-in-call c (rw e at (x .ends)) in
+        let called = rw e at (x .ends) in
         rw same-here (record { bound = x .bound; codes = x .codes; body = called .0; behind = called .1; here = x .here; values = x .values; calls = called .3 })
 
     pub call-ends : (w′ : List ℕ) (see′ : Scope → View) (left : Answer) {out : Answer} → out ≡ Ended st sc → ((bound codes : ℕ) (body : Nodes) (behind : Definitions) (h : Here) (vs : Exprs)
@@ -118,7 +109,7 @@ module _ {s t w : List ℕ} (see : Scope → View) {st : State} {at : Seen} {ope
         (hold (st .steps) (st .room) (finish (run-code codes) (opened .row) h (as-call body behind) vs)) left)
         → EndedBy s t w w′ (see (at .scope)) see′ at opened left out
     call-ends w′ see′ left told runs = rw told λ bound codes h vs f ends.
-        let called = ends-in-call c (rw e at ends) in
+        let called = rw e at ends in
         rw (called .2) (rw same-here at (runs bound codes (called .0) (called .1) h vs (rw same-here (called .3))))
 
     pub call-view : (see′ : Scope → View) → see′ (at′ .scope) ≡ see (at′ .scope) → see′ (at .scope) ≡ see (at .scope)
@@ -210,27 +201,31 @@ module _ {s t : List ℕ} {bound codes : ℕ} {args : List ℕ} {end : ℕ} {w�
           go : {x : After} {k : ℕ} {p : Within} {y : Finish} → Finishes s t w (st .floor) v (at .scope) (elements head) x k p y → plan head (g .here) ≡ inside k p y
               → Finishing w₁ st₁ (st .top) y (o .left .values) → Sees s t w₁ (st₁ .floor) v (g .here)
               → Ending s t bound codes w₁ v st₁ at (st .top) (g .here) (o .left .values) x y
-          go form-finishes is fin sees = ends-made _ _ by-form fin sees
-          go (define-finishes m n fits fewer more) is fin sees = ends-made _ _ (by-define m n fits (omega (arith, few, fewer))) fin sees
-          go (concat-finishes more) is fin sees = ends-made _ _ by-concat fin sees
+          go form-finishes is fin sees = (by-form, fin, sees)
+          go (define-finishes m n fits fewer more) is fin sees = (by-define m n fits (omega (arith, few, fewer)), fin, sees)
+          go (concat-finishes more) is fin sees = (by-concat, fin, sees)
           go {k = k} {p} (call-finishes c body behind called) is fin sees =
-              let sound = call-sound bound head (g .here) k p body behind is (going-fits g on) (g .ready .sound) in
-              ends-called c body behind (record {
-                called = record {
-                  at = called .at;
-                  fewer = called .fewer;
-                  same = called .same;
-                  shows = rw floor-inside (shows-kept s t w (st .floor) others-inside _ behind (called .shows));
-                };
-                sees = sees;
-                fitting = fin .fitting;
-                stand = fin .stand;
-                sound = fin .sound;
-                fit = sound .0;
-                scope-sound = sound .1;
-                single = call-single head (g .here) k p body behind is (g .ready .single);
-                entered = g .ready .entered;
-              })
+              let sound = call-sound bound head (g .here) k p body behind is (going-fits g on) (g .ready .sound) in (
+                body,
+                behind,
+                refl,
+                record {
+                  called = record {
+                    at = called .at;
+                    fewer = called .fewer;
+                    same = called .same;
+                    shows = rw floor-inside (shows-kept s t w (st .floor) others-inside _ behind (called .shows));
+                  };
+                  sees = sees;
+                  fitting = fin .fitting;
+                  stand = fin .stand;
+                  sound = fin .sound;
+                  fit = sound .0;
+                  scope-sound = sound .1;
+                  single = call-single head (g .here) k p body behind is (g .ready .single);
+                  entered = g .ready .entered;
+                },
+              )
 
     -- the nodes inside are evaluated there; `see` is what a scope shows
     module _ {kind : Kind} {there : Seen} (see : Scope → View) (same : see (at .scope) ≡ v) (e : kind ≡ within-of after) (e′ : there ≡ in-list-of kind at) where

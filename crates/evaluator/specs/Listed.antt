@@ -189,11 +189,10 @@ pub record SomeCalling (s t w : List ℕ) (v : View) (st : State) (at : Seen) (c
 -- A form whose elements were evaluated
 
 -- their values stand from `start` up to the top, and are made into others, or are the arguments of a code
-pub data Ending (s t : List ℕ) (bound codes : ℕ) (w : List ℕ) (v : View) (st : State) (at : Seen) (start : ℕ) (h : Here) (vs : Exprs) : After → Finish → Type 0 where
-  ends-made : (making : Making) (f : Finish) → FinishedBy (at .scope) making f → Finishing w st start f vs → Sees s t w (st .floor) v h
-      → Ending s t bound codes w v st at start h vs (Make making) f
-  ends-called : (c : Callee) (body : Nodes) (behind : Definitions) → Calling s t bound codes w v st at c start body behind h vs
-      → Ending s t bound codes w v st at start h vs (Call c) (as-call body behind)
+abbrev pub Ending : List ℕ → List ℕ → ℕ → ℕ → List ℕ → View → State → Seen → ℕ → Here → Exprs → After → Finish → Type 0
+Ending s t bound codes w v st at start h vs (Make making) f = FinishedBy (at .scope) making f × Finishing w st start f vs × Sees s t w (st .floor) v h
+Ending s t bound codes w v st at start h vs (Call c) f =
+    (body : Nodes) × (behind : Definitions) × (f ≡ as-call body behind) × Calling s t bound codes w v st at c start body behind h vs
 
 pub record SomeEnding (s t w : List ℕ) (v : View) (st : State) (at : Seen) (opened : Open) : Type 0 where
   pub bound : ℕ

@@ -328,41 +328,32 @@ module _ (t : ℕ) where
     abbrev left-view : Scope → View
     left-view = view (c .match .associations) (c .match .definitions)
 
-    same-length-left : length (c .match .w) ≡ length (turn (c .before) .before .loop .w)
-    same-length-left =
-        ⊎-elim (λ x. ap length (x .3) ∙ c .before .before .before .begin .kept .1 .1 .0)
-        (λ x. ap length (x .17) ∙ x .14 .kept .1 .1 .0 ∙ x .8 .kept .1 .1 .0 ∙ c .before .before .before .begin .kept .1 .1 .0) (c .match .came)
-
-    -- what was visible is
-    kept-left : left-view (turn (c .before) .before .loop .here .scope) ≡ shown (turn (c .before))
-    kept-left =
+    -- the workspace is as long, what was visible is, and the expression left something
+    turned : (y : Listed (turn (c .before))) → (length (c .match .w) ≡ length (turn (c .before) .before .loop .w))
+        × (left-view (turn (c .before) .before .loop .here .scope) ≡ shown (turn (c .before))) × Leaving (turn (c .before)) y (c .match .w) left-view (c .match .left)
+    turned y =
         let k = c .before in
-        let y = some (turn k) in
-        ⊎-elim (λ x. rw (x .4, x .5) (k .before .before .begin .ensures .1))
-        (λ x. rw (x .18, x .19) (x .14 .ensures .1
-        ∙ inside-kept (going (turn k) y) (on (turn k)) (begun k y _ (x .1 .given .1)) (seen k) (k .before .before .begin .ensures .1) (x .3 .ensures) (x .4 .ensures)
-        (view (x .8 .last .1 .1 .1 .0) (x .8 .last .1 .1 .1 .1 .1 .0)) (x .8 .ensures .1)))
+        let step = k .before .before .begin in
+        ⊎-elim (λ x. rw (x .3, x .4, x .5, x .6) (step .kept .1 .1 .0, step .ensures .1, begun k y _ (x .1 .given .1)))
+        (λ x. let g = going (turn k) y in
+        let b = begun k y _ (x .1 .given .1) in
+        let see = view (x .8 .last .1 .1 .1 .0) (x .8 .last .1 .1 .1 .1 .1 .0) in
+        rw (x .17, x .18, x .19, x .20) (
+          x .14 .kept .1 .1 .0 ∙ x .8 .kept .1 .1 .0 ∙ step .kept .1 .1 .0,
+          x .14 .ensures .1 ∙ inside-kept g (on (turn k)) b (seen k) (step .ensures .1) (x .3 .ensures) (x .4 .ensures) see (x .8 .ensures .1),
+          inside-ends g (on (turn k)) b (seen k) (step .ensures .1) (x .3 .ensures) (x .4 .ensures) _ (x .8 .result) (x .8 .ensures .0) (latest-length _ _) see (x .8 .ensures .1)
+              _ (view (x .14 .last .1 .1 .1 .0) (x .14 .last .1 .1 .1 .1 .0)) (x .14 .result) (x .14 .ensures .0),
+        ))
         (c .match .came)
 
     kept-start : left-view (start (turn (c .before)) .args .here .scope) ≡ shown₀ (turn (c .before))
     kept-start =
-        let l = turn (c .before) .before .loop in
-        view-under _ _ _ _ (start (turn (c .before)) .args .here .scope) (l .here .scope) (l .inv .extends .defined) (l .inv .extends .associated) kept-left
-        ∙ l .inv .kept
+        let k = turn (c .before) in
+        let l = k .before .loop in
+        view-under _ _ _ _ (start k .args .here .scope) (l .here .scope) (l .inv .extends .defined) (l .inv .extends .associated) (turned (some k) .1) ∙ l .inv .kept
 
-    module _ (y : Listed (turn (c .before))) where
-      left-by-one : Leaving (turn (c .before)) y (c .match .w) left-view (c .match .left)
-      left-by-one =
-          let k = c .before in
-          ⊎-elim (λ x. rw (x .3, x .4, x .5, x .6) (begun k y _ (x .1 .given .1)))
-          (λ x. rw (x .17, x .18, x .19, x .20)
-          (inside-ends (going (turn k) y) (on (turn k)) (begun k y _ (x .1 .given .1)) (seen k) (k .before .before .begin .ensures .1) (x .3 .ensures) (x .4 .ensures)
-          _ (x .8 .result) (x .8 .ensures .0) (latest-length _ _) (view (x .8 .last .1 .1 .1 .0) (x .8 .last .1 .1 .1 .1 .1 .0)) (x .8 .ensures .1)
-          _ (view (x .14 .last .1 .1 .1 .0) (x .14 .last .1 .1 .1 .1 .0)) (x .14 .result) (x .14 .ensures .0)))
-          (c .match .came)
-
-      left-as : (left : Answer) → c .match .left ≡ left → Leaving (turn (c .before)) y (c .match .w) left-view left
-      left-as left e = subst (λ (x : Answer). Leaving (turn (c .before)) y (c .match .w) left-view x) e left-by-one
+    left-as : (y : Listed (turn (c .before))) (left : Answer) → c .match .left ≡ left → Leaving (turn (c .before)) y (c .match .w) left-view left
+    left-as y left e = subst (λ (x : Answer). Leaving (turn (c .before)) y (c .match .w) left-view x) e (turned y .2)
 
   list-returns : list-lts.Need-returns list-calls (list-at t) list.Post list-Inv-loop list-μ-loop
   list-returns c =
@@ -415,7 +406,7 @@ pub +call+finish+list-spec : {M : Type 1} → statement M
     λ t. list-lts.spec (list-calls t) (list-at t) list.Post list-Inv-loop list-μ-loop
     (λ c. record { going = λ y. going-start (y .ready); kept = refl; extends = extends-none _ }) (λ c κs. node-whole _ _ _ _ (next t c .node)) (list-begin-requires t)
     (λ c. search needs) (λ c. search needs) (λ c κs. search needs) (λ c κs. search needs) (list-list-requires t) (list-finish-requires t) (λ c. search needs)
-    (λ c. let j = c .before .before .before in same-length-left t j ∙ going t (turn t (j .before)) (some t (turn t (j .before))) .others .size) (list-returns t)
+    (λ c. let j = c .before .before .before in let k = turn t (j .before) in turned t j (some t k) .0 ∙ going t k (some t k) .others .size) (list-returns t)
     (λ c. search needs) (λ c κs. search needs) (λ c κs. node-whole _ _ _ _ (next t (turn t (c .before .before .before .before .before)) .node) .0) (list-loop-less t)
     (list-loop-again t) (λ c κs. search needs) (λ c κs. search needs)
     (λ c. let l = c .before .before .before in l .loop .inv .going (l .before .before .before .before .before .pre .1) .others .size) (list-returns-2 t)
