@@ -5,19 +5,19 @@ use mathlib.Core.Path.{_≡_, refl, ap, _∙_}
 use mathlib.Core.List.{List, [], _∷_, _++_}
 use lib.ListN.{length, set, length-append}
 use native.Mathlib.Omega.{arith}
-use Rattle.spec.specs.Expr.{nil, array, int, ref, Expr, atom, form, Exprs, none, more, only, array-head, marker-bytes, atom-bytes, bytes, canonical}
+use Rattle.spec.specs.Expr.{nil, array, int, ref, Expr, atom, form, Exprs, more, only, array-head, marker-bytes, atom-bytes, bytes, canonical}
 use Rattle.spec.specs.Runs.{stop, hold}
-use Rattle.spec.specs.Plan.{Definition, value, Here, Finish}
-use Rattle.spec.specs.Evaluation.{add-definition, complete, join, Call, finish}
+use Rattle.spec.specs.Plan.{value, Here, Finish}
+use Rattle.spec.specs.Evaluation.{complete, join, Call, finish}
 use Rattle.laws.proofs.Atoms.{head-bounds}
 use Rattle.laws.proofs.Fits.{FitsAll}
-use Rattle.laws.proofs.Holding.{hold-give, hold-stop}
+use Rattle.laws.proofs.Holding.{hold-stop}
 use Rattle.laws.proofs.Singles.{Single}
 use Rattle.workspace.specs.Packed.{pack}
 use Rattle.workspace.specs.Completed.{Stand, with-top, Completed, Joined, joined, no-arrays, Stored}
 use Rattle.workspace.specs.declared.values.State.{State}
 use Rattle.workspace.specs.declared.values.Out.{Out}
-use Rattle.workspace.proofs.Areas.{stand-size, stand-none}
+use Rattle.workspace.proofs.Areas.{stand-size}
 use Rattle.rules.specs.Entries.{definition}
 use Rattle.rules.specs.Scope.{view}
 use Rattle.rules.specs.Settings.{Sees}
