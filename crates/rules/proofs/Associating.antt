@@ -1,50 +1,52 @@
 -- The rule of ns, by what the code asks: where the form stands, its elements, and what is known. Document 01: "( ns ref id ), top level only:
 -- associates ref's marker with id, an array of 1 to 64 bytes", refusals 13, 11, 14, 19. Assumes nothing.
-use Prim.Native.Nat.{ℕ, _+_, _-_, _≤_}
+use Prim.Native.Nat.{ℕ, _+_, _-_, _/_, _≤_}
 use mathlib.Core.Path.{_≡_, refl, sym, _∙_}
 use mathlib.Core.List.{List}
-use mathlib.Core.Bool.{_||_}
+use mathlib.Core.Bool.{Bool, _||_}
 use native.Mathlib.Omega.{arith}
 use lib.ListN.{length}
 use lib.Seq.{slice}
 use lib.Dec.{ltb, leb, eqb}
-use borrow.Author.Tests.{ltb-false, le-ltb}
-use Rattle.spec.specs.Expr.{if_then_else_, some, array, ref, form, only}
-use Rattle.spec.specs.Nodes.{ns, Node, leaf, branch, Nodes, empty, cons, unnumbered-all, head-word, markers-all}
-use Rattle.spec.specs.Plan.{Namespace, Within, top, Here, Plan, refuse, associate, clash, plan-ns}
+use borrow.Author.Tests.{ltb-false, leb-false, le-ltb}
+use Rattle.spec.specs.Expr.{if_then_else_, some, array, ref}
+use Rattle.spec.specs.Nodes.{ns, Node, leaf, branch, Nodes, empty, cons, head-word, markers-all}
+use Rattle.spec.specs.Plan.{Namespace, Within, top, Here, Plan, refuse, clash, plan-ns}
+use Rattle.laws.specs.Demands.{Bytes}
 use Rattle.laws.proofs.Basics.{impossible, by-test, both-false}
-use Rattle.rows.specs.Rows.{cell, LeafAt, NodesAt, parts-of}
+use Rattle.rows.specs.Rows.{cell, LeafAt, NodesAt, parts-of, key-of}
 use Rattle.rows.specs.declared.forms.Form.{Form}
 use Rattle.rows.specs.declared.forms.Node.the-variants.{Branch}
 use Rattle.rows.specs.declared.forms.Parts.{Parts}
-use Rattle.rows.proofs.Nodes.{leaf-array}
+use Rattle.rows.proofs.Nodes.{kind-array, leaf-array, leaf-fits}
+use Rattle.rows.proofs.Keys.{key-marker}
 use Rattle.rows.proofs.Parts.{node-named, reference-at, two-at}
 use Rattle.workspace.specs.Completed.{Atoms}
 use Rattle.rules.specs.Entries.{stream, id, association}
 use Rattle.rules.specs.Scope.{latest, View, view}
 use Rattle.rules.specs.Associations.{AssociationAt, Linked, SomeLinked}
 use Rattle.rules.specs.Settings.{ElementOf, of-top, of-data, of-other}
-use Rattle.rules.specs.Planned.{refuses, Planning, Answers}
+use Rattle.rules.specs.Planned.{refuses, associates, Planning, Answers}
 use Rattle.rules.specs.declared.here.Within.{Within as Listed}
 use Rattle.rules.specs.declared.here.Within.the-variants.{Top}
 use Rattle.rules.specs.declared.here.Here.{Here as Code}
-use Rattle.rules.specs.declared.plan.Task.the-variants.{Refuse}
+use Rattle.rules.specs.declared.plan.Task.the-variants.{Refuse, Ns}
 use Rattle.rules.proofs.Latest.{latest-length}
 use Rattle.rules.proofs.Linking.{linked-length}
-use Rattle.rules.proofs.Expecting.{refused-two, refused-ref, refused-array, array-at}
+use Rattle.rules.proofs.Expecting.{refused-two, refused-ref, refused-array, of-kind, refused-if}
 
 -- Where it stands
 
 -- at the top level, with what stands before its row
-pub record TopAt (s t : List ℕ) (row : ℕ) (q : Within) : Type 0 where
-  pub earlier : List ℕ
-  pub is : q ≡ top earlier
-  pub before : Nodes
-  pub at : NodesAt s t 0 row before
-  pub same-markers : (m : ℕ) → some (eqb m) earlier ≡ some (eqb m) (markers-all before)
+record TopAt (s t : List ℕ) (row : ℕ) (q : Within) : Type 0 where
+  earlier : List ℕ
+  is : q ≡ top earlier
+  before : Nodes
+  at : NodesAt s t 0 row before
+  same-markers : (m : ℕ) → some (eqb m) earlier ≡ some (eqb m) (markers-all before)
 
 module _ {s t : List ℕ} {row : ℕ} where
-  pub top-at : {l : Listed} {q : Within} → ElementOf s t row l q → l ≡ Top → TopAt s t row q
+  top-at : {l : Listed} {q : Within} → ElementOf s t row l q → l ≡ Top → TopAt s t row q
   top-at (of-top {earlier} es h m) e = record { earlier = earlier; is = refl; before = es; at = h; same-markers = m }
   top-at of-data e = impossible (cc)
   top-at of-other e = impossible (cc)
@@ -71,7 +73,7 @@ module _ (s t : List ℕ) (r end : ℕ) (es : Nodes) (p : Parts) (at : NodesAt s
   ns-at n k l =
       let g = two-at s t r end es p at is n in
       let a = reference-at s t (p .second) (g .first) (g .one) k in
-      let b = array-at s t (p .third) (g .second) (g .two) l in
+      let b = of-kind s t (p .third) 2 array kind-array (λ z. omega arith) (g .second) (g .two) l in
       record {
         head = g .head;
         marker = a .marker;
@@ -104,32 +106,6 @@ array-part l begins ends = let a = leaf-array l in (omega arith, omega (arith, a
 
 -- What is known
 
-module _ {s t : List ℕ} {p : Parts} {es : Nodes} (g : NsAt s t p es) (some-bytes : 1 ≤ length (g .id)) (few-bytes : length (g .id) ≤ 64) where
-  pub ns-rule : (earlier : List ℕ) (h : Here) → plan-ns (top earlier) es h ≡
-      (if clash (g .marker) (g .id) earlier (h .namespaces) then refuse 14 else
-      if leb 64 (length (h .namespaces)) then refuse 19 else
-      associate (only (form (unnumbered-all es))) (record { marker = g .marker; id = g .id }))
-  ns-rule earlier h = rw (g .is, le-ltb (length (g .id)) 1 some-bytes, le-ltb 64 (length (g .id)) few-bytes)
-
-  -- the association, by the array's last bytes
-  pub ns-association : (from : ℕ) → from ≡ cell t (p .third) 2 - length (g .id)
-      → AssociationAt s (association (g .marker) (id stream from (length (g .id)))) (record { marker = g .marker; id = g .id })
-  ns-association from e =
-      let to : from + length (g .id) ≡ cell t (p .third) 2 = omega (arith, leaf-array (g .array-there) .1) in
-      record {
-        place = from;
-        is = refl;
-        marker-short = g .reference .spells .1;
-        some-bytes = some-bytes;
-        few-bytes = few-bytes;
-        inside = omega (arith, g .array-there .row .ends);
-        short = g .array-there .row .short;
-        bytes = array-part (g .array-there) e to .2;
-      }
-
-pub linked-count : (s associations : List ℕ) (n : ℕ) (ks : List Namespace) → Linked s (latest associations n) ks → n ≡ length ks
-linked-count s associations n ks l = sym (latest-length associations n) ∙ linked-length s (latest associations n) ks l
-
 -- something is
 module _ {s t args : List ℕ} {here : Code} {f : Form} where
   pub some-linked : (associations definitions : List ℕ) → Planning s t args (view associations definitions (here .scope)) here (Branch f)
@@ -144,9 +120,43 @@ module _ {s t args : List ℕ} {here : Code} {f : Form} where
   some-earlier p e = let k = top-at (p .setting .element-of) e in (k .before, rw (node-named (p .is)) (k .at))
 
 -- the form stands for itself: it is of atoms
-pub ns-atoms : {s t : List ℕ} {p : Parts} {es : Nodes} (g : NsAt s t p es) → head-word es ≡ ns → Atoms es
-ns-atoms {p = p} g e = rw (g .is) (go (g .head) (cons (leaf (p .second) (ref (g .marker) (g .name))) (cons (leaf (p .third) (array (g .id))) empty)) (rw (g .is) at e) tt)
-  where
-    go : (h : Node) (fs : Nodes) → head-word (cons h fs) ≡ ns → Atoms fs → Atoms (cons h fs)
-    go (leaf q a) fs e rest = rest
-    go (branch q gs) fs e rest = impossible (cc)
+ns-atoms : (h : Node) (es : Nodes) → head-word (cons h es) ≡ ns → Atoms es → Atoms (cons h es)
+ns-atoms (leaf q x) es e rest = rest
+ns-atoms (branch q fs) es e rest = impossible (cc)
+
+module _ {s t : List ℕ} {p : Parts} {es : Nodes} (g : NsAt s t p es) (bytes : Bytes s) (from to key : ℕ) (keyed : key ≡ key-of (g .marker) (g .name))
+    (begins : from ≡ cell t (p .third) 2 - length (g .id)) (ends : to ≡ cell t (p .third) 2) (some-bytes : 1 ≤ to - from) (few-bytes : to - from ≤ 64) where
+  ns-association : AssociationAt s (association (g .marker) (id stream from (length (g .id)))) (record { marker = g .marker; id = g .id })
+  ns-association =
+      let part = array-part (g .array-there) begins ends in
+      let past : from + length (g .id) ≡ to = omega (arith, part .0, part .1) in
+      record {
+        place = from;
+        is = refl;
+        marker-short = g .reference .spells .1;
+        some-bytes = omega (arith, part .1);
+        few-bytes = omega (arith, part .1);
+        inside = omega (arith, g .array-there .row .ends);
+        short = g .array-there .row .short;
+        bytes = rw past (part .2);
+      }
+
+  -- 14 if they clash with what is known, 19 if no more can be, else they are associated
+  pub ns-answers : (f : Form) (associations definitions : List ℕ) {args : List ℕ} (here : Code) → here .within ≡ Top → NodesAt s t (f .first) (f .end) es → head-word es ≡ ns
+      → (clashing full : Bool)
+      → ((ks : List Namespace) (fs : Nodes) (earlier : List ℕ) → Linked s (latest associations (here .scope .associated)) ks → NodesAt s t 0 (f .row) fs
+      → some (eqb (key / 256)) earlier ≡ some (eqb (key / 256)) (markers-all fs) → clash (key / 256) (slice from to s) earlier ks ≡ clashing)
+      → leb 64 (here .scope .associated) ≡ full
+      → Answers s t args (view associations definitions (here .scope)) here (branch (f .row) es) (λ h. plan-ns (h .within) es h)
+      (if clashing then Refuse 14 else if full then Refuse 19 else Ns f (key / 256) (id stream from (to - from)))
+  ns-answers f associations definitions here there at led clashing full known counted = λ w st h set.
+      let part = array-part (g .array-there) begins ends in
+      let marker : key / 256 ≡ g .marker = rw keyed (key-marker (g .marker) (g .name) (leaf-fits bytes (g .reference) .2)) in
+      let top = top-at (set .element-of) there in
+      let behind = cons (leaf (p .second) (ref (g .marker) (g .name))) (cons (leaf (p .third) (array (g .id))) empty) in
+      let clashes = rw (marker, part .2) at (known (h .namespaces) (top .before) (top .earlier) (set .sees .associations) (top .at) (top .same-markers (key / 256))) in
+      let count = latest-length associations (here .scope .associated) in
+      let counts = rw (sym count ∙ linked-length s _ _ (set .sees .associations)) at counted in
+      rw (top .is, g .is, le-ltb (length (g .id)) 1 (omega (arith, part .1)), le-ltb 64 (length (g .id)) (omega (arith, part .1)), clashes, counts, marker, part .1)
+      (refused-if clashing 14 (λ no. refused-if full 19 (λ room. associates f _ _ _ _ refl (rw (g .is) at at) (ns-atoms (g .head) behind (rw (g .is) at led) tt) ns-association
+      (omega (arith, leb-false 64 (here .scope .associated) (counted ∙ room))))))

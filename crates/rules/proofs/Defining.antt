@@ -1,14 +1,17 @@
 -- The rule of define, by what the code asks: where the form stands, its elements, and what is known. Document 01: "( define ref value )", refusals 13,
 -- 11, 14, 19. Assumes nothing.
-use Prim.Native.Nat.{ℕ, _+_, _<_}
+use Prim.Native.Nat.{ℕ, _+_, _/_, _<_}
 use mathlib.Core.Path.{_≡_, refl, sym, _∙_}
 use mathlib.Core.List.{List}
-use mathlib.Core.Bool.{true, false}
+use mathlib.Core.Bool.{Bool, true, false}
+use native.Mathlib.Omega.{arith}
 use lib.ListN.{length}
 use lib.Dec.{leb}
+use borrow.Author.Tests.{leb-false}
 use Rattle.spec.specs.Expr.{if_then_else_, ref}
 use Rattle.spec.specs.Nodes.{subst, rest, Node, leaf, branch, Nodes, empty, cons, elements, tail, headed-by}
-use Rattle.spec.specs.Plan.{function, Scope as Definitions, Within, inner, Here, as-definition, Plan, refuse, define-function, inside, undefinable, plan-definition, plan-define}
+use Rattle.spec.specs.Plan.{function, Namespace, Within, inner, Here, as-definition, Plan, refuse, define-function, inside, undefinable, plan-definition, plan-define}
+use Rattle.laws.specs.Demands.{Bytes}
 use Rattle.laws.specs.Holding.{skip}
 use Rattle.laws.proofs.Basics.{impossible, by-test}
 use Rattle.laws.proofs.Fits.{Fits}
@@ -16,21 +19,24 @@ use Rattle.rows.specs.Rows.{cell, LeafAt, NodeAt, NodesAt, parts-of, key-of}
 use Rattle.rows.specs.Forms.{starting-at}
 use Rattle.rows.specs.declared.forms.Form.{Form}
 use Rattle.rows.specs.declared.forms.Parts.{Parts}
-use Rattle.rows.proofs.Nodes.{form-row, form-nodes}
+use Rattle.rows.proofs.Nodes.{leaf-fits, form-row, form-nodes}
+use Rattle.rows.proofs.Keys.{key-marker}
 use Rattle.rows.proofs.Parts.{reference-at, two-at}
 use Rattle.rules.specs.Entries.{function-bit}
-use Rattle.rules.specs.Scope.{latest, View}
-use Rattle.rules.specs.Settings.{CodeAt, Shows, ElementOf, of-top, of-data, of-other}
-use Rattle.rules.specs.Planned.{one-more, define-finishes, Planned, defines, goes-inside}
+use Rattle.rules.specs.Scope.{latest, View, view}
+use Rattle.rules.specs.Associations.{Linked}
+use Rattle.rules.specs.Settings.{CodeAt, ElementOf, of-top, of-data, of-other}
+use Rattle.rules.specs.Planned.{one-more, define-finishes, Planned, defines, goes-inside, Answers}
 use Rattle.rules.specs.declared.scope.Scope.{Scope}
 use Rattle.rules.specs.declared.here.Within.{Within as Listed}
 use Rattle.rules.specs.declared.here.Within.the-variants.{Inner}
+use Rattle.rules.specs.declared.here.Here.{Here as Code}
 use Rattle.rules.specs.declared.plan.Making.the-variants.{Define}
 use Rattle.rules.specs.declared.plan.After.the-variants.{Make}
-use Rattle.rules.specs.declared.plan.Task.the-variants.{Function, Inside}
+use Rattle.rules.specs.declared.plan.Task.the-variants.{Refuse, Function, Inside}
 use Rattle.rules.proofs.Latest.{latest-length}
 use Rattle.rules.proofs.Shown.{shows-length}
-use Rattle.rules.proofs.Expecting.{refused-two, refused-ref}
+use Rattle.rules.proofs.Expecting.{refused-two, refused-ref, refused-if}
 
 -- Where it stands
 
@@ -81,38 +87,42 @@ module _ (s t : List ℕ) (r end : ℕ) (es : Nodes) (p : Parts) (at : NodesAt s
       refused-two s t r end es p at is _ (λ n g. refused-ref s t (p .second) (g .first) _ (g .one) (λ m i k.
       by-test (λ (x : Plan). x ≡ refuse 11) (headed-by rest (g .second)) (λ q. refl) (λ q. absurd (right n (k .row .kind-is) (g .second) (g .two) q))))
 
--- What is known
-
-pub define-rule : {s t : List ℕ} {end : ℕ} {p : Parts} {es : Nodes} (g : DefineAt s t end p es) → headed-by rest (g .value) ≡ false → (h : Here)
-    → plan-definition es h ≡
-    (if undefinable (g .marker) (h .namespaces) then refuse 14 else
-    if leb 256 (length (h .scope)) then refuse 19 else
-    if headed-by subst (g .value) then define-function (record { marker = g .marker; name = g .name; content = function (tail (elements (g .value))) }) else
-    inside 2 inner (as-definition (g .marker) (g .name)))
-define-rule g no-rest h = rw (g .is, no-rest)
-
-pub shows-count : (s t w : List ℕ) (floor : ℕ) (definitions : List ℕ) (n : ℕ) (ds : Definitions) → Shows s t w floor (latest definitions n) ds → n ≡ length ds
-shows-count s t w floor definitions n ds h = sym (latest-length definitions n) ∙ shows-length s t w floor (latest definitions n) ds h
-
--- What is planned
-
 -- a form headed by `subst` is code
 pub code-headed : (s t : List ℕ) (r : ℕ) (e : Node) → NodeAt s t r e → headed-by subst e ≡ true → CodeAt s t r (tail (elements e))
 code-headed s t r (leaf q a) h e = impossible (cc)
 code-headed s t r (branch q empty) h e = impossible (cc)
 code-headed s t r (branch q (cons x es)) h e = record { form = form-row s t r q (cons x es) h; head = x; elements = form-nodes s t r q (cons x es) h }
 
-module _ {s t w : List ℕ} {floor q : ℕ} {v : View} {sc : Scope} (f : Form) {p : Parts} {es : Nodes} (g : DefineAt s t (f .end) p es)
-    (k : ℕ) (key : k ≡ key-of (g .marker) (g .name)) (fits : Fits (ref (g .marker) (g .name))) (room : length (v .definitions) < 256) where
-  pub function-planned : headed-by subst (g .value) ≡ true
-      → Planned s t w floor v sc (branch q es) (Function (k + function-bit) (p .third))
-      (define-function (record { marker = g .marker; name = g .name; content = function (tail (elements (g .value))) }))
-  function-planned e = rw key (defines (g .marker) (g .name) (p .third) (tail (elements (g .value))) fits room (code-headed s t (p .third) (g .value) (g .there) e))
+-- What is known
 
-  pub value-planned : headed-by rest (g .value) ≡ false
-      → Planned s t w floor v sc (branch q es) (Inside (starting-at (p .third) f) (Make (Define k))) (inside 2 inner (as-definition (g .marker) (g .name)))
+module _ {s t : List ℕ} (f : Form) {p : Parts} {es : Nodes} (g : DefineAt s t (f .end) p es) (bytes : Bytes s) (key : ℕ)
+    (keyed : key ≡ key-of (g .marker) (g .name)) (no-rest : headed-by rest (g .value) ≡ false) where
+  abbrev reference : Node
+  reference = leaf (p .second) (ref (g .marker) (g .name))
+
+  fits : Fits (ref (g .marker) (g .name))
+  fits = leaf-fits bytes (g .reference)
+
+  made : {w : List ℕ} {floor : ℕ} {v : View} {sc : Scope} (code : Bool) → headed-by subst (g .value) ≡ code → length (v .definitions) < 256
+      → Planned s t w floor v sc (branch (f .row) (cons (g .head) (cons reference (cons (g .value) empty))))
+      (if code then Function (key + function-bit) (p .third) else Inside (starting-at (p .third) f) (Make (Define key)))
+      (if code then define-function (record { marker = g .marker; name = g .name; content = function (tail (elements (g .value))) }) else
+      inside 2 inner (as-definition (g .marker) (g .name)))
   unfolding skip
-  value-planned no-rest =
-      rw (key, g .is)
-      (goes-inside (starting-at (p .third) f) 2 inner (as-definition (g .marker) (g .name)) (Make (Define (key-of (g .marker) (g .name)))) (g .from)
-      (define-finishes (g .marker) (g .name) fits room (one-more (g .head) (leaf (p .second) (ref (g .marker) (g .name))) (g .value) no-rest)))
+  made true is room = rw keyed (defines (g .marker) (g .name) (p .third) _ fits room (code-headed s t (p .third) (g .value) (g .there) is))
+  made false is room =
+      rw keyed (goes-inside (starting-at (p .third) f) 2 inner _ _ (g .from) (define-finishes (g .marker) (g .name) fits room (one-more (g .head) reference (g .value) no-rest)))
+
+  -- 14 if it may not be defined, 19 if no more can be, else it is defined: as a function, or by what the value leaves
+  pub define-answers : (associations definitions : List ℕ) {args : List ℕ} (here : Code) (unknown full code : Bool)
+      → ((ks : List Namespace) → Linked s (latest associations (here .scope .associated)) ks → undefinable (key / 256) ks ≡ unknown)
+      → leb 256 (here .scope .defined) ≡ full → headed-by subst (g .value) ≡ code
+      → Answers s t args (view associations definitions (here .scope)) here (branch (f .row) es) (plan-definition es)
+      (if unknown then Refuse 14 else if full then Refuse 19 else if code then Function (key + function-bit) (p .third) else Inside (starting-at (p .third) f) (Make (Define key)))
+  define-answers associations definitions here unknown full code known counted is = λ w st h set.
+      let marker : key / 256 ≡ g .marker = rw keyed (key-marker (g .marker) (g .name) (fits .2)) in
+      let unknowns = rw marker at (known (h .namespaces) (set .sees .associations)) in
+      let count = latest-length definitions (here .scope .defined) in
+      let counts = rw (sym count ∙ shows-length s t w (st .floor) _ _ (set .sees .definitions)) at counted in
+      rw (g .is, no-rest, unknowns, counts, is)
+      (refused-if unknown 14 (λ no. refused-if full 19 (λ room. made code is (omega (arith, leb-false 256 (here .scope .defined) (counted ∙ room))))))

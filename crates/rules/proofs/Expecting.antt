@@ -1,19 +1,26 @@
--- Laws of refusal 11: of the number and of the kind of a form's elements, as the rows tell them. Document 01: "wrong number or kind of elements in ns,
--- define, concat, arg, rest, counted as written". Assumes nothing.
+-- Laws of what the rules ask: of the number, the kind and the head of a form's elements, as the rows tell them; and of one refusal after the other.
+-- Document 01: "wrong number or kind of elements in ns, define, concat, arg, rest, counted as written". Assumes nothing.
 use Prim.Native.Nat.{ℕ}
-use mathlib.Core.Path.{_≡_, refl, ap, _∙_, subst}
+use mathlib.Core.Path.{_≡_, refl, sym, ap, _∙_, subst}
 use mathlib.Core.List.{List}
 use mathlib.Core.Bool.{Bool, true, false}
 use lib.Dec.{eqb}
 use borrow.Author.Tests.{eqb-true, eqb-false}
-use native.Mathlib.Omega.{arith}
-use Rattle.spec.specs.Expr.{nil, array, int, ref}
-use Rattle.spec.specs.Nodes.{Node, leaf, branch, Nodes, empty, cons}
+use Rattle.spec.specs.Expr.{if_then_else_, Atom, nil, array, int, ref}
+use Rattle.spec.specs.Reading.{atom-kind}
+use Rattle.spec.specs.Nodes.{Word, is, Node, leaf, branch, Nodes, empty, cons, elements, head-word, headed-by}
 use Rattle.spec.specs.Plan.{Plan, refuse, expect-one, expect-two, expect-ref, expect-array, expect-int}
 use Rattle.rows.specs.Rows.{cell, LeafAt, NodeAt, NodesAt, parts-of}
+use Rattle.rows.specs.Forms.{meant}
+use Rattle.rows.specs.declared.words.Word.{Word as Coded}
 use Rattle.rows.specs.declared.forms.Parts.{Parts}
-use Rattle.rows.proofs.Nodes.{kind-array, kind-int, leaf-kind, leaf-at, kind-leaf}
+use Rattle.rows.proofs.Nodes.{leaf-kind, leaf-at, kind-leaf}
 use Rattle.rows.proofs.Parts.{OneAt, TwoAt, one-at, two-at}
+use Rattle.rules.specs.Scope.{View}
+use Rattle.rules.specs.Planned.{Planned, refuses}
+use Rattle.rules.specs.declared.scope.Scope.{Scope}
+use Rattle.rules.specs.declared.plan.Task.{Task}
+use Rattle.rules.specs.declared.plan.Task.the-variants.{Refuse}
 
 -- How many elements
 
@@ -30,27 +37,24 @@ no-two (cons x (cons a empty)) f h = refl
 no-two (cons x (cons a (cons b empty))) f h = absurd (h refl)
 no-two (cons x (cons a (cons b (cons d es)))) f h = refl
 
+by-count : {A : Type 0} (n k : ℕ) → (n ≡ k → A) → ((n ≡ k → ⊥) → A) → A
+by-count {A} n k f g = go (eqb n k) refl
+  where
+    go : (b : Bool) → eqb n k ≡ b → A
+    go true q = f (eqb-true n k q)
+    go false q = g (eqb-false n k q)
+
 module _ (s t : List ℕ) (r end : ℕ) (es : Nodes) (p : Parts) (at : NodesAt s t r end es) (is : p ≡ parts-of es) where
   -- 11, if that is what the elements get where they are so many
   pub refused-one : (f : Node → Plan) → (p .count ≡ 2 → (g : OneAt s t p es) → f (g .first) ≡ refuse 11) → expect-one es f ≡ refuse 11
-  refused-one f k = go (eqb (p .count) 2) refl
-    where
-      go : (b : Bool) → eqb (p .count) 2 ≡ b → expect-one es f ≡ refuse 11
-      go true q =
-          let n = eqb-true (p .count) 2 q in
-          let g = one-at s t r end es p at is n in
-          ap (λ (x : Nodes). expect-one x f) (g .is) ∙ k n g
-      go false q = no-one es f (λ n. eqb-false (p .count) 2 q (ap (λ (x : Parts). x .count) is ∙ n))
+  refused-one f k =
+      by-count (p .count) 2 (λ n. let g = one-at s t r end es p at is n in ap (λ (x : Nodes). expect-one x f) (g .is) ∙ k n g)
+      (λ no. no-one es f (λ n. no (ap (λ (x : Parts). x .count) is ∙ n)))
 
   pub refused-two : (f : Node → Node → Plan) → (p .count ≡ 3 → (g : TwoAt s t r end p es) → f (g .first) (g .second) ≡ refuse 11) → expect-two es f ≡ refuse 11
-  refused-two f k = go (eqb (p .count) 3) refl
-    where
-      go : (b : Bool) → eqb (p .count) 3 ≡ b → expect-two es f ≡ refuse 11
-      go true q =
-          let n = eqb-true (p .count) 3 q in
-          let g = two-at s t r end es p at is n in
-          ap (λ (x : Nodes). expect-two x f) (g .is) ∙ k n g
-      go false q = no-two es f (λ n. eqb-false (p .count) 3 q (ap (λ (x : Parts). x .count) is ∙ n))
+  refused-two f k =
+      by-count (p .count) 3 (λ n. let g = two-at s t r end es p at is n in ap (λ (x : Nodes). expect-two x f) (g .is) ∙ k n g)
+      (λ no. no-two es f (λ n. no (ap (λ (x : Parts). x .count) is ∙ n)))
 
 -- Their kinds
 
@@ -76,14 +80,24 @@ module _ (s t : List ℕ) (r : ℕ) where
   refused-int (leaf q (ref m n)) f h k = refl
   refused-int (branch q es) f h k = refl
 
-  pub array-at : (e : Node) → NodeAt s t r e → cell t r 0 ≡ 2 → (bs : List ℕ) × (e ≡ leaf r (array bs)) × LeafAt s t r (array bs)
-  array-at e h k =
-      let l = kind-leaf s t r e h (λ z. omega arith) in
-      let a = kind-array (l .0) (leaf-kind (l .2) ∙ k) in
+  -- an atom of a kind
+  pub of-kind : {X : Type 0} (k : ℕ) (make : X → Atom) → ((a : Atom) → atom-kind a ≡ k → (x : X) × (a ≡ make x)) → (k ≡ 1 → ⊥)
+      → (e : Node) → NodeAt s t r e → cell t r 0 ≡ k → (x : X) × (e ≡ leaf r (make x)) × LeafAt s t r (make x)
+  of-kind k make made no-form e h is =
+      let l = kind-leaf s t r e h (λ z. no-form (sym is ∙ z)) in
+      let a = made (l .0) (leaf-kind (l .2) ∙ is) in
       (a .0, l .1 ∙ ap (leaf r) (a .1), subst (LeafAt s t r) (a .1) (l .2))
 
-  pub int-at : (e : Node) → NodeAt s t r e → cell t r 0 ≡ 3 → (v : ℕ) × (e ≡ leaf r (int v)) × LeafAt s t r (int v)
-  int-at e h k =
-      let l = kind-leaf s t r e h (λ z. omega arith) in
-      let a = kind-int (l .0) (leaf-kind (l .2) ∙ k) in
-      (a .0, l .1 ∙ ap (leaf r) (a .1), subst (LeafAt s t r) (a .1) (l .2))
+-- Their words
+
+-- whether an expression is headed by a word, by the word that was read there
+pub headed : (w : Coded) (v : Word) (e : Node) {b : Bool} → b ≡ is (meant w) v → meant w ≡ head-word (elements e) → headed-by v e ≡ b
+headed w v e told read = sym (told ∙ ap (λ (x : Word). is x v) read)
+
+-- One test after the other
+
+-- a refusal if a test says so, else what is planned
+pub refused-if : {s t w : List ℕ} {floor : ℕ} {v : View} {sc : Scope} {e : Node} {r : Task} {q : Plan} (b : Bool) (n : ℕ)
+    → (b ≡ false → Planned s t w floor v sc e r q) → Planned s t w floor v sc e (if b then Refuse n else r) (if b then refuse n else q)
+refused-if true n k = refuses n
+refused-if false n k = k refl

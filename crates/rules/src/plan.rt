@@ -24,7 +24,7 @@ ghost use Prim.Native.Nat.{ℕ};
 ghost use lib.Dec.{leb};
 ghost use Rattle.spec.specs.Expr.{if_then_else_, Atom};
 ghost use Rattle.spec.specs.Nodes.{ns, subst, rest, is, Node as Expression, leaf, branch, Nodes, head-word};
-ghost use Rattle.spec.specs.Plan.{Arguments, Here as Known, Plan, refuse, expect-one, expect-int, plan-ns, plan-definition, plan-define, plan-concat, plan-other, plan};
+ghost use Rattle.spec.specs.Plan.{Arguments, Plan, refuse, expect-one, expect-int, plan-ns, plan-definition, plan-define, plan-concat, plan-other, plan};
 ghost use Rattle.rows.specs.Rows.{LeafAt, NodesAt};
 ghost use Rattle.rows.specs.Forms.{meant, IsNode, SomeNodes, led-by-reference};
 ghost use Rattle.rows.specs.declared.forms.Node.the-variants.{Leaf, Branch};
@@ -178,10 +178,11 @@ fn namespace(s: &[u8], table: &[u32], associations: &[u64; 64], here: Here, form
         return Task::Refuse(11);
     }
     let marker = table::key(s, table, p.second) / 256;
-    if namespaces::clash(s, table, associations, here.scope, form.row, marker, from, to) {
+    let scope = here.scope;
+    if namespaces::clash(s, table, associations, scope, form.row, marker, from, to) {
         return Task::Refuse(14);
     }
-    if 64 <= here.scope.associated {
+    if 64 <= scope.associated {
         return Task::Refuse(19);
     }
     let id = entries::id(entries::STREAM, from, size);

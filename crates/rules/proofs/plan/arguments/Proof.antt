@@ -1,72 +1,63 @@
 -- `rules::plan::arguments` meets its contract. Assumes nothing.
 use borrow.Author.Needs.{needs}
-use Prim.Native.Nat.{ℕ}
-use mathlib.Core.Path.{_≡_}
-use mathlib.Core.List.{List}
-use native.Mathlib.Omega.{arith}
-use lib.Dec.{ltb, leb}
-use borrow.Author.Tests.{lt-ltb, le-ltb, eq-eqb, ne-eqb, le-leb, lt-leb}
-use Rattle.spec.specs.Expr.{if_then_else_, none, first, without}
-use Rattle.spec.specs.Plan.{Arguments, refuse, leave}
-use Rattle.rules.specs.Settings.{ArgumentsOf}
-use Rattle.rules.specs.Planned.{passing, refuses, repeats}
-use Rattle.rules.proofs.Passing.{values-of, passing-rule, passed-at, passed-end}
+use mathlib.Core.Path.{refl}
+use mathlib.Core.Bool.{true, false}
+use borrow.Author.Tests.{lt-ltb, le-ltb, le-leb, lt-leb, eq-eqb, ne-eqb}
+use Rattle.rules.proofs.Passing.{passing-planned}
 use Rattle.rules.proofs.plan.arguments.Statement.{statement}
 use Rattle.rules.proofs.plan.arguments.Tie as tie
 
+returns : tie.Need-returns
+returns c s t w floor top v sc e xs a = let i = c .before .args in passing-planned _ _ (i .n) a (i .rest) _ true _ _ _ refl (le-leb 64 _ (c .if1 .taken)) refl refl refl
+
 returns-2 : tie.Need-returns-2
 returns-2 c s t w floor top v sc e xs a =
-    let i = c .before .before .before .args in
-    rw (lt-leb 64 (i .n) (omega arith), passing-rule a (i .rest) (i .n), eq-eqb (i .frame .depth) 0 (c .if2 .taken)) (refuses 15)
-
--- in code, with a small n
-ruled : (c : tie.Else2) {w : List ℕ} {top : ℕ} {xs : Arguments} → let i = c .before .before .before .args in
-    ArgumentsOf w (i .args .now) (i .frame) top xs → (if leb 64 (i .n) then refuse 11 else passing (i .rest) (i .n) xs) ≡
-    (if ltb (i .n) (i .frame .count) then leave (if i .rest then without (i .n) (values-of xs) else first 1 (without (i .n) (values-of xs))) else
-    if ltb (i .frame .count) (i .n) then refuse 15 else
-    if i .rest then leave none else refuse 15)
-ruled c a =
-    let i = c .before .before .before .args in
-    rw (lt-leb 64 (i .n) (omega arith), passing-rule a (i .rest) (i .n), ne-eqb (i .frame .depth) 0 (c .if2 .left))
+    let k = c .before .before in
+    let i = k .before .args in
+    passing-planned _ _ (i .n) a (i .rest) _ false true _ _ refl (lt-leb 64 _ (k .if1 .left)) (eq-eqb _ 0 (c .if2 .taken)) refl refl
 
 returns-3 : tie.Need-returns-3
 returns-3 c s t w floor top v sc e xs a =
     let k = c .before .before .before .before .before in
     let i = k .before .before .before .args in
-    rw (ruled k a, lt-ltb (i .n) (i .frame .count) (omega arith), c .if4 .taken, c .before .packed-from .ensures)
-    (repeats _ _ _ (passed-at a (k .if2 .left) (i .n) (omega arith) (omega arith) .all))
+    rw (c .before .packed-from .ensures)
+    (passing-planned _ _ (i .n) a (i .rest) true false false true _ (c .if4 .taken) (lt-leb 64 _ (k .before .before .if1 .left)) (ne-eqb _ 0 (k .if2 .left))
+    (lt-ltb _ _ (c .before .before .before .if3 .taken)) refl)
 
 returns-4 : tie.Need-returns-4
 returns-4 c s t w floor top v sc e xs a =
     let k = c .before .before .before .before .before .before in
     let i = k .before .before .before .args in
-    rw (ruled k a, lt-ltb (i .n) (i .frame .count) (omega arith), c .before .if4 .left, c .before .before .packed-from .ensures, c .packed-to .ensures)
-    (repeats _ _ _ (passed-at a (k .if2 .left) (i .n) (omega arith) (omega arith) .own))
+    rw (c .before .before .packed-from .ensures, c .packed-to .ensures)
+    (passing-planned _ _ (i .n) a (i .rest) false false false true _ (c .before .if4 .left) (lt-leb 64 _ (k .before .before .if1 .left)) (ne-eqb _ 0 (k .if2 .left))
+    (lt-ltb _ _ (c .before .before .before .before .if3 .taken)) refl)
 
 returns-5 : tie.Need-returns-5
 returns-5 c s t w floor top v sc e xs a =
     let k = c .before .before .before .before in
     let i = k .before .before .before .args in
-    rw (ruled k a, le-ltb (i .n) (i .frame .count) (omega arith), lt-ltb (i .frame .count) (i .n) (omega arith)) (refuses 15)
+    passing-planned _ _ (i .n) a (i .rest) _ false false false true refl (lt-leb 64 _ (k .before .before .if1 .left)) (ne-eqb _ 0 (k .if2 .left))
+    (le-ltb _ _ (c .before .before .if3 .left)) (lt-ltb _ _ (c .if5 .taken))
 
 returns-6 : tie.Need-returns-6
 returns-6 c s t w floor top v sc e xs a =
     let k = c .before .before .before .before .before in
     let i = k .before .before .before .args in
-    rw (ruled k a, le-ltb (i .n) (i .frame .count) (omega arith), le-ltb (i .frame .count) (i .n) (omega arith), c .if6 .taken)
-    (repeats _ _ _ (passed-end a (k .if2 .left)))
+    passing-planned _ _ (i .n) a (i .rest) true false false false false (c .if6 .taken) (lt-leb 64 _ (k .before .before .if1 .left)) (ne-eqb _ 0 (k .if2 .left))
+    (le-ltb _ _ (c .before .before .before .if3 .left)) (le-ltb _ _ (c .before .if5 .left))
 
 returns-7 : tie.Need-returns-7
 returns-7 c s t w floor top v sc e xs a =
     let k = c .before .before .before .before .before in
     let i = k .before .before .before .args in
-    rw (ruled k a, le-ltb (i .n) (i .frame .count) (omega arith), le-ltb (i .frame .count) (i .n) (omega arith), c .if6 .left) (refuses 15)
+    passing-planned _ _ (i .n) a (i .rest) false false false false false (c .if6 .left) (lt-leb 64 _ (k .before .before .if1 .left)) (ne-eqb _ 0 (k .if2 .left))
+    (le-ltb _ _ (c .before .before .before .if3 .left)) (le-ltb _ _ (c .before .if5 .left))
 
 pub arguments-spec : {M : Type 1} → statement M
 arguments-spec =
     tie.close
     (tie.spec
-    (λ c s t w floor top v sc e xs a. rw (le-leb 64 (c .before .args .n) (c .if1 .taken)) (refuses 11))
+    returns
     returns-2
     (λ c. search needs)
     (λ c. search needs)

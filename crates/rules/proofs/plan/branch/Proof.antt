@@ -1,11 +1,11 @@
 -- `rules::plan::branch` meets its contract: the rule is that of the head's word. Assumes nothing.
 use borrow.Author.Needs.{needs}
 use mathlib.Core.Path.{_≡_, sym, ap, _∙_}
-use Rattle.spec.specs.Nodes.{Word, Nodes, head-word}
+use Rattle.spec.specs.Nodes.{Nodes, head-word}
 use Rattle.spec.specs.Plan.{plan-arg, plan-rest, plan-form}
 use Rattle.rows.specs.Rows.{NodesAt}
 use Rattle.rows.specs.Forms.{meant, SomeNodes}
-use Rattle.rows.specs.declared.words.Word.{Word as Coded}
+use Rattle.rows.specs.declared.words.Word.{Word}
 use Rattle.rows.proofs.Parts.{node-elements}
 use Rattle.rules.specs.Planned.{refuses}
 use Rattle.rules.proofs.plan.branch.Statement.{statement}
@@ -15,33 +15,15 @@ some-nodes : (c : tie.Start) → SomeNodes (c .args .s .now) (c .args .table .no
 some-nodes c = record { nodes = _; at = node-elements (c .pre .is) }
 
 -- the head's word
-headed : (c : tie.After-word) (w : Coded) → c .word .result ≡ w → let a = c .before .before .before .args in
+headed : (c : tie.After-word) (w : Word) → c .word .result ≡ w → let a = c .before .before .before .args in
     (es : Nodes) → NodesAt (a .s .now) (a .table .now) (a .form .first) (a .form .end) es → head-word es ≡ meant w
 headed c w is es at = sym (c .word .ensures es at) ∙ ap meant is
-
-returns : tie.Need-returns
-unfolding plan-form
-returns c es at w st h set =
-    let k = c .before .before .before in
-    rw (headed (k .before .before) _ (k .enum-told7 .given .1) es at) (c .named .ensures _ _ es at w st h set)
 
 returns-2 : tie.Need-returns-2
 unfolding plan-form
 returns-2 c es at w st h set =
     let is = headed (c .before .before .before) _ (c .before .enum-told .given .1) es at in
     rw is (c .ns .ensures _ _ es at is w st h set)
-
-returns-3 : tie.Need-returns-3
-unfolding plan-form
-returns-3 c es at w st h set = rw (headed (c .before .before .before) _ (c .before .enum-told2 .given .1) es at) (c .define .ensures _ _ es at w st h set)
-
-returns-4 : tie.Need-returns-4
-unfolding plan-form
-returns-4 c es at w st h set = rw (headed (c .before .before) _ (c .enum-told3 .given .1) es at) (refuses 12)
-
-returns-5 : tie.Need-returns-5
-unfolding plan-form
-returns-5 c es at w st h set = rw (headed (c .before .before .before) _ (c .before .enum-told4 .given .1) es at) (c .concat .ensures _ _ _ es at w st h set)
 
 returns-6 : tie.Need-returns-6
 unfolding plan-form
@@ -54,12 +36,6 @@ unfolding plan-form
 returns-7 c es at w st h set =
     rw (headed (c .before .before .before .before) _ (c .before .before .enum-told6 .given .1) es at, c .before .number2 .ensures es (λ n. plan-rest n (h .arguments)) at)
     (c .arguments2 .ensures _ _ w _ _ _ _ _ _ (set .arguments))
-
-returns-8 : tie.Need-returns-8
-unfolding plan-form
-returns-8 c es at w st h set =
-    let k = c .before .before .before in
-    rw (headed (k .before .before) _ (k .enum-told7 .given .1) es at) (c .unnamed .ensures _ _ _ es at w st h set)
 
 pub branch-spec : {M : Type 1} → statement M
 branch-spec =
@@ -82,12 +58,12 @@ branch-spec =
     (λ c. search needs)
     (λ c κs. (_, _, some-nodes (c .before .before .before .before .before) .at))
     (λ c κs. ((_, _, c .before .before .before .before .before .before .before .pre), λ es at. sym (c .before .is-named .ensures _ es at) ∙ c .if1 .taken))
-    returns
+    (λ c es at. let k = c .before .before .before in unfold plan-form in rw (headed (k .before .before) _ (k .enum-told7 .given .1) es at) (c .named .ensures _ _ es at))
     (λ c κs. (some-nodes (c .before .before .before .before .before .before .before), λ es at. sym (c .before .is-named .ensures _ es at) ∙ c .if1 .left))
     returns-2
-    returns-3
-    returns-4
-    returns-5
+    (λ c es at. unfold plan-form in rw (headed (c .before .before .before) _ (c .before .enum-told2 .given .1) es at) (c .define .ensures _ _ es at))
+    (λ c es at w st h set. unfold plan-form in rw (headed (c .before .before) _ (c .enum-told3 .given .1) es at) (refuses 12))
+    (λ c es at. unfold plan-form in rw (headed (c .before .before .before) _ (c .before .enum-told4 .given .1) es at) (c .concat .ensures _ _ _ es at))
     returns-6
     returns-7
-    returns-8)
+    (λ c es at. let k = c .before .before .before in unfold plan-form in rw (headed (k .before .before) _ (k .enum-told7 .given .1) es at) (c .unnamed .ensures _ _ _ es at)))

@@ -1,11 +1,12 @@
 -- `rules::plan::concat` meets its contract. Assumes nothing.
 use borrow.Author.Needs.{needs}
-use mathlib.Core.Path.{_≡_, sym, ap, _∙_}
-use Rattle.spec.specs.Nodes.{Word, rest, is, Node, Nodes, headed-by}
+use mathlib.Core.Path.{_≡_, sym, _∙_}
+use Rattle.spec.specs.Nodes.{rest, Node, Nodes, headed-by}
 use Rattle.laws.proofs.Basics.{impossible}
 use Rattle.rows.specs.Rows.{NodeAt, NodesAt}
 use Rattle.rows.proofs.Parts.{TwoAt, two-at}
 use Rattle.rules.specs.Planned.{refuses}
+use Rattle.rules.proofs.Expecting.{headed}
 use Rattle.rules.proofs.Joining.{concat-refused, concat-planned}
 use Rattle.rules.proofs.plan.concat.Statement.{statement}
 use Rattle.rules.proofs.plan.concat.Tie as tie
@@ -18,29 +19,29 @@ two c es at = two-at _ _ _ _ es _ at (c .before .before .parts .ensures _ es at)
 
 -- whether one of them is a `rest` form, and whether the other is
 first : (c : tie.After-is-rest) → let o = c .before .before in let a = o .before .before .before .before .before .args in
-    (e : Node) → NodeAt (a .s .now) (a .table .now) (o .before .before .parts .result .second) e → c .is-rest .result ≡ headed-by rest e
-first c e at = c .is-rest .ensures ∙ ap (λ (x : Word). is x rest) (c .before .word-at .ensures e at)
+    (e : Node) → NodeAt (a .s .now) (a .table .now) (o .before .before .parts .result .second) e → headed-by rest e ≡ c .is-rest .result
+first c e at = headed (c .before .word-at .result) rest e (c .is-rest .ensures) (c .before .word-at .ensures e at)
 
 second : (c : tie.After-is-rest2) → let o = c .before .before .before .before .before in let a = o .before .before .before .before .before .args in
-    (e : Node) → NodeAt (a .s .now) (a .table .now) (o .before .before .parts .result .third) e → c .is-rest2 .result ≡ headed-by rest e
-second c e at = c .is-rest2 .ensures ∙ ap (λ (x : Word). is x rest) (c .before .word-at2 .ensures e at)
+    (e : Node) → NodeAt (a .s .now) (a .table .now) (o .before .before .parts .result .third) e → headed-by rest e ≡ c .is-rest2 .result
+second c e at = headed (c .before .word-at2 .result) rest e (c .is-rest2 .ensures) (c .before .word-at2 .ensures e at)
 
 returns-2 : tie.Need-returns-2
 returns-2 c args v here es at w st h set =
     rw (concat-refused _ _ _ _ es _ at (c .before .before .before .before .before .parts .ensures _ es at)
-    (λ n a b l k f g. let z = sym (c .if2 .taken) ∙ first (c .before) a l ∙ f in impossible (cc))) (refuses 11)
+    (λ n a b l k f g. let z = sym f ∙ first (c .before) a l ∙ c .if2 .taken in impossible (cc))) (refuses 11)
 
 returns-3 : tie.Need-returns-3
 returns-3 c args v here es at w st h set =
     rw (concat-refused _ _ _ _ es _ at (c .before .before .before .before .before .before .before .before .parts .ensures _ es at)
-    (λ n a b l k f g. let z = sym (c .if3 .taken) ∙ second (c .before) b k ∙ g in impossible (cc))) (refuses 11)
+    (λ n a b l k f g. let z = sym g ∙ second (c .before) b k ∙ c .if3 .taken in impossible (cc))) (refuses 11)
 
 returns-4 : tie.Need-returns-4
 returns-4 c args v here es at w st h set =
     let k = c .before .before in
     let g = two (k .before .before .before .before .before .before) es at in
     rw (c .make .ensures, c .before .starting-at .ensures)
-    (concat-planned g (sym (first (k .before .before .before .before) (g .first) (g .one)) ∙ k .before .before .before .if2 .left) (sym (second (k .before) (g .second) (g .two)) ∙ k .if3 .left))
+    (concat-planned g (first (k .before .before .before .before) (g .first) (g .one) ∙ k .before .before .before .if2 .left) (second (k .before) (g .second) (g .two) ∙ k .if3 .left))
 
 pub concat-spec : {M : Type 1} → statement M
 concat-spec =

@@ -1,12 +1,12 @@
 -- `rules::plan::named` meets its contract. Assumes nothing.
 use borrow.Author.Needs.{needs}
 use Prim.Native.Nat.{ℕ}
-use mathlib.Core.Path.{refl, sym, _∙_}
+use mathlib.Core.Path.{refl, sym}
 use mathlib.Core.List.{List}
 use mathlib.Core.Logic.{⊎-elim}
 use native.Mathlib.Omega.{arith}
 use Rattle.spec.specs.Expr.{ref}
-use Rattle.spec.specs.Nodes.{leaf, Nodes, elements}
+use Rattle.spec.specs.Nodes.{Nodes, elements}
 use Rattle.spec.specs.Plan.{Scope as Definitions, look-up}
 use Rattle.laws.proofs.Fits.{Fits}
 use Rattle.laws.proofs.Steps.{all-bytes}

@@ -1,5 +1,4 @@
 -- `rules::plan::namespace` meets its contract. Assumes nothing.
-use borrow.Author.Needs.{needs}
 use Prim.Native.Nat.{ℕ, _-_, _/_, _≤_}
 use mathlib.Core.Path.{_≡_, refl, sym, _∙_}
 use mathlib.Core.List.{List}
@@ -9,20 +8,19 @@ use lib.ListN.{length}
 use lib.Seq.{slice}
 use lib.Dec.{leb}
 use borrow.Author.Tests.{le-leb, lt-leb}
-use Rattle.spec.specs.Expr.{if_then_else_, array, form, only}
-use Rattle.spec.specs.Nodes.{Nodes, unnumbered-all, elements}
-use Rattle.spec.specs.Plan.{Within, Here, refuse, associate, plan-ns}
+use Rattle.spec.specs.Expr.{if_then_else_, array}
+use Rattle.spec.specs.Nodes.{ns, branch, Nodes, elements, head-word}
+use Rattle.spec.specs.Plan.{plan-ns}
 use Rattle.laws.proofs.Steps.{all-bytes}
 use Rattle.rows.specs.Rows.{LeafAt, NodesAt}
 use Rattle.rows.specs.declared.forms.Parts.{Parts}
-use Rattle.rows.proofs.Nodes.{leaf-fits, node-whole}
-use Rattle.rows.proofs.Keys.{key-marker}
+use Rattle.rows.proofs.Nodes.{node-whole}
 use Rattle.rows.proofs.Parts.{node-elements, TwoAt, two-at}
-use Rattle.rules.specs.Scope.{latest}
-use Rattle.rules.specs.Associations.{Linked}
-use Rattle.rules.specs.Planned.{refuses, associates}
-use Rattle.rules.proofs.Latest.{latest-length}
-use Rattle.rules.proofs.Associating.{TopAt, top-at, NsAt, ns-at, ns-refuses, array-part, ns-rule, ns-association, linked-count, some-linked, some-earlier, ns-atoms}
+use Rattle.rules.specs.Entries.{stream, id}
+use Rattle.rules.specs.Scope.{view}
+use Rattle.rules.specs.Planned.{Answers}
+use Rattle.rules.specs.declared.plan.Task.the-variants.{Refuse, Ns}
+use Rattle.rules.proofs.Associating.{NsAt, ns-at, ns-refuses, array-part, some-linked, some-earlier, ns-answers}
 use Rattle.rules.proofs.plan.namespace.Statement.{statement}
 use Rattle.rules.proofs.plan.namespace.Tie as tie
 
@@ -73,72 +71,32 @@ returns-5 c definitions args es at led =
     let k = c .before .before .before .before in
     ns-refuses _ _ _ _ es _ at (k .before .before .before .before .before .before .parts .ensures _ es at) (start k .pre .0) (λ n r bs l low high. omega (arith, part (c .before .before) bs l))
 
--- whether they clash with what is known
-module _ (c : tie.After-clash) where
-  abbrev o : tie.Else3
-  o = c .before .before .before .before .before .before
-
-  abbrev size : tie.After-body
-  size = c .before .before .before .before
-
-  marker : {es : Nodes} (g : NsAt (s o) (t o) (p o) es) → c .before .key .result / 256 ≡ g .marker
-  marker g =
-      let bytes = all-bytes (s o) (λ i. o .before .before .before .before .before .before .before .before .shared-slice-known .given i .fits) in
-      rw (c .before .key .ensures (g .marker) (g .name) (g .reference)) (key-marker (g .marker) (g .name) (leaf-fits bytes (g .reference) .2))
-
-  allowed : {es : Nodes} (g : NsAt (s o) (t o) (p o) es) → (1 ≤ length (g .id)) × (length (g .id) ≤ 64)
-  allowed g = let is = part size (g .id) (g .array-there) .1 in (omega arith, omega arith)
-
-  rule : {es : Nodes} {q : Within} (g : NsAt (s o) (t o) (p o) es) (top : TopAt (s o) (t o) (start o .args .form .row) q) (h : Here) (b : Bool)
-      → Linked (s o) (latest (start o .args .associations .now) (start o .args .here .scope .associated)) (h .namespaces)
-      → b ≡ c .clash .result → plan-ns q es h ≡
-      (if b then refuse 14 else
-      if leb 64 (length (h .namespaces)) then refuse 19 else
-      associate (only (form (unnumbered-all es))) (record { marker = g .marker; id = g .id }))
-  rule g top h b linked e =
-      rw (
-        e,
-        top .is,
-        ns-rule g (allowed g .0) (allowed g .1) (top .earlier) h,
-        c .clash .ensures (h .namespaces) (top .before) (top .earlier) linked (top .at) (top .same-markers (c .before .key .result / 256)),
-        marker g,
-        part size (g .id) (g .array-there) .2,
-      )
-
 clash-requires : tie.Need-clash-requires
 clash-requires c κs =
-    let k = c .before .before .before in
+    let k = c .before .before .before .before in
     let pre = start (k .before .before) .pre in
-    let g = some-right (k .before .before) in
-    (some-linked _ _ (pre .1 .2), (some-earlier (pre .1 .2) (pre .0), (part k (g .id) (g .array-there) .0, omega (arith, k .before .end .ensures, g .array-there .row .ends))))
+    let l = some-right (k .before .before) .array-there in
+    (some-linked _ _ (pre .1 .2), (some-earlier (pre .1 .2) (pre .0), (part k _ l .0, omega (arith, k .before .end .ensures, l .row .ends))))
 
-returns-7 : tie.Need-returns-7
-returns-7 c definitions args es at led w st h set =
-    let k = c .before .before .before in
-    let g = right (o k) es at in
-    let count = linked-count _ _ _ (h .namespaces) (set .sees .associations) in
-    rw (rule k g (top-at (set .element-of) (start (o k) .pre .0)) h false (set .sees .associations) (sym (c .before .before .if6 .left)), le-leb 64 (length (h .namespaces)) (omega arith)) (refuses 19)
+-- what is answered for whether they clash with what is known, and whether no more can be
+answered : (c : tie.After-clash) (clashing full : Bool) → c .clash .result ≡ clashing → let k = c .before .before .before .before .before in
+    let i = start (k .before .before) .args in
+    leb 64 (i .here .scope .associated) ≡ full → (definitions args : List ℕ) (es : Nodes) → NodesAt (i .s .now) (i .table .now) (i .form .first) (i .form .end) es → head-word es ≡ ns
+    → Answers (i .s .now) (i .table .now) args (view (i .associations .now) definitions (i .here .scope)) (i .here) (branch (i .form .row) es) (λ h. plan-ns (h .within) es h)
+    (if clashing then Refuse 14 else if full then Refuse 19 else Ns (i .form) (c .before .before .key .result / 256) (id stream (k .body .result) (k .before .end .result - k .body .result)))
+answered c clashing full is counted definitions args es at led =
+    let k = c .before .before .before .before .before in
+    let o = k .before .before in
+    let g = right o es at in
+    let bytes = all-bytes (s o) (λ i. o .before .before .before .before .before .before .before .before .shared-slice-known .given i .fits) in
+    ns-answers g bytes _ _ _ (c .before .before .key .ensures _ _ (g .reference)) (k .body .ensures _ (g .array-there)) (k .before .end .ensures) (omega arith) (omega arith) _ _ definitions _ (start o .pre .0) at led
+    clashing full (λ ks fs earlier l e m. sym (c .clash .ensures ks fs earlier l e m) ∙ is) counted
 
 id-requires : tie.Need-id-requires
 id-requires c κs =
-    let k = c .before .before .before .before .before .before .before in
+    let k = c .before .before .before .before .before .before .before .before in
     let l = some-right (k .before .before) .array-there in
     (omega arith, omega (arith, k .before .end .ensures, l .row .ends, l .row .short), omega arith, omega arith)
-
-returns-8 : tie.Need-returns-8
-returns-8 c definitions args es at led w st h set =
-    let k = c .before .before .before .before in
-    let g = right (o k) es at in
-    let long = part (size k) (g .id) (g .array-there) .1 in
-    let count = linked-count _ _ _ (h .namespaces) (set .sees .associations) in
-    rw (
-      rule k g (top-at (set .element-of) (start (o k) .pre .0)) h false (set .sees .associations) (sym (c .before .before .before .if6 .left)),
-      lt-leb 64 (length (h .namespaces)) (omega arith),
-      marker k g,
-      c .id .ensures,
-      long,
-    )
-    (associates _ es _ _ _ refl at (ns-atoms g led) (ns-association g (allowed k g .0) (allowed k g .1) _ (size k .body .ensures (g .id) (g .array-there))) (omega (arith, latest-length (start (o k) .args .associations .now) (start (o k) .args .here .scope .associated))))
 
 pub namespace-spec : {M : Type 1} → statement M
 namespace-spec =
@@ -160,9 +118,8 @@ namespace-spec =
     returns-5
     (λ c κs. let g = some-right (c .before .before .before .before) in (g .marker, g .name, g .reference))
     clash-requires
-    (λ c definitions args es at led w st h set.
-    let k = c .before in
-    rw (rule k (right (o k) es at) (top-at (set .element-of) (start (o k) .pre .0)) h true (set .sees .associations) (sym (c .if6 .taken))) (refuses 14))
-    returns-7
+    (λ c. answered (c .before) true _ (c .if6 .taken) refl)
+    (λ c. answered (c .before .before .before) false true (c .before .before .if6 .left) (le-leb 64 _ (c .if7 .taken)))
     id-requires
-    returns-8)
+    (λ c definitions args es at led.
+    rw (c .id .ensures) (answered (c .before .before .before .before) false false (c .before .before .before .if6 .left) (lt-leb 64 _ (c .before .if7 .left)) definitions args es at led)))

@@ -1,12 +1,13 @@
 -- `rules::plan::number` meets its contract. Assumes nothing.
-use borrow.Author.Needs.{needs}
 use mathlib.Core.Path.{sym, _∙_}
+use native.Mathlib.Omega.{arith}
 use borrow.Author.Tests.{lt-leb}
+use Rattle.spec.specs.Expr.{int}
 use Rattle.spec.specs.Nodes.{Nodes}
 use Rattle.rows.specs.Rows.{NodesAt}
-use Rattle.rows.proofs.Nodes.{node-whole}
+use Rattle.rows.proofs.Nodes.{kind-int, node-whole}
 use Rattle.rows.proofs.Parts.{OneAt, one-at}
-use Rattle.rules.proofs.Expecting.{int-at}
+use Rattle.rules.proofs.Expecting.{of-kind}
 use Rattle.rules.proofs.Passing.{number-refused}
 use Rattle.rules.proofs.plan.number.Statement.{statement}
 use Rattle.rules.proofs.plan.number.Tie as tie
@@ -20,13 +21,13 @@ small-requires : tie.Need-small-requires
 small-requires c κs =
     let o = c .before .before in
     let pre = o .before .before .before .before .before .pre in
-    let i = int-at _ _ _ _ (one o (pre .nodes) (pre .at) .at) (sym (c .before .kind .ensures) ∙ c .if2 .left) in
+    let i = of-kind _ _ _ 3 int kind-int (λ z. omega arith) _ (one o (pre .nodes) (pre .at) .at) (sym (c .before .kind .ensures) ∙ c .if2 .left) in
     (i .0, i .2)
 
 returns-3 : tie.Need-returns-3
 returns-3 c es rule at =
     let g = one (c .before .before .before) es at in
-    let i = int-at _ _ _ _ (g .at) (sym (c .before .before .kind .ensures) ∙ c .before .if2 .left) in
+    let i = of-kind _ _ _ 3 int kind-int (λ z. omega arith) _ (g .at) (sym (c .before .before .kind .ensures) ∙ c .before .if2 .left) in
     rw (g .is, i .1, c .small .ensures (i .0) (i .2), lt-leb 64 (i .0) (i .2 .spells .0))
 
 pub number-spec : {M : Type 1} → statement M
