@@ -8,7 +8,7 @@ use lib.ListN.{length, take, drop, length-append, length-take}
 use lib.Seq.{take-append-le}
 use lib.Dec.{eqb}
 use native.Mathlib.Omega.{arith}
-use Rattle.spec.specs.Expr.{same, nil, array, int, ref, if-ref, Expr, atom, form, Exprs, none, more, rows, rows-all, canonical}
+use Rattle.spec.specs.Expr.{same, nil, array, int, ref, Expr, atom, form, Exprs, none, more, if-ref, rows, rows-all, canonical}
 use Rattle.spec.specs.Reading.{Row, row-width, readable}
 use Rattle.spec.specs.Nodes.{core, version, Node, leaf, branch, Nodes, empty, cons, number, number-all, elements, markers-all}
 use Rattle.spec.specs.Runs.{End, stopped, give, Held, reached, ceased, hold-events, hold, forget, cut, steps-in}
@@ -17,7 +17,7 @@ use Rattle.spec.specs.Calls.{filled, reading, is-versioned, version-bytes, end-
 use Rattle.laws.specs.Demands.{Bytes, Lent}
 use Rattle.laws.specs.Holding.{and-hold, in-list}
 use Rattle.laws.proofs.Basics.{impossible}
-use Rattle.laws.proofs.Reading.{Meant, read-readable, read-meant}
+use Rattle.laws.proofs.Reading.{read-readable, Meant, read-meant}
 use Rattle.laws.proofs.Values.{number-all-fits, run-proper}
 use Rattle.laws.proofs.Holding.{hold-bind, hold-reached, hold-ceased-row, hold-run}
 use Rattle.laws.proofs.Calls.{unversioned, wrong-version, runs, evaluation-answered, cut-refused, not-accepted}
@@ -26,7 +26,7 @@ use Rattle.rows.specs.Forms.{IsNode, is-leaf, is-branch, led-by-reference}
 use Rattle.rows.specs.declared.forms.Node.{Node as Ranged}
 use Rattle.rows.specs.declared.forms.Node.the-variants.{Leaf}
 use Rattle.rows.proofs.Nodes.{leaf-fits, nodes-first}
-use Rattle.rows.proofs.Filled.{filled-nodes, filled-starts}
+use Rattle.rows.proofs.Filled.{filled-starts, filled-nodes}
 use Rattle.rows.proofs.Keys.{key-test}
 use Rattle.rows.proofs.Parts.{LedAt}
 use Rattle.workspace.specs.declared.values.State.{State}

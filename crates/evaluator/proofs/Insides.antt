@@ -15,12 +15,12 @@ use Rattle.laws.proofs.Singles.{SingleScope, call-single, in-list-single, in-li
 use Rattle.laws.proofs.Values.{FitsNodes, elements-fit, call-sound, in-list-left}
 use Rattle.laws.proofs.Holding.{hold-reached, hold-inside}
 use Rattle.rows.specs.declared.forms.Form.{Form}
-use Rattle.workspace.specs.Completed.{Untouched, with-top}
+use Rattle.workspace.specs.Completed.{with-top, Untouched}
 use Rattle.workspace.specs.declared.values.State.{State}
 use Rattle.workspace.proofs.Areas.{untouched-then}
 use Rattle.rules.specs.Scope.{View}
 use Rattle.rules.specs.Settings.{in-list-of, showing, Sees, ElementOf, of-data, of-other}
-use Rattle.rules.specs.Planned.{one-more, two-more, within-of, Finishes, form-finishes, define-finishes, concat-finishes, call-finishes}
+use Rattle.rules.specs.Planned.{within-of, one-more, two-more, Finishes, form-finishes, define-finishes, concat-finishes, call-finishes}
 use Rattle.rules.specs.declared.scope.Scope.{Scope}
 use Rattle.rules.specs.declared.here.Within.{Within as Kind}
 use Rattle.rules.specs.declared.here.Here.{Here as Seen}
@@ -43,18 +43,12 @@ fits-skip bound (suc k) empty f = f
 fits-skip bound (suc k) (cons e es) f = fits-skip bound k es (f .1)
 
 -- what list it is
-module _ {s t w : List ℕ} {floor : ℕ} {v : View} {sc : Scope} {es : Nodes} where
-  inside-element : {after : After} {k : ℕ} {p : Within} {f : Finish} (row : ℕ) → Finishes s t w floor v sc es after k p f → ElementOf s t row (within-of after) p
-  inside-element row form-finishes = of-data
-  inside-element row (define-finishes m n fits few more) = of-other
-  inside-element row (concat-finishes more) = of-other
-  inside-element row (call-finishes c body behind called) = of-other
-
-  inside-not-top : {after : After} {k : ℕ} {p : Within} {f : Finish} → Finishes s t w floor v sc es after k p f → NotTop p
-  inside-not-top form-finishes = tt
-  inside-not-top (define-finishes m n fits few more) = tt
-  inside-not-top (concat-finishes more) = tt
-  inside-not-top (call-finishes c body behind called) = tt
+inside-list : {s t w : List ℕ} {floor : ℕ} {v : View} {sc : Scope} {es : Nodes} {after : After} {k : ℕ} {p : Within} {f : Finish} (row : ℕ)
+    → Finishes s t w floor v sc es after k p f → ElementOf s t row (within-of after) p × NotTop p
+inside-list row form-finishes = (of-data, tt)
+inside-list row (define-finishes m n fits few more) = (of-other, tt)
+inside-list row (concat-finishes more) = (of-other, tt)
+inside-list row (call-finishes c body behind called) = (of-other, tt)
 
 -- its values are as many as the rule made sure of
 finishable : {s t w : List ℕ} {floor : ℕ} {v : View} {sc : Scope} {es : Nodes} {after : After} {k : ℕ} {p : Within} {f : Finish} (codes : ℕ) (h : Here) (left : Left)
@@ -75,10 +69,6 @@ steps-of (Stopped n r) = 0
 
 -- its values are to be finished; `see` is what a scope shows
 module _ {s t w : List ℕ} (see : Scope → View) {st : State} {at : Seen} {opened : Open} {sc : Scope} (ended : SomeEnding s t w (see (at .scope)) st at opened × (sc ≡ at .scope)) where
-  -- what is visible then is what was
-  pub ended-view : (see′ : Scope → View) → see′ sc ≡ see sc → see′ (at .scope) ≡ see (at .scope)
-  ended-view see′ kept = rw (ended .1) at kept
-
   module _ {m : Making} (e : opened .after ≡ Make m) where
     pub can-make : SomeFinishing w sc st m (opened .start)
     can-make =
@@ -170,7 +160,7 @@ module _ {s t : List ℕ} {bound codes : ℕ} {args : List ℕ} {end : ℕ} {w�
     held-is =
         eval-step (run-code codes) (g .here) head (st .steps) (st .room) (i .some-steps)
         ∙ rw (i .plan-is, i .state, row-next g on)
-        (hold-inside (run-code codes) (i .within) (inside-not-top (i .finishes)) (i .skipped) (elements head) (g .here)
+        (hold-inside (run-code codes) (i .within) (inside-list row (i .finishes) .1) (i .skipped) (elements head) (g .here)
         (finish (run-code codes) row (g .here) (i .finish)) (st .steps - 1) (st .room))
 
     -- it was evaluated, and its values are to be finished
@@ -235,7 +225,7 @@ module _ {s t : List ℕ} {bound codes : ℕ} {args : List ℕ} {end : ℕ} {w�
           let set = r .setting in
           rw (e′, same, e, i .same, i .state) (record {
             nodes = i .nodes;
-            setting = record { sees = sees-in (i .within) (set .sees); arguments = set .arguments; element-of = inside-element (f .first) (i .finishes) };
+            setting = record { sees = sees-in (i .within) (set .sees); arguments = set .arguments; element-of = inside-list (f .first) (i .finishes) .0 };
             fitting = record { paid = r .fitting .paid; below = r .fitting .below; short = r .fitting .short };
             fit = fits-inside;
             sound = r .sound;

@@ -22,7 +22,7 @@ use Rattle.rows.specs.Forms.{IsNode}
 use Rattle.rows.specs.declared.forms.Node.{Node as Ranged}
 use Rattle.rows.proofs.Nodes.{MoreAt, append-nodes, markers-append, nodes-done, nodes-more, nodes-append, node-row, node-next-in}
 use Rattle.rows.proofs.Slices.{slice-split}
-use Rattle.workspace.specs.Completed.{Stand, Untouched, with-floor}
+use Rattle.workspace.specs.Completed.{Stand, with-floor, Untouched}
 use Rattle.workspace.specs.declared.values.State.{State}
 use Rattle.workspace.proofs.Areas.{stand-none, untouched-none, untouched-less, untouched-then, stand-below}
 use Rattle.rules.specs.Scope.{View}

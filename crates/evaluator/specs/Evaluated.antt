@@ -7,7 +7,7 @@ use Rattle.spec.specs.Expr.{Exprs, canonical}
 use Rattle.spec.specs.Reading.{Row, readable}
 use Rattle.spec.specs.Runs.{done, stopped, cut, steps-in}
 use Rattle.spec.specs.Evaluation.{run, result}
-use Rattle.spec.specs.Calls.{Evaluate, filled, reading, refusal, put-out}
+use Rattle.spec.specs.Calls.{refusal, filled, put-out, reading, Evaluate}
 use Rattle.workspace.specs.declared.values.State.{State}
 use Rattle.evaluator.specs.declared.element.Left.{Left}
 use Rattle.evaluator.specs.declared.element.Left.the-variants.{Done, Refused as Stopped}

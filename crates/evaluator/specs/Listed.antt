@@ -16,7 +16,7 @@ use Rattle.rows.specs.Rows.{NodesAt, row-of, key-of}
 use Rattle.rows.specs.Forms.{IsNode}
 use Rattle.rows.specs.declared.forms.Form.{Form}
 use Rattle.rows.specs.declared.forms.Node.{Node as Ranged}
-use Rattle.workspace.specs.Completed.{Fitting, Stand, Untouched, with-top, stepped}
+use Rattle.workspace.specs.Completed.{Fitting, Stand, with-top, stepped, Untouched}
 use Rattle.workspace.specs.declared.values.State.{State}
 use Rattle.workspace.specs.declared.values.Out.{Out}
 use Rattle.workspace.specs.declared.values.Out.the-variants.{Done, Refused}

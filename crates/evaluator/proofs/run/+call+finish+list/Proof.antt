@@ -19,14 +19,14 @@ use Rattle.rules.specs.declared.scope.Scope.{Scope}
 use Rattle.rules.specs.declared.here.Here.{Here as Seen}
 use Rattle.workspace.specs.declared.values.State.{State}
 use Rattle.rules.proofs.Latest.{latest-length, latest-fewer, view-under}
-use Rattle.evaluator.specs.Listed.{Ready, SomeReady, Met, LeftBy, Extends, Begun, Calling, CanEnd}
+use Rattle.evaluator.specs.Listed.{Ready, SomeReady, Met, Extends, LeftBy, Begun, Calling, CanEnd}
 use Rattle.evaluator.specs.declared.element.Left.{Left as Answer}
 use Rattle.evaluator.specs.declared.element.Left.the-variants.{Done as Ended}
 use Rattle.evaluator.specs.declared.element.Step.{Step}
 use Rattle.evaluator.proofs.Begins.{extends-none}
 use Rattle.evaluator.proofs.Turns.{held-list, Going, going-start, going-over, going-more, held-next, going-begins, going-ceased, going-on}
-use Rattle.evaluator.proofs.Insides.{steps-of, ended-view, can-make, making-ends, can-call, call-ends, call-view, inside-some, inside-fewer, inside-steps, inside-kept, inside-can-end, inside-ends}
-use Rattle.evaluator.proofs.Calling.{call-kept, part-is, part-size, in-body, call-refused, call-ready, body-held, call-stopped, ran, call-returns as returns}
+use Rattle.evaluator.proofs.Insides.{steps-of, can-make, making-ends, can-call, call-ends, call-view, inside-fewer, inside-some, inside-kept, inside-steps, inside-can-end, inside-ends}
+use Rattle.evaluator.proofs.Calling.{call-kept, part-is, part-size, in-body, body-held, call-refused, ran, call-ready, call-stopped, call-returns as returns}
 use Rattle.evaluator.proofs.run.call.Reads as call
 use Rattle.evaluator.proofs.run.call.Kinds as call-kinds
 use Rattle.evaluator.proofs.run.+call+finish+list.Lts-call as call-lts
@@ -213,7 +213,7 @@ module _ (t : ℕ) where
       let after = c .before .before .before .before .before .before .after .given .1 in
       let see : Scope → View = view (opening k .args .associations .now) (f .last .1 .0) in (
         making-ends (visible k) (can-end k) after (f .last .0) see (f .result) (told k) (λ codes. f .ensures .0 _ _ _ (run-code codes)),
-        ended-view (visible k) (can-end k) see (f .ensures .1 _),
+        subst (λ (x : Scope). see x ≡ visible k x) (can-end k .1) (f .ensures .1 _),
       )
 
   finish-call-requires : finish-lts.Need-call-requires finish-calls (finish-at t) finish.Post
