@@ -1,4 +1,4 @@
-// The rules of evaluation: what is visible at a place, and what is to be done with an expression there. Document 01: "Evaluation".
+// The rules of evaluation: what is visible where an expression is evaluated, and what is to be done with it. Document 01: "Evaluation".
 pub mod entries;
 pub mod here;
 mod namespaces;
