@@ -152,38 +152,39 @@ module _ {s t w : List ℕ} {v : View} {sc : Scope} {st : State} {row : ℕ} {e 
         let d = done-by p in
         record { skipped = d .0; within = d .1; finish = d .2; some-steps = p .steps; state = refl; plan-is = d .5; nodes = d .3; finishes = d .4; same = refl }
 
-module _ {s t w : List ℕ} {sc : Scope} {st : State} {row : ℕ} {e : Node} {h : Here} (run : Call) where
-  pub leave-begun : {task : Task} (see : Scope → View) (vs : Exprs) (w′ : List ℕ) (out : Out) → Performing s t w (see sc) sc st task row e h → plan e h ≡ leave vs
-      → Completed w w′ (stepped st) (st .top) row vs out → LeftBy s t w w′ see sc st (hold (st .steps) (st .room) (eval run e h)) (as-left sc out)
-  leave-begun see vs w′ out p is c =
+module _ {s t w : List ℕ} {sc : Scope} {st : State} {row : ℕ} {e : Node} {h : Here} (run : Call) (associations definitions : List ℕ) where
+  pub leave-begun : {task : Task} {vs : Exprs} (w′ : List ℕ) (out : Out) → Performing s t w (view associations definitions sc) sc st task row e h → plan e h ≡ leave vs
+      → Completed w w′ (stepped st) (st .top) row vs out
+      → LeftBy s t w w′ (view associations definitions) sc st (hold (st .steps) (st .room) (eval run e h)) (as-left sc out)
+  leave-begun {vs = vs} w′ out p is c =
       rw (performed run p, is)
-      (completed-left s t w w′ see sc sc st (stepped st) row vs h out refl (fits-stepped p) (omega arith) (extends-none sc) (p .sees) c)
+      (completed-left s t w w′ (view associations definitions) sc sc st (stepped st) row vs h out refl (fits-stepped p) (omega arith) (extends-none sc) (p .sees) c)
 
-  module _ (associations definitions : List ℕ) where
-    pub associate-begun : {f : Form} {marker id : ℕ} (w′ : List ℕ) (out : Out) → length associations ≡ 64
-        → Performing s t w (view associations definitions sc) sc st (Ns f marker id) row e h
-        → ((es : Nodes) → NodesAt s t (f .first) (f .end) es → Atoms es → Completed w w′ (stepped st) (st .top) (f .row) (only (form (unnumbered-all es))) out)
-        → LeftBy s t w w′ (view (set associations (sc .associated) (association marker id)) definitions) sc st (hold (st .steps) (st .room) (eval run e h))
-        (as-left (record { defined = sc .defined; associated = sc .associated + 1 }) out)
-    associate-begun {f} {marker} {id} w′ out size p done =
-        let d = done-by p in
-        let vs = only (form (unnumbered-all (d .0))) in
-        let more : Scope = record { defined = sc .defined; associated = sc .associated + 1 } in
-        let sees = sees-associated (p .sees) (association marker id) (d .1) (d .5) (d .6) in
-        rw (performed run p, d .7)
-        (completed-left s t w w′ (view (set associations (sc .associated) (association marker id)) definitions) sc more st (stepped st) row
-        vs (add-namespace (d .1) h) out refl (fits-stepped p) (omega arith) (record { defined = omega arith; associated = omega arith })
-        (rw (view-associated associations definitions sc (association marker id) (omega (arith, latest-length associations (sc .associated), d .6))) sees)
-        (subst (λ (r : ℕ). Completed w w′ (stepped st) (st .top) r vs out) (d .2) (done (d .0) (d .3) (d .4))))
+  pub associate-begun : {f : Form} {marker id : ℕ} (w′ : List ℕ) (out : Out) → length associations ≡ 64
+      → Performing s t w (view associations definitions sc) sc st (Ns f marker id) row e h
+      → ((es : Nodes) → NodesAt s t (f .first) (f .end) es → Atoms es → Completed w w′ (stepped st) (st .top) (f .row) (only (form (unnumbered-all es))) out)
+      → LeftBy s t w w′ (view (set associations (sc .associated) (association marker id)) definitions) sc st (hold (st .steps) (st .room) (eval run e h))
+      (as-left (record { defined = sc .defined; associated = sc .associated + 1 }) out)
+  associate-begun {f} {marker} {id} w′ out size p done =
+      let d = done-by p in
+      let vs = only (form (unnumbered-all (d .0))) in
+      let few : sc .associated < 64 = omega (arith, latest-length associations (sc .associated), d .6) in
+      let see = view (set associations (sc .associated) (association marker id)) definitions in
+      rw (performed run p, d .7)
+      (completed-left s t w w′ see sc (record { defined = sc .defined; associated = sc .associated + 1 }) st (stepped st) row vs (add-namespace (d .1) h) out refl
+      (fits-stepped p) (omega arith) (record { defined = omega arith; associated = omega arith })
+      (rw (view-associated associations definitions sc (association marker id) (omega arith)) (sees-associated (p .sees) (association marker id) (d .1) (d .5) (d .6)))
+      (subst (λ (r : ℕ). Completed w w′ (stepped st) (st .top) r vs out) (d .2) (done (d .0) (d .3) (d .4))))
 
-    pub function-begun : {key code : ℕ} → length definitions ≡ 256 → Performing s t w (view associations definitions sc) sc st (Function key code) row e h
-        → LeftBy s t w w (view associations (set definitions (sc .defined) (definition key code))) sc st (hold (st .steps) (st .room) (eval run e h))
-        (Ended (stepped st) (record { defined = sc .defined + 1; associated = sc .associated }))
-    function-begun {key} {code} size p =
-        let d = done-by p in
-        rw (performed run p, d .3)
-        (defined-left s t w w associations definitions sc st (stepped st) (definition key code) (d .0) h (st .steps - 1) (st .room) refl refl size (omega (arith, p .fitting .paid, p .fitting .below))
-        (untouched-none w (st .top) (st .floor)) refl (omega arith) (p .fitting .paid) (d .1) (omega (arith, d .2, latest-length definitions (sc .defined))) (p .sees))
+  pub function-begun : {key code : ℕ} → length definitions ≡ 256 → Performing s t w (view associations definitions sc) sc st (Function key code) row e h
+      → LeftBy s t w w (view associations (set definitions (sc .defined) (definition key code))) sc st (hold (st .steps) (st .room) (eval run e h))
+      (Ended (stepped st) (record { defined = sc .defined + 1; associated = sc .associated }))
+  function-begun {key} {code} size p =
+      let d = done-by p in
+      let few : sc .defined < 256 = omega (arith, d .2, latest-length definitions (sc .defined)) in
+      rw (performed run p, d .3)
+      (defined-left s t w w associations definitions sc st (stepped st) (definition key code) (d .0) h (st .steps - 1) (st .room) refl refl size
+      (omega (arith, p .fitting .paid, p .fitting .below)) (untouched-none w (st .top) (st .floor)) refl (omega arith) (p .fitting .paid) (d .1) few (p .sees))
 
 -- Beginning
 
@@ -196,19 +197,22 @@ module _ {s t w args : List ℕ} {bound : ℕ} {v : View} {st : State} {at : See
   pub begin-none : (run : Call) (number r : ℕ) → step-out st row ≡ Refused number r → hold (st .steps) (st .room) (eval run e h) ≡ ceased number r
   begin-none run number r =
       by-test (λ (out : Out). out ≡ Refused number r → hold (st .steps) (st .room) (eval run e h) ≡ ceased number r) (eqb (st .steps) 0)
-      (λ t (q : _≡_ {A = Out} (Refused 16 row) (Refused number r)). rw (eval-plan run h e) (hold-step-none (st .steps) (st .room) (row-of e) _ (eqb-true (st .steps) 0 t) ∙ cc (node-named (b .is))))
-      (λ t q. impossible (cc))
+      (λ t (q : _≡_ {A = Out} (Refused 16 row) (Refused number r)).
+      rw (eval-plan run h e) (hold-step-none (st .steps) (st .room) (row-of e) _ (eqb-true (st .steps) 0 t) ∙ cc (node-named (b .is)))) (λ t q. impossible (cc))
 
   -- the step is taken, and the task is planned
   pub begin-performs : {task : Task} (st′ : State) → Planned s t w (st .floor) v (at .scope) e task (plan e h) → step-out st row ≡ Done st′
       → (st′ ≡ stepped st) × Performing s t w v (at .scope) st task row e h
   begin-performs {task} st′ p =
       by-test (λ (out : Out). out ≡ Done st′ → (st′ ≡ stepped st) × Performing s t w v (at .scope) st task row e h) (eqb (st .steps) 0) (λ t q. impossible (cc))
-      (λ t q. (cc, record {
-        at = is ∙ node-named (b .is);
-        steps = omega (arith, eqb-false (st .steps) 0 t);
-        planned = p;
-        sees = b .setting .sees;
-        fitting = b .fitting;
-        shallow = λ vs q. rw q at (plan-sound bound e h (b .fit) (b .sound)) .1;
-      }))
+      (λ t q. (
+        cc,
+        record {
+          at = is ∙ node-named (b .is);
+          steps = omega (arith, eqb-false (st .steps) 0 t);
+          planned = p;
+          sees = b .setting .sees;
+          fitting = b .fitting;
+          shallow = λ vs q. rw q at (plan-sound bound e h (b .fit) (b .sound)) .1;
+        },
+      ))

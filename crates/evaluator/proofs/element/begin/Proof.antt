@@ -24,7 +24,8 @@ returns-2 c =
     let step = c .before .before .before .before .before .before .before .before .before .before .before .before in
     let x = step .before .before .before .before .before .before .args in (
       λ bound run e h b.
-          let p = begin-performs b (step .before .before .row .ensures) (told .0 .0) (plan .ensures e (b .is) (x .w .now) (x .state) h (b .setting)) (sym (step .step .ensures) ∙ told .1) in
+          let planned = plan .ensures e (b .is) (x .w .now) (x .state) h (b .setting) in
+          let p = begin-performs b (step .before .before .row .ensures) (told .0 .0) planned (sym (step .step .ensures) ∙ told .1) in
           perform .ensures .0 (x .state) run e h (p .0) (p .1),
       perform .ensures .1,
     )
@@ -38,12 +39,12 @@ begin-spec =
     (λ c. search needs)
     (λ c. search needs)
     (λ c κs.
-      let some = c .before .before .before .before .before .before .before .before .before .before .before .pre in
-      record { work = _; state = _; expression = some .expression; here = some .here; is = some .begins .is; setting = some .begins .setting })
+    let some = c .before .before .before .before .before .before .before .before .before .before .before .pre in
+    record { work = _; state = _; expression = some .expression; here = some .here; is = some .begins .is; setting = some .begins .setting })
     perform-requires
     (λ c.
-      let step = c .before .before .before in
-      let told = c .before .number .given in
-      (λ bound run e h b. begin-none b (step .before .before .row .ensures) run (told .0 .0) (told .0 .1 .0) (sym (step .step .ensures) ∙ told .1), refl))
+    let step = c .before .before .before in
+    let told = c .before .number .given in
+    (λ bound run e h b. begin-none b (step .before .before .row .ensures) run (told .0 .0) (told .0 .1 .0) (sym (step .step .ensures) ∙ told .1), refl))
     (λ c. search needs)
     returns-2)

@@ -31,25 +31,25 @@ finish-spec =
     (λ c κs. search needs)
     (λ c. search needs)
     (λ c κs.
-      let some = c .before .before .before .before .pre in
-      (some .finishing .fitting, can-join (rw (c .before .enum-told2 .given .1) at (some .by)) (some .finishing)))
+    let some = c .before .before .before .before .pre in
+    (some .finishing .fitting, can-join (rw (c .before .enum-told2 .given .1) at (some .by)) (some .finishing)))
     (λ c κs. search needs)
     (λ c. search needs)
     (λ c κs. let r = c .before .before .before .before .before .pre .finishing in (r .fitting, r .stand .order))
     pack-requires
     (λ c κs.
-      let told = c .before .before .before .before .before .before .before in
-      let some = told .before .before .before .pre in
-      can-define (rw (told .making .given .1) at (some .by)) (some .finishing) .1)
+    let told = c .before .before .before .before .before .before .before in
+    let some = told .before .before .before .pre in
+    can-define (rw (told .making .given .1) at (some .by)) (some .finishing) .1)
     (λ c. search needs)
     (λ c.
-      let wrapped = c .before .before .before .wrapped in
-      let told = c .before .before .before .before .before in
-      let row = told .before .before .before .args .row in
-      (rw (c .leaves .ensures, told .enum-told .given .1) (form-finished _ (wrapped .last .0) _ _ _ _ row (wrapped .result) (wrapped .ensures)), λ numbers. refl))
+    let wrapped = c .before .before .before .wrapped in
+    let told = c .before .before .before .before .before in
+    let row = told .before .before .before .args .row in
+    (rw (c .leaves .ensures, told .enum-told .given .1) (form-finished _ (wrapped .last .0) _ _ _ _ row (wrapped .result) (wrapped .ensures)), λ numbers. refl))
     (λ c. search needs)
     (λ c.
-      let told = c .before .before .before .before .before .enum-told2 .given .1 in
-      (rw (c .leaves2 .ensures, told) (concat-finished _ _ _ _ _ _ _ _ (c .before .before .before .joined .ensures)), λ numbers. refl))
+    let told = c .before .before .before .before .before .enum-told2 .given .1 in
+    (rw (c .leaves2 .ensures, told) (concat-finished _ _ _ _ _ _ _ _ (c .before .before .before .joined .ensures)), λ numbers. refl))
     (λ c. search needs)
     returns-3)
