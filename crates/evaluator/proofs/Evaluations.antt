@@ -35,7 +35,7 @@ use Rattle.rules.specs.Associations.{Linked}
 use Rattle.rules.specs.Settings.{at-top-level, Shows, no-code, of-top}
 use Rattle.rules.specs.declared.scope.Scope.{Scope}
 use Rattle.rules.specs.declared.here.Here.{Here as Seen}
-use Rattle.evaluator.specs.Listed.{Ready, Over, Met}
+use Rattle.evaluator.specs.Listed.{Ready, Met}
 use Rattle.evaluator.specs.Evaluated.{HasRead, ResultStands, Ended, Evaluated}
 use Rattle.evaluator.specs.declared.element.Left.{Left as Answer}
 use Rattle.evaluator.specs.declared.element.Left.the-variants.{Done, Refused as Stopped}

@@ -5,7 +5,7 @@ use mathlib.Core.Path.{_≡_, refl, ap, _∙_}
 use mathlib.Core.List.{List, [], _∷_, _++_}
 use lib.ListN.{length, set, length-append}
 use native.Mathlib.Omega.{arith}
-use Rattle.spec.specs.Expr.{nil, array, int, ref, Expr, atom, form, Exprs, none, more, only, array-head, marker-bytes, atom-bytes, bytes, canonical}
+use Rattle.spec.specs.Expr.{nil, array, int, ref, Expr, atom, form, Exprs, more, only, array-head, marker-bytes, atom-bytes, bytes, canonical}
 use Rattle.spec.specs.Runs.{stop, hold}
 use Rattle.spec.specs.Plan.{value, Here, Finish}
 use Rattle.spec.specs.Evaluation.{join, Call, finish}
