@@ -120,7 +120,8 @@ module _ (s t w : List ℕ) (floor : ℕ) (v : View) (sc : Scope) (row : ℕ) (e
   Does (Function key code) q =
       (d : Definition) × EntryAt s t w floor (definition key code) (d .marker) (d .name) (d .content) × (length (v .definitions) < 256) × (q ≡ define-function d)
   Does (Inside f after) q =
-      (k : ℕ) × (p : Within) × (g : Finish) × NodesAt s t (f .first) (f .end) (skip k (elements e)) × Finishes s t w floor v sc (elements e) after k p g × (q ≡ inside k p g)
+      (k : ℕ) × (p : Within) × (g : Finish) × NodesAt s t (f .first) (f .end) (skip k (elements e)) × Finishes s t w floor v sc (elements e) after k p g
+      × (q ≡ inside k p g)
 
   does : row ≡ row-of e → {task : Task} {q : Plan} → Planned s t w floor v sc e task q → Does task q
   does at (refuses n) = refl

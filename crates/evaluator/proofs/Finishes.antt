@@ -111,7 +111,7 @@ module _ (w w′ definitions : List ℕ) (sc : Scope) (st : State) (start row : 
       let some = single-stands (ready .finishable) (ready .stand) in
       let stand : Stand w′ (st′ .floor) (st .floor) vs =
       record { order = omega (arith, stored .floor); inside = omega (arith, stored .others .size, fit .below); bytes = stored .bytes ∙ ready .stand .bytes } in
-      defined-left s t w w′ numbers definitions sc (with-top st (st .room) start) st′ e (record { marker = m; name = n; content = value vs }) h (st .steps) (st .room) (stored .steps)
-      (stored .room) size (omega (arith, stored .others .size, ready .stand .order, ready .stand .inside)) (stored .others) (stored .top) (omega (arith, stored .floor))
-      (omega (arith, stored .top, stored .room, stored .floor, some, fit .paid))
+      defined-left s t w w′ numbers definitions sc (with-top st (st .room) start) st′ e (record { marker = m; name = n; content = value vs }) h (st .steps) (st .room)
+      (stored .steps) (stored .room) size (omega (arith, stored .others .size, ready .stand .order, ready .stand .inside)) (stored .others) (stored .top)
+      (omega (arith, stored .floor)) (omega (arith, stored .top, stored .room, stored .floor, some, fit .paid))
       (value-entry fits (st′ .floor) (st .floor) (omega arith) (omega (arith, stored .floor, some)) (omega (arith, fit .below, fit .short)) stand) few sees

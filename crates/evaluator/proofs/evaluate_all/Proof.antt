@@ -13,8 +13,8 @@ list-requires c κs =
     let known = c .before .before .before .before .before .before .before in
     let pre = known .before .pre in
     let b = all-bytes (known .before .args .s .now) (λ i. known .shared-slice-known .given i .fits) in
-    let ready = stream-ready _ _ _ b (pre .0) (known .before .args .w .now) (replicate 64 0) (replicate 64 0) (replicate 256 0) (known .before .args .steps) (c .start .result)
-    (c .start .ensures) (pre .1) in
+    let ready = stream-ready _ _ _ b (pre .0) (known .before .args .w .now) (replicate 64 0) (replicate 64 0) (replicate 256 0) (known .before .args .steps)
+    (c .start .result) (c .start .ensures) (pre .1) in
     record { bound = _; codes = 32; nodes = number-all 0 (pre .0 .means); here = start; ready = ready }
 
 returns : tie.Need-returns
@@ -25,7 +25,8 @@ returns c = λ t rs es reads fills.
     let has = known .before .pre .0 in
     let b = all-bytes (known .before .args .s .now) (λ i. known .shared-slice-known .given i .fits) in
     let once = read-once has t rs es reads in
-    rw (once .0, once .1) (stream-ended _ _ _ b has _ _ _ _ (ran .list .result) (ran .list .ensures .0 _ 32 _ start (list-requires (ran .before) (ran .list .lifetimes) .ready)))
+    let met = ran .list .ensures .0 _ 32 _ start (list-requires (ran .before) (ran .list .lifetimes) .ready) in
+    rw (once .0, once .1) (stream-ended _ _ _ b has _ _ _ _ (ran .list .result) met)
 
 pub evaluate-all-spec : {M : Type 1} → statement M
 evaluate-all-spec = tie.close (tie.spec (λ c κs. search needs) list-requires (λ c. search needs) returns)

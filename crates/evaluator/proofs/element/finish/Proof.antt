@@ -20,14 +20,15 @@ returns-3 c =
     let stored = c .before .before .before .before .before .stored .ensures in
     let told = c .before .before .before .before .before .before .before .before .making .given .1 in
     let more = c .add .ensures in
-    (rw (more .0, more .1, c .before .before .pack .ensures, told) (define-finished _ _ _ _ _ _ _ _ _ (more .2) stored), λ numbers. rw (more .0) (view-before-added numbers _ _ _))
+    let finished = define-finished _ _ _ _ _ _ _ _ _ (more .2) stored in
+    (rw (more .0, more .1, c .before .before .pack .ensures, told) finished, λ numbers. rw (more .0) (view-before-added numbers _ _ _))
 
 pub finish-spec : {M : Type 1} → statement M
 finish-spec =
     tie.close
     (tie.spec
     (λ c. search needs)
-    (λ c κs. let some = c .before .before .before .before .pre in ((some .finishing .fitting, omega arith), (some .values, some .finishing .stand, some .finishing .sound .0)))
+    (λ c κs. let some = c .before .before .before .before .pre in let r = some .finishing in ((r .fitting, omega arith), (some .values, r .stand, r .sound .0)))
     (λ c κs. search needs)
     (λ c. search needs)
     (λ c κs.

@@ -35,7 +35,7 @@ returns-4 c =
     let told = c .before .before .before .before .before .before .task3 .given .1 in (
       λ st run e h is p.
           let d = done-by (rw told at p) in
-          rw (c .leaves2 .ensures) (leave-begun run _ _ (copied .last .0) (copied .result) p (d .2) (rw is at (copied .ensures (d .0) (d .1) (p .shallow (d .0) (d .2))))),
+          rw (c .leaves2 .ensures) (leave-begun run _ _ (copied .last .0) (copied .result) p (d .2) (rw is at (copied .ensures _ (d .1) (p .shallow _ (d .2))))),
       refl,
     )
 
@@ -45,7 +45,8 @@ returns-5 c =
     let more = c .before .before .before .before .before .associate .ensures in
     let task = c .before .before .before .before .before .before .before .before .task4 .given .1 in (
       λ st run e h is p.
-          rw (c .leaves3 .ensures, more .0, more .1) (associate-begun run _ _ (itself .last .1 .1 .0) (itself .result) (more .2) (rw task at p) (rw is at (itself .ensures))),
+          rw (c .leaves3 .ensures, more .0, more .1)
+          (associate-begun run _ _ (itself .last .1 .1 .0) (itself .result) (more .2) (rw task at p) (rw is at (itself .ensures))),
       rw (more .0) (view-before-associated _ _ _ _),
     )
 

@@ -20,7 +20,7 @@ returned-spec =
     tie.close
     (tie.spec
     (λ c κs. search needs)
-    (λ c κs. let r = c .before .before .before .before .before .before .pre .1 .1 in (r .fitting, (r .stand .order, r .stand .inside, omega (arith, r .order, r .stand .order))))
+    (λ c κs. let r = c .before .before .before .before .before .before .pre .1 .1 in (r .fitting, (r .stand .order, r .stand .inside, omega arith)))
     (λ c. search needs)
     returns
     (λ c κs. let r = c .before .before .before .before .before .before .pre .1 in ((r .1 .fitting, r .1 .order), (r .0, r .1 .stand, r .1 .sound .0)))
