@@ -141,11 +141,12 @@ module _ (s u : List ℕ) (n : ℕ) (b : Bytes s) (has : HasRead s u n) where
         ∙ ap (λ (y : Held Left). and-hold y (λ left a c. reached (left .values) a c)) q
 
     pub stream-ended : (sc : Scope) (left : Answer) → Met w w′ sc (first-state steps w) held left → Ended steps w w′ (has .rows) es left
-    stream-ended sc (Done st _) (over, back) = go (hold steps (length w) (run es)) refl (run-held (over .is))
+    stream-ended sc = go (hold steps (length w) (run es)) refl
       where
-        go : (x : Held (List Exprs)) → hold steps (length w) (run es) ≡ x
-            → and-hold x (λ ls a c. reached (result ls) a c) ≡ reached (over .left .values) (st .steps) (st .room) → ResultStands steps w w′ es st
-        go (reached ls a c) e q =
+        go : (x : Held (List Exprs)) → hold steps (length w) (run es) ≡ x → (left : Answer) → Met w w′ sc (first-state steps w) held left
+            → Ended steps w w′ (has .rows) es left
+        go (reached ls a c) e (Done st _) (over, back) =
+            let q : reached (result ls) a c ≡ reached (over .left .values) (st .steps) (st .room) = rw e at (run-held (over .is)) in
             let values : result ls ≡ over .left .values = cc in
             let left : a ≡ st .steps = cc in
             let k = hold-reached steps (length w) (run es) ls a c e in
@@ -157,14 +158,10 @@ module _ (s u : List ℕ) (n : ℕ) (b : Bytes s) (has : HasRead s u n) where
               fewer = omega (arith, k .1, left);
               taken = omega (arith, k .1, left);
             }
-        go (ceased v r) e q = impossible (cc)
-    stream-ended sc (Stopped v r) is = go (hold steps (length w) (run es)) refl (run-held is)
-      where
-        go : (x : Held (List Exprs)) → hold steps (length w) (run es) ≡ x → and-hold x (λ ls a c. reached (result ls) a c) ≡ ceased v r
-            → Ended steps w w′ (has .rows) es (Stopped v r)
-        go (reached ls a c) e q = impossible (cc)
-        go (ceased x y) e q =
-            let stops : hold steps (length w) (run es) ≡ ceased v r = cc in
+        go (ceased x y) e (Done st _) (over, back) = impossible (cc (run-held (over .is)))
+        go (reached ls a c) e (Stopped v r) is = impossible (cc (run-held is))
+        go (ceased x y) e (Stopped v r) is =
+            let stops : hold steps (length w) (run es) ≡ ceased v r = cc (run-held is) in
             let cuts : cut steps (length w) (run es .events) (run es .end) ≡ stopped v r = ap forget stops in
             let low = hold-ceased-row (rows-all es) steps (length w) (run es) v r (run-proper es (known .fits)) stops in
             (omega (arith, not-accepted v (cut-refused es (known .fits) steps (length w) v r cuts)), omega (arith, low, known .counted), cuts)
