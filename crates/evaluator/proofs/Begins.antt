@@ -21,7 +21,7 @@ use Rattle.rows.specs.Forms.{row-named}
 use Rattle.rows.specs.declared.forms.Form.{Form}
 use Rattle.rows.specs.declared.forms.Node.{Node as Ranged}
 use Rattle.rows.proofs.Parts.{node-named}
-use Rattle.workspace.specs.Completed.{Fitting, Stand, Incomplete, too-deep, too-long, stepped, Untouched, Atoms, Completed}
+use Rattle.workspace.specs.Completed.{Fitting, Stand, too-deep, too-long, stepped, Untouched, Atoms, Completed}
 use Rattle.workspace.specs.declared.values.State.{State}
 use Rattle.workspace.specs.declared.values.Out.{Out}
 use Rattle.workspace.specs.declared.values.Out.the-variants.{Done, Refused}
@@ -61,11 +61,10 @@ completed-left s t w w′ see sc sc′ from st row vs h (Done st′) floor fits 
       },
       more,
     )
-completed-left s t w w′ see sc sc′ from st row vs h (Refused number at) floor fits order more sees (is, why) = rw is (go number why)
-  where
-    go : (number : ℕ) → Incomplete st vs number → hold (st .steps) (st .room) (complete row vs h) ≡ ceased number row
-    go _ (too-deep deep) = hold-complete-deep (st .steps) (st .room) row vs h deep
-    go _ (too-long shallow long) = hold-complete-none (st .steps) (st .room) row vs h shallow long
+completed-left s t w w′ see sc sc′ from st row vs h (Refused _ at) floor fits order more sees (is, too-deep deep) =
+    rw is (hold-complete-deep (st .steps) (st .room) row vs h deep)
+completed-left s t w w′ see sc sc′ from st row vs h (Refused _ at) floor fits order more sees (is, too-long shallow long) =
+    rw is (hold-complete-none (st .steps) (st .room) row vs h shallow long)
 
 -- nothing more is visible
 pub extends-none : (sc : Scope) → Extends sc sc
