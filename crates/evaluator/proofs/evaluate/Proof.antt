@@ -57,6 +57,7 @@ evaluate-spec =
     (tie.spec
     (λ c κs. search needs)
     (λ c κs. search needs)
+    -- no version
     (λ c t out rs es reads fills.
     let v = rw (c .before .before .is-versioned .ensures t rs es reads fills) at (c .before .if1 .taken) in
     rw (c .refused .ensures) (answer-unversioned _ t (c .before .before .before .before .before .before .args .work .now) out _ rs es reads v))
@@ -71,6 +72,7 @@ evaluate-spec =
     start-requires
     (λ c κs. search needs)
     (λ c. search needs)
+    -- no more steps than there were are left
     (λ c.
     let ran = c .before .before .before .before .before .before in
     let has = ran .before .before .before .before .before .before .before .before .before .before .pre in

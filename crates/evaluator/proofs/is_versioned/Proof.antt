@@ -55,7 +55,8 @@ pub is-versioned-spec : {M : Type 1} → statement M
 is-versioned-spec =
     tie.close
     (tie.spec
-    (λ c. λ t rs es reads fills.
+    -- no row
+    (λ c t rs es reads fills.
     let known = c .before .before in
     rw (read-once (known .before .pre) t rs es reads .1) (versioned-none _ _ _ _ (stream-nodes _ _ _ (bytes known) (known .before .pre)) (c .if1 .taken)))
     (λ c κs. node-whole _ _ _ _ (first c .1))

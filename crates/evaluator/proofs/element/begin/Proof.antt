@@ -5,7 +5,6 @@ use Rattle.evaluator.proofs.Begins.{begin-none, begin-performs}
 use Rattle.evaluator.proofs.element.begin.Statement.{statement}
 use Rattle.evaluator.proofs.element.begin.Tie as tie
 
--- for some expression, and for every one
 perform-requires : tie.Need-perform-requires
 perform-requires c κs =
     let step = c .before .before .before .before .before .before .before .before .before in
@@ -38,10 +37,12 @@ begin-spec =
     (λ c κs. search needs)
     (λ c. search needs)
     (λ c. search needs)
+    -- `plan` asks
     (λ c κs.
     let some = c .before .before .before .before .before .before .before .before .before .before .before .pre in
     record { work = _; state = _; expression = some .expression; here = some .here; is = some .begins .is; setting = some .begins .setting })
     perform-requires
+    -- no step is left
     (λ c.
     let step = c .before .before .before in
     let told = c .before .number .given in

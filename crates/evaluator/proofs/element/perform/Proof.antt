@@ -7,18 +7,6 @@ use Rattle.evaluator.proofs.Begins.{done-by, fits-stepped, refuse-begun
 use Rattle.evaluator.proofs.element.perform.Statement.{statement}
 use Rattle.evaluator.proofs.element.perform.Tie as tie
 
-copied-requires : tie.Need-copied-requires
-copied-requires c κs =
-    let k = c .before .before .before .before .before .before .before .pre in
-    let d = done-by (rw (c .before .before .task3 .given .1) at (k .4)) in
-    (rw (k .3) (fits-stepped (k .4)), (d .1 .order, d .1 .inside, omega arith))
-
-itself-requires : tie.Need-itself-requires
-itself-requires c κs =
-    let k = c .before .before .before .before .before .before .before .before .before .pre in
-    let d = done-by (rw (c .before .before .before .before .task4 .given .1) at (k .4)) in
-    (rw (k .3) (fits-stepped (k .4)), record { nodes = d .0; at = d .3; atoms = d .4 })
-
 returns-3 : tie.Need-returns-3
 returns-3 c =
     let own = c .before .before .before .own in
@@ -55,27 +43,40 @@ perform-spec =
     tie.close
     (tie.spec
     (λ c. search needs)
+    -- a list inside, first
     (λ c. (λ st run e h is p. rw is (inside-begun run (rw (c .before .task .given .1) at p)), refl))
     (λ c. search needs)
     (λ c. search needs)
+    -- `own` asks
     (λ c κs.
     let k = c .before .before .before .before .before .before .pre in
     let d = done-by (rw (c .before .enum-told .given .1) at (k .4)) in
     (rw (k .3) (fits-stepped (k .4)), (d .0, d .1)))
     (λ c κs. search needs)
     (λ c. search needs)
-    copied-requires
+    -- `copied` asks
+    (λ c κs.
+    let k = c .before .before .before .before .before .before .before .pre in
+    let d = done-by (rw (c .before .before .task3 .given .1) at (k .4)) in
+    (rw (k .3) (fits-stepped (k .4)), (d .1 .order, d .1 .inside, omega arith)))
     (λ c κs. search needs)
     (λ c. search needs)
+    -- `associate` asks
     (λ c κs.
     let d = done-by (rw (c .before .before .task4 .given .1) at (c .before .before .before .before .before .before .before .pre .4)) in
     omega (arith, simp latest-length at (d .6)))
-    itself-requires
+    -- `itself` asks
+    (λ c κs.
+    let k = c .before .before .before .before .before .before .before .before .before .pre in
+    let d = done-by (rw (c .before .before .before .before .task4 .given .1) at (k .4)) in
+    (rw (k .3) (fits-stepped (k .4)), record { nodes = d .0; at = d .3; atoms = d .4 }))
     (λ c κs. search needs)
     (λ c. search needs)
+    -- `add` asks
     (λ c κs.
     let d = done-by (rw (c .before .before .task5 .given .1) at (c .before .before .before .before .before .before .before .pre .4)) in
     omega (arith, simp latest-length at (d .2)))
+    -- a refusal
     (λ c. (λ st run e h is p. refuse-begun run (rw (c .before .task2 .given .1) at p), refl))
     (λ c. search needs)
     returns-3
@@ -83,6 +84,7 @@ perform-spec =
     returns-4
     (λ c. search needs)
     returns-5
+    -- a function defined
     (λ c.
     let more = c .add .ensures in
     let task = c .before .before .before .task5 .given .1 in

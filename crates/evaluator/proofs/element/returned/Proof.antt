@@ -20,9 +20,11 @@ returned-spec =
     tie.close
     (tie.spec
     (λ c κs. search needs)
+    -- `copied` asks
     (λ c κs. let r = c .before .before .before .before .before .before .pre .1 .1 in (r .fitting, (r .stand .order, r .stand .inside, omega arith)))
     (λ c. search needs)
     returns
+    -- `wrapped` asks
     (λ c κs. let r = c .before .before .before .before .before .before .pre .1 in ((r .1 .fitting, r .1 .order), (r .0, r .1 .stand, r .1 .sound .0)))
     (λ c. search needs)
     returns-2)
