@@ -17,7 +17,7 @@ use Rattle.spec.specs.Calls.{filled, reading, is-versioned, version-bytes, end-
 use Rattle.laws.specs.Demands.{Bytes, Lent}
 use Rattle.laws.specs.Holding.{and-hold, in-list}
 use Rattle.laws.proofs.Basics.{impossible}
-use Rattle.laws.proofs.Reading.{read-readable, Meant, read-meant}
+use Rattle.laws.proofs.Reading.{read-readable, Meant, meant}
 use Rattle.laws.proofs.Values.{number-all-fits, run-proper}
 use Rattle.laws.proofs.Holding.{hold-bind, hold-reached, hold-ceased-row, hold-run}
 use Rattle.laws.proofs.Calls.{unversioned, wrong-version, runs, evaluation-answered, cut-refused, not-accepted}
@@ -35,7 +35,7 @@ use Rattle.rules.specs.Associations.{Linked}
 use Rattle.rules.specs.Settings.{at-top-level, Shows, no-code, of-top}
 use Rattle.rules.specs.declared.scope.Scope.{Scope}
 use Rattle.rules.specs.declared.here.Here.{Here as Seen}
-use Rattle.evaluator.specs.Listed.{Ready, Over, Met}
+use Rattle.evaluator.specs.Listed.{Ready, Met}
 use Rattle.evaluator.specs.Evaluated.{HasRead, ResultStands, Ended, Evaluated}
 use Rattle.evaluator.specs.declared.element.Left.{Left as Answer}
 use Rattle.evaluator.specs.declared.element.Left.the-variants.{Done, Refused as Stopped}
@@ -48,12 +48,6 @@ abbrev pub versioned : Nodes → Bool
 versioned empty = false
 versioned (cons (leaf r a) es) = if-ref a (λ m n. eqb m core && eqb n version) false
 versioned (cons (branch r fs) es) = false
-
--- the first of a stream
-pub record FirstAt (s u : List ℕ) (es : Exprs) : Type 0 where
-  pub head : Node
-  pub at : NodeAt s u 0 head
-  pub is : versioned (elements head) ≡ is-versioned es
 
 first-versioned : (e : Expr) (es : Exprs) → versioned (elements (number 0 e)) ≡ is-versioned (more e es)
 unfolding number
@@ -68,11 +62,11 @@ module _ (s u : List ℕ) (n : ℕ) where
   versioned-none none at h = refl
   versioned-none (more e es) at h = absurd (omega (arith, nodes-first s u 0 n (number 0 e) (number-all (0 + rows e) es) at .0))
 
-  pub versioned-first : (es : Exprs) → NodesAt s u 0 n (number-all 0 es) → 0 < n → FirstAt s u es
+  pub versioned-first : (es : Exprs) → NodesAt s u 0 n (number-all 0 es) → 0 < n
+      → (head : Node) × NodeAt s u 0 head × (versioned (elements head) ≡ is-versioned es)
   unfolding number NodeAt
   versioned-first none at h = absurd (omega (arith, at))
-  versioned-first (more e es) at h =
-      record { head = number 0 e; at = nodes-first s u 0 n (number 0 e) (number-all (0 + rows e) es) at .1; is = first-versioned e es }
+  versioned-first (more e es) at h = (number 0 e, nodes-first s u 0 n (number 0 e) (number-all (0 + rows e) es) at .1, first-versioned e es)
 
 pub versioned-leaf : {s u : List ℕ} {node : Ranged} {e : Node} {r : ℕ} → IsNode s u node e → node ≡ Leaf r → false ≡ versioned (elements e)
 versioned-leaf (is-leaf r a l) q = refl
@@ -97,22 +91,23 @@ versioned-led k b l is =
 abbrev first-state : ℕ → List ℕ → State
 first-state steps w = record { steps = steps; room = length w; top = 0; floor = length w }
 
-module _ (s t u : List ℕ) (n : ℕ) (rs : List Row) (es : Exprs) (b : Bytes s) (has : HasRead s u n) (reads : reading s t ≡ readable rs es)
-    (fills : u ≡ filled rs t) where
-  abbrev room : ℕ
-  room = length t / row-width
+-- there is one way to read it
+pub read-once : {s u : List ℕ} {n : ℕ} (has : HasRead s u n) (t : List ℕ) (rs : List Row) (es : Exprs) → reading s t ≡ readable rs es
+    → (rs ≡ has .rows) × (es ≡ has .means)
+read-once {s} has t rs es q =
+    let a = read-readable s (length t / row-width) rs es q in
+    let b = read-readable s (length (has .before) / row-width) (has .rows) (has .means) (has .is) in
+    (a .rows-are ∙ sym (b .rows-are), a .means ∙ sym (b .means))
 
-  meant : Meant s room rs es
-  meant = read-meant s room rs es b (read-readable s room rs es reads)
+module _ (s u : List ℕ) (n : ℕ) (b : Bytes s) (has : HasRead s u n) where
+  abbrev es : Exprs
+  es = has .means
 
-  -- there is one way to read it
-  counted : n ≡ length rs
-  counted =
-      let other = read-readable s (length (has .before) / row-width) (has .rows) (has .means) (has .is) in
-      has .counted ∙ ap (λ (l : List Row). length l) (other .rows-are ∙ sym (read-readable s room rs es reads .rows-are))
+  known : Meant s (length (has .before) / row-width) (has .rows) es
+  known = meant s (length (has .before) / row-width) (has .rows) es b (has .is)
 
   pub stream-nodes : NodesAt s u 0 n (number-all 0 es)
-  stream-nodes = rw (counted, fills) (filled-nodes s t room rs es b reads)
+  stream-nodes = rw (← has .counted, ← has .filled-in) at (filled-nodes s (has .before) (length (has .before) / row-width) (has .rows) es b (has .is))
 
   -- there is no definition, no association and no value yet
   pub stream-ready : (w args associations definitions : List ℕ) (steps : ℕ) (at : Seen) → at ≡ at-top-level → length w ≤ 65536
@@ -126,7 +121,7 @@ module _ (s t u : List ℕ) (n : ℕ) (rs : List Row) (es : Exprs) (b : Bytes s)
       element-of = of-top empty refl (λ m. refl);
     };
     fitting = record { paid = omega arith; below = omega arith; short = short };
-    fit = number-all-fits n 0 es (omega (arith, counted, meant .counted)) (meant .fits);
+    fit = number-all-fits n 0 es (omega (arith, has .counted, known .counted)) (known .fits);
     sound = (tt, tt);
     single = tt;
     entered = refl;
@@ -145,12 +140,13 @@ module _ (s t u : List ℕ) (n : ℕ) (rs : List Row) (es : Exprs) (b : Bytes s)
         ∙ hold-run es steps (length w)
         ∙ ap (λ (y : Held Left). and-hold y (λ left a c. reached (left .values) a c)) q
 
-    run-done : (st : State) → Over w w′ (first-state steps w) held st → ResultStands steps w w′ es st
-    run-done st over = go (hold steps (length w) (run es)) refl (run-held (over .is))
+    pub stream-ended : (sc : Scope) (left : Answer) → Met w w′ sc (first-state steps w) held left → Ended steps w w′ (has .rows) es left
+    stream-ended sc = go (hold steps (length w) (run es)) refl
       where
-        go : (x : Held (List Exprs)) → hold steps (length w) (run es) ≡ x
-            → and-hold x (λ ls a c. reached (result ls) a c) ≡ reached (over .left .values) (st .steps) (st .room) → ResultStands steps w w′ es st
-        go (reached ls a c) e q =
+        go : (x : Held (List Exprs)) → hold steps (length w) (run es) ≡ x → (left : Answer) → Met w w′ sc (first-state steps w) held left
+            → Ended steps w w′ (has .rows) es left
+        go (reached ls a c) e (Done st _) (over, back) =
+            let q : reached (result ls) a c ≡ reached (over .left .values) (st .steps) (st .room) = rw e at (run-held (over .is)) in
             let values : result ls ≡ over .left .values = cc in
             let left : a ≡ st .steps = cc in
             let k = hold-reached steps (length w) (run es) ls a c e in
@@ -162,23 +158,13 @@ module _ (s t u : List ℕ) (n : ℕ) (rs : List Row) (es : Exprs) (b : Bytes s)
               fewer = omega (arith, k .1, left);
               taken = omega (arith, k .1, left);
             }
-        go (ceased v r) e q = impossible (cc)
-
-    run-ceased : (v r : ℕ) → held ≡ ceased v r → Ended steps w w′ rs es (Stopped v r)
-    run-ceased v r is = go (hold steps (length w) (run es)) refl (run-held is)
-      where
-        go : (x : Held (List Exprs)) → hold steps (length w) (run es) ≡ x → and-hold x (λ ls a c. reached (result ls) a c) ≡ ceased v r
-            → Ended steps w w′ rs es (Stopped v r)
-        go (reached ls a c) e q = impossible (cc)
-        go (ceased x y) e q =
-            let stops : hold steps (length w) (run es) ≡ ceased v r = cc in
+        go (ceased x y) e (Done st _) (over, back) = impossible (cc (run-held (over .is)))
+        go (reached ls a c) e (Stopped v r) is = impossible (cc (run-held is))
+        go (ceased x y) e (Stopped v r) is =
+            let stops : hold steps (length w) (run es) ≡ ceased v r = cc (run-held is) in
             let cuts : cut steps (length w) (run es .events) (run es .end) ≡ stopped v r = ap forget stops in
-            let low = hold-ceased-row (rows-all es) steps (length w) (run es) v r (run-proper es (meant .fits)) stops in
-            (omega (arith, not-accepted v (cut-refused es (meant .fits) steps (length w) v r cuts)), omega (arith, low, meant .counted), cuts)
-
-    pub stream-ended : (sc : Scope) (left : Answer) → Met w w′ sc (first-state steps w) held left → Ended steps w w′ rs es left
-    stream-ended sc (Done st _) (over, back) = run-done st over
-    stream-ended sc (Stopped v r) is = run-ceased v r is
+            let low = hold-ceased-row (rows-all es) steps (length w) (run es) v r (run-proper es (known .fits)) stops in
+            (omega (arith, not-accepted v (cut-refused es (known .fits) steps (length w) v r cuts)), omega (arith, low, known .counted), cuts)
 
 -- What is answered
 

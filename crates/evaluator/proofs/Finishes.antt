@@ -8,7 +8,7 @@ use native.Mathlib.Omega.{arith}
 use Rattle.spec.specs.Expr.{nil, array, int, ref, Expr, atom, form, Exprs, more, only, array-head, marker-bytes, atom-bytes, bytes, canonical}
 use Rattle.spec.specs.Runs.{stop, hold}
 use Rattle.spec.specs.Plan.{value, Here, Finish}
-use Rattle.spec.specs.Evaluation.{complete, join, Call, finish}
+use Rattle.spec.specs.Evaluation.{join, Call, finish}
 use Rattle.laws.proofs.Atoms.{head-bounds}
 use Rattle.laws.proofs.Fits.{FitsAll}
 use Rattle.laws.proofs.Holding.{hold-stop}
@@ -24,7 +24,6 @@ use Rattle.rules.specs.Settings.{Sees}
 use Rattle.rules.specs.declared.scope.Scope.{Scope}
 use Rattle.rules.specs.declared.plan.Making.{Making}
 use Rattle.rules.specs.declared.plan.Making.the-variants.{Form, Define, Concat}
-use Rattle.rules.proofs.Latest.{latest-length}
 use Rattle.rules.proofs.Shown.{value-entry}
 use Rattle.evaluator.specs.Listed.{LeftBy, as-left, FinishedBy, by-form, by-define, by-concat, Finishing}
 use Rattle.evaluator.specs.declared.element.Left.{Left}
@@ -45,9 +44,7 @@ bytes-some (form es) = omega arith
 -- so has one value
 single-stands : {w : List ℕ} {from to : ℕ} {vs : Exprs} → Single vs → Stand w from to vs → from < to
 unfolding bytes
-single-stands one there =
-    let v = one .value in
-    omega (arith, bytes-some v, length-append (bytes v) [], ap length (ap canonical (one .is)), stand-size there)
+single-stands one there = omega (arith, bytes-some (one .value), length-append (bytes (one .value)) [], ap length (ap canonical (one .is)), stand-size there)
 
 -- What may be finished
 
@@ -60,11 +57,6 @@ module _ {w : List ℕ} {start : ℕ} {st : State} {sc : Scope} {vs : Exprs} whe
   can-join by-concat r = let two = r .finishable in (two .0, two .1, rw (two .2) at (r .stand), rw (two .2) at (r .sound .0))
 
 -- Two values joined
-
-join-arrays : (row : ℕ) (bs cs : List ℕ) (h : Here)
-    → join row [] (more (atom (array bs)) (only (atom (array cs)))) h ≡ complete row (only (atom (array (bs ++ cs)))) h
-unfolding join
-join-arrays row bs cs h = refl
 
 join-others : (row : ℕ) (a b : Expr) (h : Here) → ((bs cs : List ℕ) → a ≡ atom (array bs) → b ≡ atom (array cs) → ⊥)
     → join row [] (more a (only b)) h ≡ stop 11 row
@@ -98,14 +90,14 @@ module _ (w w′ definitions : List ℕ) (sc : Scope) (st : State) (start row : 
   pub concat-finished : (out : Out)
       → ((a b : Expr) → Stand w start (st .top) (more a (only b)) → FitsAll (more a (only b)) → Joined w w′ st start row a b out)
       → Finished definitions Concat (as-left sc out)
+  unfolding join can-join
   concat-finished out done s t numbers run h f vs by-concat ready sees =
-      let two = ready .finishable in
-      rw (two .2) (go (done (two .0) (two .1) (rw (two .2) at (ready .stand)) (rw (two .2) at (ready .sound .0))))
+      let two = can-join {sc = sc} by-concat ready in rw (ready .finishable .2) (go (done (two .0) (two .1) (two .2) (two .3)))
     where
       go : {a b : Expr} {r : Out} → Joined w w′ st start row a b r
           → LeftBy s t w w′ (view numbers definitions) sc (with-top st (st .room) start) (hold (st .steps) (st .room) (join row [] (more a (only b)) h)) (as-left sc r)
       go {a} {b} {r} (joined bs cs is is′ done) =
-          rw (is, is′, join-arrays row bs cs h)
+          rw (is, is′, join)
           (completed-left s t w w′ (view numbers definitions) sc sc (with-top st (st .room) start) st row (only (atom (array (bs ++ cs)))) h r refl (ready .fitting)
           (ready .stand .order) (extends-none sc) sees done)
       go {a} {b} (no-arrays other) = rw (join-others row a b h other) (hold-stop (st .steps) (st .room) 11 row)
@@ -119,8 +111,7 @@ module _ (w w′ definitions : List ℕ) (sc : Scope) (st : State) (start row : 
       let some = single-stands (ready .finishable) (ready .stand) in
       let stand : Stand w′ (st′ .floor) (st .floor) vs =
       record { order = omega (arith, stored .floor); inside = omega (arith, stored .others .size, fit .below); bytes = stored .bytes ∙ ready .stand .bytes } in
-      defined-left s t w w′ numbers definitions size sc (with-top st (st .room) start) st′ e (record { marker = m; name = n; content = value vs }) h (st .steps) (st .room)
-      (stored .steps) (stored .room) (omega (arith, stored .others .size, ready .stand .order, ready .stand .inside)) (stored .others) (stored .top) (omega (arith, stored .floor))
-      (omega (arith, stored .top, stored .room, stored .floor, some, fit .paid))
-      (value-entry fits (st′ .floor) (st .floor) (omega arith) (omega (arith, stored .floor, some)) (omega (arith, fit .below, fit .short)) stand)
-      (omega (arith, latest-length definitions (sc .defined))) sees
+      defined-left s t w w′ numbers definitions sc (with-top st (st .room) start) st′ e (record { marker = m; name = n; content = value vs }) h (st .steps) (st .room)
+      (stored .steps) (stored .room) size (omega (arith, stored .others .size, ready .stand .order, ready .stand .inside)) (stored .others) (stored .top)
+      (omega (arith, stored .floor)) (omega (arith, stored .top, stored .room, stored .floor, some, fit .paid))
+      (value-entry fits (st′ .floor) (st .floor) (omega arith) (omega (arith, stored .floor, some)) (omega (arith, fit .below, fit .short)) stand) few sees

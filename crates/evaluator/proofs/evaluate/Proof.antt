@@ -8,19 +8,12 @@ use Rattle.evaluator.proofs.Evaluations.{answer-unversioned, answer-wro
 use Rattle.evaluator.proofs.evaluate.Statement.{statement}
 use Rattle.evaluator.proofs.evaluate.Tie as tie
 
-returns : tie.Need-returns
-returns c = λ t out rs es reads fills.
-    let a = c .before .before .before .before .before .before .args in
-    rw (c .refused .ensures)
-    (answer-unversioned _ t (a .work .now) out (a .steps) rs es reads (rw (c .before .before .is-versioned .ensures t rs es reads fills) at (c .before .if1 .taken)))
-
 returns-2 : tie.Need-returns-2
 returns-2 c = λ t out rs es reads fills.
     let if1 = c .before .before .before in
-    let a = if1 .before .before .before .before .before .args in
-    rw (c .refused2 .ensures)
-    (answer-wrong-version _ t (a .work .now) out (a .steps) rs es reads (rw (if1 .before .is-versioned .ensures t rs es reads fills) at (if1 .if1 .left))
-    (rw (c .before .before .has-version .ensures) at (c .before .if2 .taken)))
+    let v = rw (if1 .before .is-versioned .ensures t rs es reads fills) at (if1 .if1 .left) in
+    let w = if1 .before .before .before .before .before .args .work .now in
+    rw (c .refused2 .ensures) (answer-wrong-version _ t w out _ rs es reads v (rw (c .before .before .has-version .ensures) at (c .before .if2 .taken)))
 
 -- the part of the workspace that counts
 sized : (c : tie.After-work-size) → let start = c .before .before .before .before .before .before .before .before in
@@ -36,14 +29,6 @@ start-requires c κs =
     let has = ran .before .before .before .before .before .before .before .before .before .before .pre in
     let ended = rw (told .number .given .1) at (ran .evaluate-all .ensures (has .before) (has .rows) (has .means) (has .is) (has .filled-in)) in
     rw (has .filled-in) (filled-whole (has .rows) (has .before) _ (ended .1))
-
-sub-t18 : tie.Need-sub-t18
-sub-t18 c =
-    let told = c .before .before in
-    let ran = told .before .before .before .before in
-    let has = ran .before .before .before .before .before .before .before .before .before .before .pre in
-    let ended = rw (told .state .given .1) at (ran .evaluate-all .ensures (has .before) (has .rows) (has .means) (has .is) (has .filled-in)) in
-    ended .fewer
 
 returns-3 : tie.Need-returns-3
 returns-3 c = λ t out rs es reads fills.
@@ -72,7 +57,10 @@ evaluate-spec =
     (tie.spec
     (λ c κs. search needs)
     (λ c κs. search needs)
-    returns
+    -- no version
+    (λ c t out rs es reads fills.
+    let v = rw (c .before .before .is-versioned .ensures t rs es reads fills) at (c .before .if1 .taken) in
+    rw (c .refused .ensures) (answer-unversioned _ t (c .before .before .before .before .before .before .args .work .now) out _ rs es reads v))
     (λ c κs. search needs)
     (λ c κs. search needs)
     returns-2
@@ -84,7 +72,11 @@ evaluate-spec =
     start-requires
     (λ c κs. search needs)
     (λ c. search needs)
-    sub-t18
+    -- no more steps than there were are left
+    (λ c.
+    let ran = c .before .before .before .before .before .before in
+    let has = ran .before .before .before .before .before .before .before .before .before .before .pre in
+    rw (c .before .before .state .given .1) at (ran .evaluate-all .ensures (has .before) (has .rows) (has .means) (has .is) (has .filled-in)) .fewer)
     (λ c. search needs)
     returns-3
     (λ c. search needs)

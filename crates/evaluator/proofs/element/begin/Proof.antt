@@ -5,34 +5,15 @@ use Rattle.evaluator.proofs.Begins.{begin-none, begin-performs}
 use Rattle.evaluator.proofs.element.begin.Statement.{statement}
 use Rattle.evaluator.proofs.element.begin.Tie as tie
 
-plan-requires : tie.Need-plan-requires
-plan-requires c κs =
-    let start = c .before .before .before .before .before .before .before .before .before .before .before in
-    let some = start .pre in
-    record {
-      work = start .args .w .now;
-      state = start .args .state;
-      expression = some .expression;
-      here = some .here;
-      is = some .begins .is;
-      setting = some .begins .setting;
-    }
-
 perform-requires : tie.Need-perform-requires
 perform-requires c κs =
     let step = c .before .before .before .before .before .before .before .before .before in
     let told = c .before .before .before .before .before .before .before .stepped .given in
     let start = step .before .before .before .before .before .before in
-    let x = start .args in
     let b = start .pre .begins in
-    let p = begin-performs b (step .before .before .row .ensures) (told .0 .0) (sym (step .step .ensures) ∙ told .1) (c .before .before .before .plan .ensures _ (b .is) (x .w .now) (x .state) _ (b .setting)) in
-    (x .state, start .pre .expression, start .pre .here, p .0, p .1)
-
-returns : tie.Need-returns
-returns c =
-    let step = c .before .before .before in
-    let told = c .before .number .given in
-    (λ bound run e h b. begin-none b (step .before .before .row .ensures) run (told .0 .0) (told .0 .1 .0) (sym (step .step .ensures) ∙ told .1), refl)
+    let planned = c .before .before .before .plan .ensures _ (b .is) (start .args .w .now) (start .args .state) _ (b .setting) in
+    let p = begin-performs b (step .before .before .row .ensures) (told .0 .0) planned (sym (step .step .ensures) ∙ told .1) in
+    (start .args .state, start .pre .expression, start .pre .here, p .0, p .1)
 
 returns-2 : tie.Need-returns-2
 returns-2 c =
@@ -42,7 +23,8 @@ returns-2 c =
     let step = c .before .before .before .before .before .before .before .before .before .before .before .before in
     let x = step .before .before .before .before .before .before .args in (
       λ bound run e h b.
-          let p = begin-performs b (step .before .before .row .ensures) (told .0 .0) (sym (step .step .ensures) ∙ told .1) (plan .ensures e (b .is) (x .w .now) (x .state) h (b .setting)) in
+          let planned = plan .ensures e (b .is) (x .w .now) (x .state) h (b .setting) in
+          let p = begin-performs b (step .before .before .row .ensures) (told .0 .0) planned (sym (step .step .ensures) ∙ told .1) in
           perform .ensures .0 (x .state) run e h (p .0) (p .1),
       perform .ensures .1,
     )
@@ -55,8 +37,15 @@ begin-spec =
     (λ c κs. search needs)
     (λ c. search needs)
     (λ c. search needs)
-    plan-requires
+    -- `plan` asks
+    (λ c κs.
+    let some = c .before .before .before .before .before .before .before .before .before .before .before .pre in
+    record { work = _; state = _; expression = some .expression; here = some .here; is = some .begins .is; setting = some .begins .setting })
     perform-requires
-    returns
+    -- no step is left
+    (λ c.
+    let step = c .before .before .before in
+    let told = c .before .number .given in
+    (λ bound run e h b. begin-none b (step .before .before .row .ensures) run (told .0 .0) (told .0 .1 .0) (sym (step .step .ensures) ∙ told .1), refl))
     (λ c. search needs)
     returns-2)
