@@ -85,7 +85,7 @@ module _ (s t w : List ℕ) (floor : ℕ) where
   shows-length (e ∷ es) [] h = absurd h
   shows-length (e ∷ es) (d ∷ ds) h = ap suc (shows-length es ds (h .1))
 
-  pub shows-more : (e : ℕ) (es : List ℕ) (d : Definition) (ds : Scope) → EntryAt s t w floor e (d .marker) (d .name) (d .content)
+  shows-more : (e : ℕ) (es : List ℕ) (d : Definition) (ds : Scope) → EntryAt s t w floor e (d .marker) (d .name) (d .content)
       → Shows s t w floor es ds → Shows s t w floor (e ∷ es) (d ∷ ds)
   unfolding Shows
   shows-more e es d ds h l = (h, l)
@@ -112,7 +112,7 @@ module _ (s t w : List ℕ) (floor : ℕ) where
   entry-lower floor′ less e m n (value vs) (value-at from to f k p low order short stand) = value-at from to f k p (omega arith) order short stand
   entry-lower floor′ less e m n (function body) (function-at f k code) = function-at f k code
 
-  pub shows-lower : (floor′ : ℕ) → floor′ ≤ floor → (es : List ℕ) (ds : Scope) → Shows s t w floor es ds → Shows s t w floor′ es ds
+  shows-lower : (floor′ : ℕ) → floor′ ≤ floor → (es : List ℕ) (ds : Scope) → Shows s t w floor es ds → Shows s t w floor′ es ds
   shows-lower floor′ less = shows-each (entry-lower floor′ less)
 
   behind-more : (visible : ℕ) (e : ℕ) (es : List ℕ) (behind : Scope) → visible ≤ length es
