@@ -1,10 +1,10 @@
 -- Laws of parts of the workspace: one behind the other, what is written and what that leaves as it was, and a move byte for byte.
 -- Document 01: "Workspace" says how much; where in it is the code's own. Assumes nothing.
-use Prim.Native.Nat.{ℕ, zero, suc, _+_, _-_, _≤_, _<_}
+use Prim.Native.Nat.{ℕ, suc, _+_, _-_, _≤_, _<_}
 use mathlib.Core.Path.{_≡_, refl, sym, ap, _∙_}
 use mathlib.Core.List.{List, [], _∷_, _++_, append-assoc, append-nil}
 use lib.ListN.{length, getD, set, take, drop, length-append, take-append-drop}
-use lib.Seq.{slice, slice-cons, slice-empty, length-slice, length-take-le, take-nil, take-at, drop-at, take-take, drop-drop, drop-append-le, getD-take, getD-drop}
+use lib.Seq.{slice, slice-cons, slice-empty, length-slice, length-take-le, take-at, drop-at, take-take, drop-drop, getD-take, getD-drop}
 use native.Mathlib.Omega.{arith}
 use native.Mathlib.Numerals.{add-one}
 use Rattle.writer.specs.Bytes.{put-at, Put}
@@ -132,20 +132,20 @@ put-before w at bs cs room =
 slice-one : (a b : ℕ) (w : List ℕ) → b ≡ a + 1 → a < length w → slice a b w ≡ getD w a 0 ∷ []
 slice-one a b w h h′ = rw (h, add-one a) (slice-cons a (suc a) w 0 (omega arith) (omega arith) ∙ rw (slice-empty (suc a) w))
 
--- the bytes from one place up to another, moved to a third
+-- the bytes from one up to another, moved to a third
 abbrev pub moved : List ℕ → ℕ → ℕ → ℕ → List ℕ
 moved w from to at = put-at w at (slice from to w)
 
 pub moved-none : (w : List ℕ) (from to at : ℕ) → from ≡ to → w ≡ moved w from to at
 moved-none w from to at h = rw (h, slice-empty to w) (put-none w at .is)
 
--- the bytes from one place up to another are moved; i of n are or are left
+-- the bytes from one up to another are moved; i of n are or are left
 pub record Moving (w₀ w : List ℕ) (i n from to at : ℕ) : Type 0 where
   pub few : i ≤ n
   pub size : length w ≡ length w₀
   pub is : w ≡ moved w₀ from to at
 
--- one byte more, of those behind, to a lower place
+-- one byte more, of those behind, downwards
 pub moved-next : (w : List ℕ) (from at i : ℕ) → at ≤ from → from + i < length w → let w′ = moved w from (from + i) at in
     set w′ (at + i) (getD w′ (from + i) 0) ≡ moved w from (from + (i + 1)) at
 moved-next w from at i h h′ =
@@ -164,7 +164,7 @@ moved-next w from at i h h′ =
     ∙ ap (λ (k : ℕ). put-at w′ (at + k) (b ∷ [])) (sym size)
     ∙ put-at-more w at bs room (b ∷ []))
 
--- one byte more, of those before, to a higher place
+-- one byte more, of those before, upwards
 pub moved-before : (w : List ℕ) (from to at k : ℕ) → from ≤ at → at + (to - from) ≤ length w → 0 < k → from + k ≤ to
     → let w′ = moved w (from + k) to (at + k) in set w′ (at + (k - 1)) (getD w′ (from + (k - 1)) 0) ≡ moved w (from + (k - 1)) to (at + (k - 1))
 moved-before w from to at k h h′ h″ in-part =

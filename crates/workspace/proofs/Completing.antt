@@ -6,18 +6,19 @@ use mathlib.Core.Path.{_≡_, refl, sym, ap, _∙_}
 use mathlib.Core.List.{List, [], _∷_, _++_, append-assoc, append-nil}
 use lib.ListN.{length, set, take, drop, length-append, length-take, length-drop}
 use lib.Seq.{slice, length-slice}
-use mathlib.Core.Bool.{Bool, true, false}
-use lib.Dec.{eqb}
+use borrow.Author.Tests.{ne-eqb}
 use native.Mathlib.Omega.{arith}
-use Rattle.spec.specs.Expr.{if_then_else_, Atom, nil, array, int, ref, if-array, atom, form, Exprs, only, depth, deepest, array-head, atom-bytes, bytes, canonical}
-use Rattle.spec.specs.Reading.{atom-kind}
+use Rattle.spec.specs.Expr.{Atom, nil, array, int, ref, atom, form, Exprs, only, depth, deepest, atom-bytes, bytes, canonical}
 use Rattle.spec.specs.Nodes.{leaf, branch, Nodes, empty, cons, unnumbered, unnumbered-all}
-use Rattle.laws.proofs.Atoms.{head-bounds}
+use Rattle.laws.specs.Demands.{Bytes}
+use Rattle.laws.proofs.Fits.{bytes-take, bytes-drop}
+use Rattle.laws.proofs.Shortest.{spelled-fits}
 use Rattle.atoms.specs.Tokens.{atom-head}
 use Rattle.writer.specs.Bytes.{put-at, with-head}
 use Rattle.writer.proofs.Puts.{length-put-at, put-at-more, stored}
 use Rattle.rows.specs.Rows.{cell, LeafAt, NodeAt, NodesAt}
-use Rattle.workspace.specs.Completed.{Fitting, Stand, with-top, Complete, Incomplete, too-deep, too-long, BodyOf, Atoms, Stored}
+use Rattle.rows.specs.declared.forms.Form.{Form}
+use Rattle.workspace.specs.Completed.{Fitting, Stand, with-top, Complete, Incomplete, too-deep, too-long, BodyOf, Atoms, SomeAtoms, Stored}
 use Rattle.workspace.specs.declared.values.State.{State}
 use Rattle.workspace.specs.declared.values.Body.{Body}
 use Rattle.rows.proofs.Nodes.{leaf-array, leaf-nil, leaf-int, leaf-ref, nodes-done, nodes-first, leaf-at, leaf-skipped}
@@ -111,72 +112,67 @@ module _ (vs : Exprs) (n : ℕ) (size : length (canonical vs) ≡ n) where
 
 -- An atom of the stream
 
-pub leaf-body : {s t : List ℕ} {r : ℕ} {b : Body} (a : Atom) → LeafAt s t r a → b .kind ≡ cell t r 0
-    → b .from ≡ if-array a (λ bs. cell t r 2 - length bs) (cell t r 1) → b .to ≡ cell t r 2 → BodyOf s a b
-unfolding atom-bytes
-leaf-body {s} {t} {r} {b} a l k f e = go a l (k ∙ l .row .kind-is) f
-  where
-    part : (x : List ℕ) (a : Atom) → LeafAt s t r a → b .kind ≡ atom-kind a → b .from ≤ b .to → slice (b .from) (cell t r 2) s ≡ x
-        → with-head (atom-kind a) x ≡ atom-bytes a → BodyOf s a b
-    part x a l k h is own = record {
-      order = h;
-      inside = omega (arith, e, l .row .ends);
-      short = l .row .short;
-      is = rw (k, e) (ap (with-head (atom-kind a)) (sym (slice-take (b .from) (cell t r 2) s) ∙ is) ∙ own);
-    }
+-- an array's bytes, or all bytes of another atom
+module _ {s t : List ℕ} {r : ℕ} {b : Body} (kind : b .kind ≡ cell t r 0) (to : b .to ≡ cell t r 2) where
+  pub body-array : {bs : List ℕ} → LeafAt s t r (array bs) → b .from ≡ cell t r 2 - length bs → BodyOf s (array bs) b
+  unfolding atom-bytes
+  body-array l from = record {
+    order = omega arith;
+    inside = omega (arith, l .row .ends);
+    short = l .row .short;
+    is = rw (kind ∙ l .row .kind-is, ← slice-take (b .from) (b .to) s, from, to) (ap (with-head 2) (leaf-array l .0));
+  }
 
-    go : (a : Atom) → LeafAt s t r a → b .kind ≡ atom-kind a → b .from ≡ if-array a (λ bs. cell t r 2 - length bs) (cell t r 1) → BodyOf s a b
-    go nil l k f = part (atom-bytes nil) nil l k (omega (arith, e, l .row .starts)) (rw f (leaf-nil l)) refl
-    go (array bs) l k f = part bs (array bs) l k (omega (arith, e)) (rw f (leaf-array l .0)) refl
-    go (int v) l k f = part (atom-bytes (int v)) (int v) l k (omega (arith, e, l .row .starts)) (rw f (leaf-int l)) refl
-    go (ref m n) l k f = part (atom-bytes (ref m n)) (ref m n) l k (omega (arith, e, l .row .starts)) (rw f (leaf-ref l)) refl
-
-head-short : (kind n : ℕ) → length (atom-head kind n) ≤ 4
-head-short kind n = go (eqb kind 2)
-  where
-    go : (b : Bool) → length (if b then array-head n else []) ≤ 4
-    go true = head-bounds n .1
-    go false = omega arith
+  pub body-other : (a : Atom) → LeafAt s t r a → (b .kind ≡ 2 → ⊥) → b .from ≡ cell t r 1 → BodyOf s a b
+  body-other a l h from = record {
+    order = omega (arith, l .row .starts);
+    inside = omega (arith, l .row .ends);
+    short = l .row .short;
+    is = rw (ne-eqb (b .kind) 2 h, ← slice-take (b .from) (b .to) s, from, to) (go a l);
+  }
+    where
+      go : (a : Atom) → LeafAt s t r a → slice (cell t r 1) (cell t r 2) s ≡ atom-bytes a
+      go nil l = leaf-nil l
+      go (array bs) l = absurd (h (kind ∙ l .row .kind-is))
+      go (int v) l = leaf-int l
+      go (ref m n) l = leaf-ref l
 
 -- an atom alone
 pub only-atom : (a : Atom) → (canonical (only (atom a)) ≡ atom-bytes a) × (deepest (only (atom a)) ≤ 64)
 unfolding bytes depth
 only-atom a = (append-nil (atom-bytes a), omega arith)
 
-module _ {s : List ℕ} {a : Atom} {b : Body} (of : BodyOf s a b) where
-  pub body-size : length (atom-bytes a) ≡ length (atom-head (b .kind) (b .to - b .from)) + (b .to - b .from)
-  body-size =
-      let x = take (b .to - b .from) (drop (b .from) s) in
-      let n : length x ≡ b .to - b .from = simp (length-take, length-drop) (omega (arith, of .order, of .inside)) in
-      ap length (sym (of .is)) ∙ length-append (atom-head (b .kind) (length x)) x ∙ rw n
-
-  pub body-short : length (atom-bytes a) ≤ 65540
-  body-short = omega (arith, body-size, of .inside, of .short, head-short (b .kind) (b .to - b .from))
+pub body-size : {s : List ℕ} {a : Atom} {b : Body} → BodyOf s a b → length (atom-bytes a) ≡ length (atom-head (b .kind) (b .to - b .from)) + (b .to - b .from)
+body-size {s} {a} {b} of =
+    let x = take (b .to - b .from) (drop (b .from) s) in
+    let n : length x ≡ b .to - b .from = simp (length-take, length-drop) (omega (arith, of .order, of .inside)) in
+    ap length (sym (of .is)) ∙ length-append (atom-head (b .kind) (length x)) x ∙ rw n
 
 pub atom-sized : {a : Atom} {n : ℕ} → n ≡ length (atom-bytes a) → Sized (only (atom a)) n
 atom-sized {a} size = record { shallow = only-atom a .1; size = ap length (only-atom a .0) ∙ sym size }
 
 -- Atoms of the stream, one after the other
 
-leaf-short : (s t : List ℕ) (r : ℕ) (a : Atom) → LeafAt s t r a → length (atom-bytes a) ≤ 65540
-leaf-short s t r a l =
-    let from : ℕ = if-array a (λ bs. cell t r 2 - length bs) (cell t r 1) in
-    body-short (leaf-body {b = record { kind = cell t r 0; from = from; to = cell t r 2 }} a l refl refl refl)
+module _ (s t : List ℕ) (b : Bytes s) where
+  -- an atom's canonical bytes are no more than those in the stream
+  leaf-short : (r : ℕ) (a : Atom) → LeafAt s t r a → length (atom-bytes a) ≤ 65536
+  leaf-short r a l =
+      let own = bytes-drop (cell t r 1) (take (cell t r 2) s) (bytes-take (cell t r 2) s b) in
+      omega (arith, spelled-fits a (slice (cell t r 1) (cell t r 2) s) own (l .spells) .1, length-slice (cell t r 1) (cell t r 2) s (l .row .ends), l .row .ends, l .row .short)
 
-module _ (s t : List ℕ) where
-  -- they are few, and none is long
+  -- and they are few
   atoms-below : (r end : ℕ) (es : Nodes) → NodesAt s t r end es → Atoms es
-      → length (canonical (unnumbered-all es)) + 65540 * r ≤ 65540 * max r 65536
+      → length (canonical (unnumbered-all es)) + 65536 * r ≤ 65536 * max r 65536
   unfolding unnumbered bytes
   atoms-below r end empty at atoms = omega arith
   atoms-below r end (cons (leaf q a) es) at atoms =
       let l = leaf-at s t r q a (nodes-first s t r end (leaf q a) es at .1) in
       let rest = atoms-below (r + 1) end es (leaf-skipped s t r end q a es at) atoms in
-      simp length-append (omega (arith, leaf-short s t r a l, l .row .few))
+      simp length-append (omega (arith, leaf-short r a l, l .row .few))
   atoms-below r end (cons (branch q fs) es) at atoms = absurd atoms
 
-  pub atoms-short : (r end : ℕ) (es : Nodes) → NodesAt s t r end es → Atoms es → length (canonical (unnumbered-all es)) ≤ 65540 * 65536
-  atoms-short r end es at atoms = omega (arith, atoms-below r end es at atoms)
+  pub atoms-short : {f : Form} (some : SomeAtoms s t f) → length (canonical (unnumbered-all (some .nodes))) ≤ 65536 * 65536
+  atoms-short {f} some = omega (arith, atoms-below (f .first) (f .end) (some .nodes) (some .at) (some .atoms))
 
 pub atoms-flat : (es : Nodes) → Atoms es → deepest (unnumbered-all es) ≡ 0
 unfolding unnumbered depth

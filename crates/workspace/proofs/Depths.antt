@@ -2,7 +2,7 @@
 -- Document 01: "in evaluation, a value with over 64 forms one inside another". Assumes nothing.
 use Prim.Native.Nat.{ℕ, _+_, _-_, _≤_, _<_}
 use mathlib.Core.Path.{_≡_, sym, subst}
-use mathlib.Core.List.{List, [], _∷_, _++_, append-assoc, append-nil}
+use mathlib.Core.List.{List, [], _∷_, append-nil}
 use mathlib.Core.Bool.{Bool, true, false}
 use native.Mathlib.Omega.{arith}
 use lib.ListN.{length, drop, length-drop}
@@ -14,7 +14,7 @@ use Rattle.laws.specs.Demands.{Bytes}
 use Rattle.laws.specs.Grammar.{Spells, SpellsAll}
 use Rattle.laws.proofs.Fits.{FitsAll}
 use Rattle.laws.proofs.Tokens.{tokens-few}
-use Rattle.laws.proofs.Reading.{tokens-atom, tokens-form, tokens-closing, form-end, more-end, canonical-spells}
+use Rattle.laws.proofs.Reading.{expr-tokens, all-tokens, tokens-all, canonical-spells}
 use Rattle.laws.proofs.Steps.{tokens-from}
 use Rattle.atoms.specs.Tokens.{token-at, shown}
 use Rattle.atoms.specs.declared.Token.{Token as Answer}
@@ -37,71 +37,52 @@ few-tokens (closing p ∷ ts) d b w h = few-tokens ts (d - 1) b (w .1) (omega (a
 few-tokens (whole a p e ∷ ts) d b w h = few-tokens ts d b w (omega arith)
 few-tokens (bad v p ∷ ts) d b w h = absurd w
 
--- how many tokens the bytes s have from place p on
-abbrev count : ℕ → List ℕ → ℕ
-count p s = length (tokens p 0 s)
-
--- whole expressions in front of other bytes take none of their tokens
+-- whole expressions in front of other tokens take none of them
 mutual
-  count-expr : (e : Expr) (x : List ℕ) → Spells e x → (p : ℕ) (s : List ℕ) → count (p + length x) s ≤ count p (x ++ s)
-  count-expr (atom a) x sp p s = rw (tokens-atom a x sp p s) (omega arith)
-  count-expr (form es) x sp p s =
-      let y = sp .0 in
-      let inner = rw (tokens-closing (p + 1 + length y) s, form-end y p) at (count-all es y (sp .2) (p + 1) (0x02 ∷ s)) in
-      rw (sp .1, tokens-form y p s) (omega (arith, inner))
+  unfolding expr-tokens
 
-  count-all : (es : Exprs) (x : List ℕ) → SpellsAll es x → (p : ℕ) (s : List ℕ) → count (p + length x) s ≤ count p (x ++ s)
-  count-all none x sp p s =
-      let place : p + 0 ≡ p = omega arith in
-      rw (sp, place) (omega arith)
-  count-all (more e es) x sp p s =
-      let y = sp .0 in
-      let z = sp .1 in
-      rw (sp .2, append-assoc y z s, ← more-end y z p)
-      (omega (arith, count-expr e y (sp .3) p (z ++ s), count-all es z (sp .4) (p + length y) s))
+  count-expr : (e : Expr) (x : List ℕ) (sp : Spells e x) (p : ℕ) (ts : List Token) → length ts ≤ length (expr-tokens e x sp p ts)
+  count-expr (atom a) x sp p ts = omega arith
+  count-expr (form es) x sp p ts = omega (arith, count-all es (sp .0) (sp .2) (p + 1) (closing (p + 1 + length (sp .0)) ∷ ts))
 
--- whole expressions in front of other bytes: if they are too deep that decides, else what follows does
+  count-all : (es : Exprs) (x : List ℕ) (sp : SpellsAll es x) (p : ℕ) (ts : List Token) → length ts ≤ length (all-tokens es x sp p ts)
+  count-all none x sp p ts = omega arith
+  count-all (more e es) x sp p ts =
+      omega (arith, count-expr e (sp .0) (sp .3) p (all-tokens es (sp .1) (sp .4) (p + length (sp .0)) ts), count-all es (sp .1) (sp .4) (p + length (sp .0)) ts)
+
+-- whole expressions in front of other tokens: if they are too deep that decides, else what follows does
 mutual
-  unfolding depth
+  unfolding depth expr-tokens
 
-  within-expr : (e : Expr) (x : List ℕ) → Spells e x → (p d : ℕ) (s : List ℕ) (b : Bool) → d ≤ 63 → d ≤ count (p + length x) s
-      → (depth e + d ≤ 63 → Within (tokens (p + length x) 0 s) d b) → (63 < depth e + d → b ≡ false) → Within (tokens p 0 (x ++ s)) d b
-  within-expr (atom a) x sp p d s b h c on deep = rw (tokens-atom a x sp p s) (on (omega arith))
-  within-expr (form es) x sp p d s b h c on deep =
-      let y = sp .0 in
+  within-expr : (e : Expr) (x : List ℕ) (sp : Spells e x) (p d : ℕ) (ts : List Token) (b : Bool) → d ≤ 63 → d ≤ length ts
+      → (depth e + d ≤ 63 → Within ts d b) → (63 < depth e + d → b ≡ false) → Within (expr-tokens e x sp p ts) d b
+  within-expr (atom a) x sp p d ts b h c on deep = on (omega arith)
+  within-expr (form es) x sp p d ts b h c on deep =
       let back : d + 1 - 1 ≡ d = omega arith in
-      let closed : d + 1 ≤ count (p + 1 + length y) (0x02 ∷ s) =
-      rw (tokens-closing (p + 1 + length y) s, form-end y p) (omega (arith, rw (sp .1) at c)) in
-      let behind : deepest es + (d + 1) ≤ 63 → Within (tokens (p + 1 + length y) 0 (0x02 ∷ s)) (d + 1) b =
-      λ k. rw (tokens-closing (p + 1 + length y) s, back, form-end y p) (omega arith, rw (sp .1) at (on (omega arith))) in
-      rw (sp .1, tokens-form y p s) (
-        omega (arith, closed, count-all es y (sp .2) (p + 1) (0x02 ∷ s)),
+      let behind : List Token = closing (p + 1 + length (sp .0)) ∷ ts in (
+        omega (arith, count-all es (sp .0) (sp .2) (p + 1) behind),
         λ k. deep (omega arith),
-        λ k. within-all es y (sp .2) (p + 1) (d + 1) (0x02 ∷ s) b (omega arith) closed behind (λ l. deep (omega arith)),
+        λ k. within-all es (sp .0) (sp .2) (p + 1) (d + 1) behind b (omega arith) (omega arith) (λ l. (omega arith, rw back (on (omega arith)))) (λ l. deep (omega arith)),
       )
 
-  within-all : (es : Exprs) (x : List ℕ) → SpellsAll es x → (p d : ℕ) (s : List ℕ) (b : Bool) → d ≤ 63 → d ≤ count (p + length x) s
-      → (deepest es + d ≤ 63 → Within (tokens (p + length x) 0 s) d b) → (63 < deepest es + d → b ≡ false) → Within (tokens p 0 (x ++ s)) d b
-  within-all none x sp p d s b h c on deep =
-      let place : p + 0 ≡ p = omega arith in
-      rw sp (rw (sp, place) at (on (omega arith)))
-  within-all (more e es) x sp p d s b h c on deep =
-      let y = sp .0 in
-      let z = sp .1 in
-      let later : d ≤ count (p + length y + length z) s = rw (more-end y z p, ← sp .2) c in
-      rw (sp .2, append-assoc y z s)
-      (within-expr e y (sp .3) p d (z ++ s) b h (omega (arith, later, count-all es z (sp .4) (p + length y) s))
-      (λ k. within-all es z (sp .4) (p + length y) d s b h later (λ l. rw (more-end y z p, ← sp .2) (on (omega arith))) (λ l. deep (omega arith)))
-      (λ k. deep (omega arith)))
+  within-all : (es : Exprs) (x : List ℕ) (sp : SpellsAll es x) (p d : ℕ) (ts : List Token) (b : Bool) → d ≤ 63 → d ≤ length ts
+      → (deepest es + d ≤ 63 → Within ts d b) → (63 < deepest es + d → b ≡ false) → Within (all-tokens es x sp p ts) d b
+  within-all none x sp p d ts b h c on deep = on (omega arith)
+  within-all (more e es) x sp p d ts b h c on deep =
+      let q : ℕ = p + length (sp .0) in
+      within-expr e (sp .0) (sp .3) p d (all-tokens es (sp .1) (sp .4) q ts) b h (omega (arith, count-all es (sp .1) (sp .4) q ts))
+      (λ k. within-all es (sp .1) (sp .4) q d ts b h c (λ l. on (omega arith)) (λ l. deep (omega arith)))
+      (λ k. deep (omega arith))
 
 within-canonical : (vs : Exprs) → FitsAll vs → Within (tokens 0 0 (canonical vs)) 0 (leb (deepest vs) 63)
 unfolding tokens
 within-canonical vs f =
-    rw (sym (append-nil (canonical vs)))
-    (within-all vs (canonical vs) (canonical-spells vs f) 0 0 [] (leb (deepest vs) 63) (omega arith) (omega arith)
+    let sp = canonical-spells vs f in
+    rw (sym (append-nil (canonical vs)), tokens-all vs (canonical vs) sp 0 [])
+    (within-all vs (canonical vs) sp 0 0 [] (leb (deepest vs) 63) (omega arith) (omega arith)
     (λ h. le-leb (deepest vs) 63 (omega arith)) (λ h. lt-leb (deepest vs) 63 (omega arith)))
 
--- At place p of the canonical bytes of values, d forms are open, and what is left decides whether the values are shallow.
+-- At byte p of the canonical bytes of values, d forms are open, and what is left decides whether the values are shallow.
 pub record Nesting (s : List ℕ) (p d : ℕ) : Type 0 where
   pub stream : Bytes s
   pub inside : p ≤ length s

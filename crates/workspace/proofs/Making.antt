@@ -2,13 +2,11 @@
 use Prim.Native.Nat.{ℕ, suc, _+_, _-_, _≤_, _<_}
 use mathlib.Core.Path.{_≡_, refl, sym, ap, _∙_, subst}
 use mathlib.Core.List.{List, [], _∷_, _++_, append-assoc, append-nil, head-eq-of-cons-eq}
-use mathlib.Core.Bool.{true, false}
 use native.Mathlib.Omega.{arith}
-use lib.ListN.{length, drop, set, length-append}
+use lib.ListN.{length, drop, length-append}
 use lib.Seq.{slice, length-slice, drop-cons, take-at}
-use lib.Dec.{leb}
-use borrow.Author.Tests.{lt-ltb, leb-true, leb-false}
-use Rattle.spec.specs.Expr.{nil, array, int, ref, Expr, atom, form, Exprs, more, only, deepest, depth, array-head, atom-bytes, bytes, canonical}
+use borrow.Author.Tests.{lt-ltb}
+use Rattle.spec.specs.Expr.{nil, array, int, ref, Expr, atom, form, more, only, array-head, atom-bytes, bytes, canonical}
 use Rattle.spec.specs.Reading.{Token, opening, whole, further, tokens}
 use Rattle.laws.proofs.Basics.{impossible}
 use Rattle.laws.proofs.Fits.{FitsExpr, FitsAll}
@@ -18,14 +16,14 @@ use Rattle.laws.proofs.Steps.{split-size, split-rest, tokens-from}
 use Rattle.atoms.specs.Tokens.{token-at, shown}
 use Rattle.reader.proofs.Finding.{spelled-some}
 use Rattle.writer.specs.Bytes.{put-at, Put}
-use Rattle.writer.proofs.Puts.{length-put-at, put-at-more, stored, written-on}
+use Rattle.writer.proofs.Puts.{written-on}
 use Rattle.workspace.specs.Joins.{array-of, array-at}
-use Rattle.workspace.specs.Completed.{Fitting, Stand, Untouched, with-top, Complete, Incomplete, too-deep}
+use Rattle.workspace.specs.Completed.{Fitting, Stand, Untouched, with-top, Complete}
 use Rattle.workspace.specs.declared.made.Bytes.{Bytes}
 use Rattle.workspace.specs.declared.made.Bytes.the-variants.{Array, Other}
 use Rattle.workspace.specs.declared.values.State.{State}
 use Rattle.rows.proofs.Slices.{slice-take}
-use Rattle.workspace.proofs.Areas.{stand-size, untouched-then, slice-below, put-untouched, slice-put, put-before, moved}
+use Rattle.workspace.proofs.Areas.{stand-size, untouched-then, slice-below, put-untouched, slice-put, moved}
 use Rattle.workspace.proofs.Completing.{Sized, written, only-atom}
 use Rattle.workspace.proofs.Spread.{slice-rest}
 
@@ -94,7 +92,7 @@ abbrev front-token : Expr → ℕ → Token
 front-token (atom a) p = whole a p (p + length (atom-bytes a))
 front-token (form es) p = opening p
 
--- a value that is an array whose bytes are between two places
+-- a value that is an array whose bytes are from p up to q
 pub record IsArray (w : List ℕ) (to : ℕ) (e : Expr) (p q : ℕ) : Type 0 where
   pub own : List ℕ
   pub is : e ≡ atom (array own)
@@ -102,12 +100,12 @@ pub record IsArray (w : List ℕ) (to : ℕ) (e : Expr) (p q : ℕ) : Type 0 whe
   pub end : q ≡ to
   pub part : slice p q w ≡ own
 
--- what the code is told of a value that ends at a place
+-- what the code is told of a value that ends at `to`
 abbrev Operand : List ℕ → ℕ → Expr → Bytes → Type 0
 Operand w to e (Array p q) = IsArray w to e p q
 Operand w to e Other = (bs : List ℕ) → e ≡ atom (array bs) → ⊥
 
--- a value at a place, whatever is behind it
+-- a value from byte p on, whatever is behind it
 module _ (w : List ℕ) (p : ℕ) (e : Expr) (u : List ℕ) (fits : FitsExpr e) (here : drop p w ≡ bytes e ++ u) where
   stands-inside : p < length w
   stands-inside = omega (arith, split-size w p (bytes e) u here, spelled-some e (bytes e) (canonical-expr e fits))

@@ -35,7 +35,7 @@ spelled-few es s sp =
     let counted : length (rows-of (tokens 0 0 s)) ≡ rows-all es = ap length (spelled-rows es s sp) ∙ all-rows-count es s sp 0 in
     omega (arith, rows-few (tokens 0 0 s), tokens-few s 0 0)
 
--- values that are left at a place are right
+-- values that are left at a byte are right
 values-right : (s : List ℕ) (p : ℕ) (vs : Exprs) → Values (drop p s) vs → RightFrom s p 0
 unfolding check tokens
 values-right s p vs v =
@@ -47,19 +47,18 @@ values-right s p vs v =
           ∙ check-all (length s) (length s) vs (drop p s) spells p 0 0 [] (omega (arith, v .shallow)) (omega arith),
     )
 
--- Of the values vs the first n are passed at place p, and where each stands is in `args`.
-pub record Passed (s : List ℕ) (base : ℕ) (args : List ℕ) (p n : ℕ) (vs : Exprs) : Type 0 where
-  pub left : Exprs
+-- Of the values vs the first n are passed at byte p, where each stands is in `args`, and the others are left.
+pub record Passed (s : List ℕ) (base : ℕ) (args : List ℕ) (p n : ℕ) (vs left : Exprs) : Type 0 where
   pub values : Values (drop p s) left
   pub count : size vs ≡ n + size left
-  pub places : (w args′ : List ℕ) → slice base (base + length s) w ≡ s → ((i : ℕ) → i < n → getD args′ i 0 ≡ getD args i 0)
+  pub stand : (w args′ : List ℕ) → slice base (base + length s) w ≡ s → ((i : ℕ) → i < n → getD args′ i 0 ≡ getD args i 0)
       → ArgumentsAt w args′ n (base + p) (base + length s) left → ArgumentsAt w args′ 0 base (base + length s) vs
 
 pub record Spreading (s : List ℕ) (base : ℕ) (args : List ℕ) (p n : ℕ) : Type 0 where
   pub inside : p ≤ length s
   pub few : n ≤ p
   pub some : (vs : Exprs) × Values s vs
-  pub each : (vs : Exprs) → Values s vs → Passed s base args p n vs
+  pub each : (vs : Exprs) → Values s vs → (left : Exprs) × Passed s base args p n vs left
 
 pub spreading-start : (s : List ℕ) (base : ℕ) (args : List ℕ) → ((vs : Exprs) × Values s vs) → Spreading s base args 0 0
 spreading-start s base args some =
@@ -68,12 +67,7 @@ spreading-start s base args some =
       inside = omega arith;
       few = omega arith;
       some = some;
-      each = λ vs v. record {
-        left = vs;
-        values = v;
-        count = omega arith;
-        places = λ w args′ here same at. rw start at at;
-      };
+      each = λ vs v. (vs, record { values = v; count = omega arith; stand = λ w args′ here same at. rw start at at });
     }
 
 -- what is left from the start of a part on begins with the part
@@ -104,64 +98,61 @@ pub record Ended (s : List ℕ) (base : ℕ) (args : List ℕ) (p n e : ℕ) : T
 
 module _ (s : List ℕ) (base : ℕ) (args : List ℕ) (p n : ℕ) (f : Spreading s base args p n) where
   pub spreading-right : RightFrom s p 0
-  spreading-right = let one = f .each (f .some .0) (f .some .1) in values-right s p (one .left) (one .values)
+  spreading-right = let one = f .each (f .some .0) (f .some .1) in values-right s p (one .0) (one .1 .values)
+
+  all-passed : (vs left : Exprs) → Passed s base args p n vs left → length s ≤ p → left ≡ none
+  unfolding bytes
+  all-passed vs none o h = refl
+  all-passed vs (more e es) o h =
+      let length-left = split-size s p (bytes e) (canonical es) (o .values .is) in
+      absurd (omega (arith, spelled-some e (bytes e) (canonical-expr e (o .values .fits .0))))
 
   pub spreading-end : length s ≤ p → (w : List ℕ) (vs : Exprs) → Values s vs → slice base (base + length s) w ≡ s
       → (n ≡ size vs) × ArgumentsAt w args 0 base (base + length s) vs
-  unfolding size bytes ArgumentsAt
-  spreading-end h w vs v here = let o = f .each vs v in go (o .left) (o .values) (o .count) (o .places w args here (λ i l. refl))
-    where
-      go : (left : Exprs) → Values (drop p s) left → size vs ≡ n + size left
-          → (ArgumentsAt w args n (base + p) (base + length s) left → ArgumentsAt w args 0 base (base + length s) vs)
-          → (n ≡ size vs) × ArgumentsAt w args 0 base (base + length s) vs
-      go none l count on = (omega (arith, count), on (omega (arith, f .inside)))
-      go (more e es) l count on =
-          let length-left = split-size s p (bytes e) (canonical es) (l .is) in
-          absurd (omega (arith, spelled-some e (bytes e) (canonical-expr e (l .fits .0))))
+  unfolding size ArgumentsAt
+  spreading-end h w vs v here =
+      let o = f .each vs v in
+      let all : Passed s base args p n vs none = rw (all-passed vs (o .0) (o .1) h) at (o .1) in
+      (omega (arith, all .count), all .stand w args here (λ i l. refl) (omega (arith, f .inside)))
 
-  module _ (e : ℕ) (at-end : e ≡ row-at (rows-of (tokens-from s p)) 0 .end) (packs : n < 64 → n < length args) where
+  module _ (e : ℕ) (at-end : e ≡ row-at (rows-of (tokens-from s p)) 0 .end) (packs : n < 64 → n < length args) (inside : p < length s) where
     -- what holds of the values vs when the first that is left is passed
-    passed : (vs : Exprs) → p < length s → Values s vs
-        → (p < e) × (e ≤ length s) × Passed s base (set args n (pack (base + p) (base + e))) e (n + 1) vs
+    passed : (vs left : Exprs) → Passed s base args p n vs left
+        → (p < e) × (e ≤ length s) × (left′ : Exprs) × Passed s base (set args n (pack (base + p) (base + e))) e (n + 1) vs left′
     unfolding size deepest bytes ArgumentsAt
-    passed vs inside v = let o = f .each vs v in go (o .left) (o .values) (o .count) (o .places)
-      where
-        go : (left : Exprs) → Values (drop p s) left → size vs ≡ n + size left
-            → ((w args′ : List ℕ) → slice base (base + length s) w ≡ s → ((i : ℕ) → i < n → getD args′ i 0 ≡ getD args i 0)
-            → ArgumentsAt w args′ n (base + p) (base + length s) left → ArgumentsAt w args′ 0 base (base + length s) vs)
-            → (p < e) × (e ≤ length s) × Passed s base (set args n (pack (base + p) (base + e))) e (n + 1) vs
-        go none l count places = absurd (omega (arith, ap length (l .is), length-drop p s))
-        go (more c es) l count places =
-            let x = bytes c in
-            let y = canonical es in
-            let spells : Spells c x = canonical-expr c (l .fits .0) in
-            let length-left = split-size s p x y (l .is) in
-            let some = spelled-some c x spells in
-            let rest = split-rest s p x y (l .is) in
-            let first : row-at (rows-of (tokens-from s p)) 0 .end ≡ p + length x =
-            rw (l .is, rows-expr c x spells p y) (expr-first c x spells p (rows-of (tokens (p + length x) 0 y)) .1) in
-            let end : e ≡ p + length x = at-end ∙ first in (
-              omega arith,
-              omega arith,
-              record {
-                left = es;
-                values = record { is = rw end (sym rest); fits = l .fits .1; shallow = omega (arith, l .shallow) };
-                count = omega (arith, count);
-                places = λ w args′ here same on. places w args′ here
-                    (λ i h. same i (omega arith) ∙ getD-set-other args n i (pack (base + p) (base + e)) 0 (λ z. omega arith)) (
-                      base + e,
-                      omega arith,
-                      omega arith,
-                      rw end (part-slice w s base p x y here (f .inside) (l .is)),
-                      λ h. same n (omega arith) ∙ getD-set-same args n (pack (base + p) (base + e)) 0 (packs h),
-                      on,
-                    );
-              },
-            )
+    passed vs none o = absurd (omega (arith, ap length (o .values .is), length-drop p s))
+    passed vs (more c es) o =
+        let v = o .values in
+        let x = bytes c in
+        let y = canonical es in
+        let spells : Spells c x = canonical-expr c (v .fits .0) in
+        let length-left = split-size s p x y (v .is) in
+        let some = spelled-some c x spells in
+        let first : row-at (rows-of (tokens-from s p)) 0 .end ≡ p + length x =
+        rw (v .is, rows-expr c x spells p y) (expr-first c x spells p (rows-of (tokens (p + length x) 0 y)) .1) in
+        let end : e ≡ p + length x = at-end ∙ first in (
+          omega arith,
+          omega arith,
+          es,
+          record {
+            values = record { is = rw end (sym (split-rest s p x y (v .is))); fits = v .fits .1; shallow = omega (arith, v .shallow) };
+            count = omega (arith, o .count);
+            stand = λ w args′ here same on. o .stand w args′ here
+                (λ i h. same i (omega arith) ∙ getD-set-other args n i (pack (base + p) (base + e)) 0 (λ z. omega arith)) (
+                  base + e,
+                  omega arith,
+                  omega arith,
+                  rw end (part-slice w s base p x y here (f .inside) (v .is)),
+                  λ h. same n (omega arith) ∙ getD-set-same args n (pack (base + p) (base + e)) 0 (packs h),
+                  on,
+                );
+          },
+        )
 
-    pub spreading-turn : p < length s → Ended s base args p n e
-    spreading-turn inside =
-        let one = passed (f .some .0) inside (f .some .1) in
+    pub spreading-turn : Ended s base args p n e
+    spreading-turn =
+        let known = f .each (f .some .0) (f .some .1) in
+        let one = passed (f .some .0) (known .0) (known .1) in
         record {
           forward = one .0;
           inside = one .1;
@@ -169,7 +160,7 @@ module _ (s : List ℕ) (base : ℕ) (args : List ℕ) (p n : ℕ) (f : Spreadin
             inside = one .1;
             few = omega (arith, one .0, f .few);
             some = f .some;
-            each = λ vs v. passed vs inside v .2;
+            each = λ vs v. let o = f .each vs v in let turn = passed vs (o .0) (o .1) in (turn .2, turn .3);
           };
         }
 

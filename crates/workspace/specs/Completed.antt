@@ -3,7 +3,7 @@
 -- charged, so that a charge that fits is room enough. Document 01: "Workspace". Assumes nothing.
 use Prim.Native.Nat.{ℕ, _+_, _-_, _≤_, _<_}
 use mathlib.Core.Path.{_≡_}
-use mathlib.Core.List.{List, [], _∷_, _++_}
+use mathlib.Core.List.{List, _++_}
 use lib.ListN.{length, take, drop, getD}
 use lib.Seq.{slice}
 use Rattle.spec.specs.Expr.{Atom, array, Expr, atom, Exprs, none, more, only, deepest, atom-bytes, bytes, canonical}
@@ -13,9 +13,9 @@ use Rattle.rows.specs.Rows.{NodesAt}
 use Rattle.rows.specs.declared.forms.Form.{Form}
 use Rattle.workspace.specs.Packed.{pack}
 use Rattle.workspace.specs.declared.values.State.{State}
-use Rattle.workspace.specs.declared.values.Body.{Body}
 use Rattle.workspace.specs.declared.values.Out.{Out}
 use Rattle.workspace.specs.declared.values.Out.the-variants.{Done, Refused}
+use Rattle.workspace.specs.declared.values.Body.{Body}
 
 -- a state of a workspace
 pub record Fitting (w : List ℕ) (st : State) : Type 0 where
@@ -23,7 +23,7 @@ pub record Fitting (w : List ℕ) (st : State) : Type 0 where
   pub below : st .floor ≤ length w
   pub short : length w ≤ 65536
 
--- the bytes of these values stand in the workspace from one place up to another
+-- the bytes of these values stand in the workspace from one byte up to another
 pub record Stand (w : List ℕ) (from to : ℕ) (vs : Exprs) : Type 0 where
   pub order : from ≤ to
   pub inside : to ≤ length w
@@ -41,13 +41,13 @@ with-floor st floor = record { steps = st .steps; room = st .room; top = st .top
 abbrev pub stepped : State → State
 stepped st = record { steps = st .steps - 1; room = st .room; top = st .top; floor = st .floor }
 
--- what is below one place and from another on is as it was
+-- what is below one byte and from another on is as it was
 pub record Untouched (w w′ : List ℕ) (below from : ℕ) : Type 0 where
   pub size : length w′ ≡ length w
   pub lower : take below w′ ≡ take below w
   pub upper : drop from w′ ≡ drop from w
 
--- the values are complete, charged, and stand from `start` on, in the place of all that stood there
+-- the values are complete, charged, and stand from `start` on, instead of all that stood there
 pub record Complete (w w′ : List ℕ) (st : State) (start : ℕ) (vs : Exprs) (st′ : State) : Type 0 where
   pub shallow : deepest vs ≤ 64
   pub charged : length (canonical vs) ≤ st .room
@@ -99,7 +99,7 @@ pub record Stored (w w′ : List ℕ) (st : State) (start : ℕ) (st′ : State)
   pub bytes : slice (st′ .floor) (st .floor) w′ ≡ slice start (st .top) w
   pub others : Untouched w w′ start (st .floor)
 
--- the values vs stand one after the other from a place up to another, as the arguments with the numbers from i on; where each stands is packed in
+-- the values vs stand one after the other from one byte up to another, as the arguments with the numbers from i on; where each stands is packed in
 -- `args`, if its number is below 64
 unfoldable pub ArgumentsAt : List ℕ → List ℕ → ℕ → ℕ → ℕ → Exprs → Type 0
 ArgumentsAt w args i from to none = from ≡ to

@@ -18,6 +18,6 @@ array-of Closing = Other
 array-of (Whole kind body end) = if eqb kind 2 then Array body end else Other
 array-of (Bad w p) = Other
 
--- the array that begins at a place
+-- the array that begins at a byte
 abbrev pub array-at : List ℕ → ℕ → Bytes
 array-at w p = if ltb p (length w) then array-of (shown (token-at w p)) else Other

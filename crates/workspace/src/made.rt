@@ -55,7 +55,7 @@ fn shallow(values: &[u8]) -> bool
     true
 }
 
-// The form of the values from `from` up to the top, in the place of all from `start` on.
+// The form of the values from `from` up to the top, instead of all from `start` on.
 pub fn wrapped(w: &mut [u8], state: State, start: usize, from: usize, row: usize) -> Out
     requires { ⌜ Fitting (now w) state × (start ≤ from) ⌝ }
     requires { ⌜ ((vs : Exprs) × Stand (now w) from (state .top) vs × FitsAll vs) ⌝ }
@@ -80,7 +80,7 @@ enum Bytes {
     Other,
 }
 
-// The array that stands at a place of the workspace, if one does.
+// The array that stands at a byte of the workspace, if one does.
 fn array_at(w: &[u8], at: usize) -> Bytes
     requires { ⌜ length (now w) ≤ 65536 ⌝ }
     ensures { λ r. ⌜ r ≡ array-at (now (w .entry)) at ⌝ }
@@ -148,7 +148,7 @@ pub fn joined(w: &mut [u8], state: State, start: usize, row: usize) -> Out
 }
 
 // Packs where argument n stands, if n is below 64.
-fn put_place(args: &mut [u32], n: usize, from: usize, to: usize)
+fn put_argument(args: &mut [u32], n: usize, from: usize, to: usize)
     requires { ⌜ (from < to) × (to ≤ 65536) × (length (now args) ≡ 64) ⌝ }
     ensures { λ _. ⌜ now (args .exit) ≡ set (now (args .entry)) n (pack from to) ⌝ }
 {
@@ -157,7 +157,7 @@ fn put_place(args: &mut [u32], n: usize, from: usize, to: usize)
     }
 }
 
-// Where the values stand whose bytes these are, from place `base` of the workspace on, and how many they are.
+// Where the values stand whose bytes these are, from byte `base` of the workspace on, and how many they are.
 pub fn spread(values: &[u8], base: usize, args: &mut [u32; 64]) -> usize
     requires { ⌜ base + length (now values) ≤ 65536 ⌝ }
     requires { ⌜ ((vs : Exprs) × (now values ≡ canonical vs) × FitsAll vs × (deepest vs ≤ 64)) ⌝ }
@@ -167,7 +167,7 @@ pub fn spread(values: &[u8], base: usize, args: &mut [u32; 64]) -> usize
     let mut n: usize = 0;
     while at < values.len() {
         let end = reader::expression_end(values, at);
-        put_place(args, n, base + at, base + end);
+        put_argument(args, n, base + at, base + end);
         n += 1;
         at = end;
     }

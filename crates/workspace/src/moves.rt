@@ -5,7 +5,7 @@ ghost use lib.ListN.{length};
 ghost use lib.Seq.{slice};
 ghost use Rattle.writer.specs.Bytes.{put-at};
 
-// To a lower place, from the first byte on.
+// Downwards, from the first byte on.
 fn move_down(w: &mut [u8], from: usize, to: usize, at: usize)
     requires { ⌜ (from ≤ to) × (to ≤ length (now w)) × (at ≤ from) ⌝ }
     ensures { λ _. ⌜ now (w .exit) ≡ put-at (now (w .entry)) at (slice from to (now (w .entry))) ⌝ }
@@ -18,7 +18,7 @@ fn move_down(w: &mut [u8], from: usize, to: usize, at: usize)
     }
 }
 
-// To a higher place, from the last byte on.
+// Upwards, from the last byte on.
 fn move_up(w: &mut [u8], from: usize, to: usize, at: usize)
     requires { ⌜ (from ≤ to) × (from ≤ at) × (at + (to - from) ≤ length (now w)) ⌝ }
     ensures { λ _. ⌜ now (w .exit) ≡ put-at (now (w .entry)) at (slice from to (now (w .entry))) ⌝ }
@@ -30,7 +30,7 @@ fn move_up(w: &mut [u8], from: usize, to: usize, at: usize)
     }
 }
 
-// The bytes from `from` up to `to` to the place `at`, over what stands there.
+// The bytes from `from` up to `to` moved to `at`, over what stands there.
 pub fn move_bytes(w: &mut [u8], from: usize, to: usize, at: usize)
     requires { ⌜ (from ≤ to) × (to ≤ length (now w)) × (at + (to - from) ≤ length (now w)) ⌝ }
     ensures { λ _. ⌜ now (w .exit) ≡ put-at (now (w .entry)) at (slice from to (now (w .entry))) ⌝ }

@@ -14,7 +14,7 @@ ghost use Rattle.spec.specs.Nodes.{Nodes, unnumbered-all};
 ghost use Rattle.rows.specs.Rows.{LeafAt, NodesAt};
 ghost use Rattle.writer.specs.Bytes.{put-at, Put};
 ghost use Rattle.workspace.specs.declared.values.Out.the-variants.{Done, Refused};
-ghost use Rattle.workspace.specs.Completed.{Fitting, Stand, with-top, with-floor, stepped, BodyOf, Completed, Stored, Atoms, SomeAtoms};
+ghost use Rattle.workspace.specs.Completed.{Fitting, Stand, with-top, with-floor, stepped, BodyOf, Atoms, SomeAtoms, Completed, Stored};
 
 // Steps and workspace that are left, where the finished values end, and where the definitions' begin.
 pub struct State {
@@ -185,7 +185,7 @@ pub fn itself(s: &[u8], table: &[u32], w: &mut [u8], state: State, range: Form) 
     charged(state, n, top + n)
 }
 
-// The values from `from` up to `to`, in the place of all from `start` on.
+// The values from `from` up to `to`, instead of all from `start` on.
 pub fn copied(w: &mut [u8], state: State, from: usize, to: usize, start: usize, row: usize) -> Out
     requires { ⌜ Fitting (now w) state ⌝ }
     requires { ⌜ (from ≤ to) × (to ≤ length (now w)) × (start ≤ state .top) ⌝ }

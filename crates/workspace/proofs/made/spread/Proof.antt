@@ -20,14 +20,14 @@ loop-holds c =
     spreading-start (a .values .now) (a .base) (a .args .now) (v .0, record { is = v .1; fits = v .2; shallow = v .3 })
 
 -- where the value ends
-at-end : (c : tie.After-put-place-arg Inv-loop μ-loop) → let l = c .before .before .before in let a = l .before .before .args in
+at-end : (c : tie.After-put-argument-arg Inv-loop μ-loop) → let l = c .before .before .before in let a = l .before .before .args in
     Ended (a .values .now) (a .base) (l .loop .args) (l .loop .at) (l .loop .n) (c .before .expression-end .result)
 at-end c =
     let l = c .before .before .before in
-    spreading-turn _ _ _ _ _ (l .loop .inv) _ (c .before .expression-end .ensures) (λ h. omega (arith, c .put-place-arg .given)) (c .before .before .loop-test .taken)
+    spreading-turn _ _ _ _ _ (l .loop .inv) _ (c .before .expression-end .ensures) (λ h. omega (arith, c .put-argument-arg .given)) (c .before .before .loop-test .taken)
 
 loop-again : tie.Need-loop-again Inv-loop μ-loop
-loop-again c = rw (c .put-place .ensures) (at-end (c .before) .next)
+loop-again c = rw (c .put-argument .ensures) (at-end (c .before) .next)
 
 returns : tie.Need-returns Inv-loop μ-loop
 returns c = λ w vs here is fits shallow.
@@ -43,7 +43,7 @@ spread-spec =
     (λ c κs. (omega arith, omega arith, spreading-right _ _ _ _ _ (c .before .loop .inv)))
     (λ c. omega arith)
     (λ c. omega (arith, at-end c .inside))
-    (λ c κs. omega (arith, at-end c .forward, at-end c .inside, c .put-place-arg .given))
+    (λ c κs. omega (arith, at-end c .forward, at-end c .inside, c .put-argument-arg .given))
     (λ c. omega arith)
     (λ c. omega (arith, at-end (c .before) .forward))
     loop-again

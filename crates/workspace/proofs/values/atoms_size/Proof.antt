@@ -4,6 +4,7 @@ use mathlib.Core.Path.{_≡_, refl}
 use mathlib.Core.List.{List}
 use native.Mathlib.Omega.{arith}
 use lib.ListN.{length, length-append}
+use Rattle.laws.proofs.Steps.{all-bytes}
 use Rattle.workspace.proofs.Completing.{atoms-short, Upto, Partly, atoms-start, AtomNext, atoms-end, atoms-next}
 use Rattle.workspace.proofs.values.atoms_size.Statement.{statement}
 use Rattle.workspace.proofs.values.atoms_size.Tie as tie
@@ -39,14 +40,8 @@ add-n : tie.Need-add-n Inv-loop μ-loop
 add-n c =
     let k = c .before in
     let l = k .before in
-    let pre = start l .pre in
-    omega (
-      arith,
-      upto l .told,
-      next l .fits,
-      c .size .ensures _ _ (k .body-at .ensures _ (next l .leaf)),
-      atoms-short _ _ _ _ (pre .nodes) (pre .at) (pre .atoms),
-    )
+    let bytes = all-bytes (start l .args .s .now) (λ i. l .before .before .before .shared-slice-known .given i .fits) in
+    omega (arith, upto l .told, next l .fits, c .size .ensures _ _ (k .body-at .ensures _ (next l .leaf)), atoms-short _ _ bytes (start l .pre))
 
 loop-again : tie.Need-loop-again Inv-loop μ-loop
 loop-again c es at atoms =

@@ -1,23 +1,14 @@
 -- `workspace::values::body_at` meets its contract: an array's by `arrays::body`. Assumes nothing.
 use borrow.Author.Needs.{needs}
-use Prim.Native.Nat.{ℕ, _-_}
-use mathlib.Core.Path.{_≡_, refl, sym, _∙_, subst}
+use Prim.Native.Nat.{ℕ}
+use mathlib.Core.Path.{_≡_, sym, _∙_, subst}
 use mathlib.Core.List.{List}
-use lib.ListN.{length}
-use Rattle.spec.specs.Expr.{Atom, nil, array, int, ref, if-array}
-use Rattle.spec.specs.Reading.{atom-kind}
+use Rattle.spec.specs.Expr.{Atom, array}
 use Rattle.rows.specs.Rows.{LeafAt}
 use Rattle.rows.proofs.Nodes.{kind-array, leaf-kind}
-use Rattle.workspace.proofs.Completing.{leaf-body}
+use Rattle.workspace.proofs.Completing.{body-array, body-other}
 use Rattle.workspace.proofs.values.body_at.Statement.{statement}
 use Rattle.workspace.proofs.values.body_at.Tie as tie
-
--- the body of an atom other than an array
-of-other : (from end : ℕ) (a : Atom) → (atom-kind a ≡ 2 → ⊥) → from ≡ if-array a (λ bs. end - length bs) from
-of-other from end nil h = refl
-of-other from end (array bs) h = absurd (h refl)
-of-other from end (int v) h = refl
-of-other from end (ref m n) h = refl
 
 -- an array, if the code is told so
 is-array : (c : tie.After-end) (a : Atom) → let x = c .before .before .before .before .args in LeafAt (x .s .now) (x .table .now) (x .row) a
@@ -37,13 +28,12 @@ returns : tie.Need-returns
 returns c a leaf =
     let k = c .before .before in
     let is = is-array k a leaf (c .before .if1 .taken) in
-    rw (is .1) (leaf-body (array (is .0)) (is .2) (k .before .kind .ensures) (c .body .ensures (is .0) (is .2)) (k .end .ensures))
+    rw (is .1) (body-array (k .before .kind .ensures) (k .end .ensures) (is .2) (c .body .ensures (is .0) (is .2)))
 
 returns-2 : tie.Need-returns-2
 returns-2 c a leaf =
     let k = c .before .before in
-    leaf-body a leaf (k .before .kind .ensures)
-    (rw (c .start .ensures) (of-other _ _ a (λ h. c .before .if1 .left (k .before .kind .ensures ∙ sym (leaf-kind leaf) ∙ h)))) (k .end .ensures)
+    body-other (k .before .kind .ensures) (k .end .ensures) a leaf (c .before .if1 .left) (c .start .ensures)
 
 pub body-at-spec : {M : Type 1} → statement M
 body-at-spec =

@@ -6,6 +6,7 @@ use native.Mathlib.Omega.{arith}
 use lib.ListN.{length-set}
 use Rattle.spec.specs.Expr.{form, only}
 use Rattle.spec.specs.Nodes.{Nodes, unnumbered-all}
+use Rattle.laws.proofs.Steps.{all-bytes}
 use Rattle.rows.specs.Rows.{NodesAt}
 use Rattle.workspace.specs.Completed.{Atoms}
 use Rattle.workspace.proofs.Completing.{Sized, unpaid, written, form-sized, form-written, atoms-short, atoms-flat}
@@ -14,8 +15,10 @@ use Rattle.workspace.proofs.values.itself.Tie as tie
 
 add-n : tie.Need-add-n
 add-n c =
-    let some = c .before .before .before .before .pre .1 in
-    omega (arith, c .atoms-size .ensures (some .nodes) (some .at) (some .atoms), atoms-short _ _ _ _ (some .nodes) (some .at) (some .atoms))
+    let start = c .before .before .before .before in
+    let some = start .pre .1 in
+    let bytes = all-bytes (start .args .s .now) (λ i. c .before .before .before .shared-slice-known .given i .fits) in
+    omega (arith, c .atoms-size .ensures (some .nodes) (some .at) (some .atoms), atoms-short _ _ bytes some)
 
 sized : (c : tie.After-atoms-size) (es : Nodes) → let a = c .before .before .before .before .args in
     NodesAt (a .s .now) (a .table .now) (a .range .first) (a .range .end) es → Atoms es → Sized (only (form (unnumbered-all es))) (c .atoms-size .result + 2)

@@ -1,6 +1,5 @@
 -- `workspace::values::put_atoms` meets its contract: the bytes of the atoms before a row are written. Assumes nothing.
 use Prim.Native.Nat.{ℕ, _-_}
-use mathlib.Core.Path.{refl}
 use mathlib.Core.List.{List}
 use native.Mathlib.Omega.{arith}
 use Rattle.writer.specs.Bytes.{Put}
