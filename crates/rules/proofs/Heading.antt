@@ -8,7 +8,7 @@ use lib.ListN.{length, drop}
 use native.Mathlib.Omega.{arith}
 use Rattle.spec.specs.Expr.{if_then_else_, nil, array, int, ref}
 use Rattle.spec.specs.Nodes.{subst, Node, leaf, branch, Nodes, cons, elements, tail, headed-by}
-use Rattle.spec.specs.Plan.{Scope as Definitions, Found as Sought, inner, element, as-form, as-call, inside, data-form, plan-head, plan-other}
+use Rattle.spec.specs.Plan.{Scope as Definitions, Found as Sought, element, inner, as-form, as-call, inside, data-form, plan-head, plan-other}
 use Rattle.laws.specs.Holding.{skip}
 use Rattle.laws.proofs.Basics.{impossible}
 use Rattle.rows.specs.Rows.{next, NodesAt}
