@@ -13,7 +13,7 @@ use mir.Val.{hasKey}
 use denote.Enum.Declared.{tagOf}
 use native.Mathlib.Omega.{arith}
 use Rattle.spec.specs.Expr.{if_then_else_, int, ref, marker-bytes}
-use Rattle.spec.specs.Nodes.{core, Word, plain, order, is, names, among, word}
+use Rattle.spec.specs.Nodes.{core, Word, plain, order, is, Name, names, among, word}
 use Rattle.laws.proofs.Canonical.{Mark, short, long, marker-bytes-are}
 use Rattle.rows.specs.Rows.{cell, LeafAt, key-of}
 use Rattle.rows.specs.Forms.{meant}
@@ -53,25 +53,25 @@ word-of k = word (k / 256) (k % 256)
 pub word-again : (m n : ℕ) → n < 256 → word-of (key-of m n) ≡ word m n
 word-again m n h = rw (key-marker m n h, key-name m n h)
 
--- a key that is no function name's, in the order in which code looks for them
-pub no-name : (k : ℕ)
-    → (((((Unit {0} × (k ≡ 0x2006 → ⊥)) × (k ≡ 0x2009 → ⊥)) × (k ≡ 0x200A → ⊥)) × (k ≡ 0x200B → ⊥)) × (k ≡ 0x200C → ⊥)) × (k ≡ 0x200D → ⊥)
-    → plain ≡ word-of k
-unfolding word among
+-- a key that is none of these names', in the order in which code looks for them
+abbrev pub Unnamed : Type 0 → List Name → ℕ → Type 0
+Unnamed before [] k = before
+Unnamed before (x ∷ xs) k = Unnamed (before × (k ≡ key-of core (x .byte) → ⊥)) xs k
+
+not-among : (k : ℕ) → k / 256 ≡ core → (xs : List Name) (before : Type 0) → Unnamed before xs k → before × (plain ≡ among xs (k % 256))
+unfolding among
+not-among k e [] before h = (h, refl)
+not-among k e (x ∷ xs) before h =
+    let others = not-among k e xs (before × (k ≡ key-of core (x .byte) → ⊥)) h in
+    (others .0 .0, rw (ne-eqb (x .byte) (k % 256) (λ z. others .0 .1 (omega (arith, z, e)))) (others .1))
+
+pub no-name : (k : ℕ) → Unnamed (Unit {0}) names k → plain ≡ word-of k
+unfolding word
 no-name k h = go (eqb (k / 256) core) refl
   where
     go : (b : Bool) → eqb (k / 256) core ≡ b → plain ≡ if b then among names (k % 256) else plain
     go false e = refl
-    go true e =
-        let high = eqb-true (k / 256) core e in
-        rw (
-          ne-eqb 0x06 (k % 256) (λ z. h .0 .0 .0 .0 .0 .1 (omega arith)),
-          ne-eqb 0x09 (k % 256) (λ z. h .0 .0 .0 .0 .1 (omega arith)),
-          ne-eqb 0x0A (k % 256) (λ z. h .0 .0 .0 .1 (omega arith)),
-          ne-eqb 0x0B (k % 256) (λ z. h .0 .0 .1 (omega arith)),
-          ne-eqb 0x0C (k % 256) (λ z. h .0 .1 (omega arith)),
-          ne-eqb 0x0D (k % 256) (λ z. h .1 (omega arith)),
-        )
+    go true e = not-among k (eqb-true (k / 256) core e) names (Unit {0}) h .1
 
 -- the code's words have the numbers that serve to compare them
 word-number : (w : Coded) → tagOf the-type w ≡ order (meant w)
