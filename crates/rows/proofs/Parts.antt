@@ -124,13 +124,10 @@ pub record TwoAt (s t : List ℕ) (r end : ℕ) (p : Parts) (es : Nodes) : Type 
   pub first : Node
   pub second : Node
   pub is : es ≡ cons head (cons first (cons second empty))
-  pub begins : NodeAt s t r head
   pub one : NodeAt s t (p .second) first
   pub two : NodeAt s t (p .third) second
   pub from-one : NodesAt s t (p .second) end (cons first (cons second empty))
   pub from-two : NodesAt s t (p .third) end (cons second empty)
-  pub behind-head : p .second ≡ next t r
-  pub behind-one : p .third ≡ next t (p .second)
 
 module _ (s t : List ℕ) (r end : ℕ) where
   pub one-at : (es : Nodes) (p : Parts) → NodesAt s t r end es → p ≡ parts-of es → p .count ≡ 2 → OneAt s t p es
@@ -157,12 +154,9 @@ module _ (s t : List ℕ) (r end : ℕ) where
         first = a;
         second = b;
         is = refl;
-        begins = begin .1;
         one = rw second (one .1);
         two = rw third (two .1);
         from-one = rw second (begin .2);
         from-two = rw third (one .2);
-        behind-head = second;
-        behind-one = third ∙ sym (ap (next t) second);
       }
   two-at (cons x (cons a (cons b (cons d es)))) p h e n = absurd (omega (arith, ap (λ (x : Parts). x .count) e))
