@@ -1,10 +1,18 @@
 -- Laws of `Bytes`. And which expressions have canonical bytes that can be read back, depth and length apart: those in which the numbers
--- are small enough. Document 01: "Canonical". Assumes nothing.
+-- are small enough; and the same of nodes. Document 01: "Canonical". Assumes nothing.
 use Prim.Native.Nat.{ℕ, zero, suc, _≤_, _<_}
-use mathlib.Core.List.{List, [], _∷_, _++_}
+use mathlib.Core.Path.{_≡_}
+use mathlib.Core.List.{List, [], _∷_, _++_, map}
+use mathlib.Core.Bool.{true, false}
 use lib.ListN.{take, drop}
 use Rattle.spec.specs.Expr.{Atom, nil, array, int, ref, Expr, atom, form, Exprs, none, more}
+use Rattle.spec.specs.Nodes.{Node, leaf, branch, bytecode, Nodes, empty, cons, Outcome, fails, becomes, row, elements, tail}
+use Rattle.spec.specs.Bytecode.{led-by-name}
+use Rattle.spec.specs.Runs.{step}
 use Rattle.laws.specs.Demands.{Bytes}
+use Rattle.laws.specs.Holding.{NoBytecode}
+use Rattle.laws.specs.Sanity.{RowsBelow, RuleNumber}
+use Rattle.laws.proofs.Basics.{impossible}
 
 pub bytes-take : (n : ℕ) (s : List ℕ) → Bytes s → Bytes (take n s)
 bytes-take zero s b = tt
@@ -43,3 +51,38 @@ abbrev mutual
   pub FitsAll : Exprs → Type 0
   FitsAll none = Unit {0}
   FitsAll (more e es) = FitsExpr e × FitsAll es
+
+-- nodes that fit, at rows of a stream that has so many. A bytecode form is headed by a name, and what it becomes is not.
+module _ (bound : ℕ) where
+  abbrev mutual
+    pub FitsNode : Node → Type 0
+    FitsNode (leaf r a) = (r < bound) × Fits a
+    FitsNode (branch r es) = (r < bound) × FitsNodes es
+    FitsNode (bytecode r es o) = (r < bound) × FitsNodes es × (led-by-name es ≡ true) × FitsOutcome o
+
+    pub FitsNodes : Nodes → Type 0
+    FitsNodes empty = Unit {0}
+    FitsNodes (cons e es) = FitsNode e × FitsNodes es
+
+    pub FitsOutcome : Outcome → Type 0
+    FitsOutcome (fails w) = RuleNumber w
+    FitsOutcome (becomes rows e) = RowsBelow bound (map step rows) × FitsNode e × (led-by-name (elements e) ≡ false)
+
+  pub becomes-other : (rows : List ℕ) (e : Node) → FitsOutcome (becomes rows e) → NoBytecode e
+  becomes-other rows (leaf r a) f = tt
+  becomes-other rows (branch r es) f = tt
+  becomes-other rows (bytecode r es o) f = impossible (cc (f .1 .2, f .2))
+
+  pub row-below : (e : Node) → FitsNode e → row e < bound
+  row-below (leaf r a) f = f .0
+  row-below (branch r es) f = f .0
+  row-below (bytecode r es o) f = f .0
+
+  pub tail-fits : (es : Nodes) → FitsNodes es → FitsNodes (tail es)
+  tail-fits empty f = tt
+  tail-fits (cons e es) f = f .1
+
+  pub elements-fit : (e : Node) → FitsNode e → FitsNodes (elements e)
+  elements-fit (leaf r a) f = tt
+  elements-fit (branch r es) f = f .1
+  elements-fit (bytecode r es o) f = f .1

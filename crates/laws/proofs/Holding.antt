@@ -2,18 +2,19 @@
 -- elements, a call's code, the top level. Document 01: "Steps", "Workspace". Assumes nothing.
 use Prim.Native.Nat.{ℕ, zero, suc, _+_, _-_, _≤_, _<_}
 use mathlib.Core.Path.{_≡_, refl, sym, ap, _∙_}
-use mathlib.Core.List.{List, [], _∷_, _++_}
+use mathlib.Core.List.{List, [], _∷_, _++_, map}
 use mathlib.Core.Bool.{Bool, true, false}
-use lib.ListN.{length, drop}
+use lib.ListN.{length, drop, getD}
 use lib.Dec.{ltb, eqb}
 use borrow.Author.Tests.{lt-ltb, le-ltb, ne-eqb}
 use native.Mathlib.Omega.{arith}
 use Rattle.spec.specs.Expr.{if_then_else_, Exprs, none, append, deepest, canonical}
-use Rattle.spec.specs.Nodes.{Node, Nodes, empty, cons, number-all, markers}
-use Rattle.spec.specs.Runs.{Event, step, charge, End, done, stopped, Run, give, stop, before, follow, bind, Held, reached, ceased, hold-events, hold, steps-in}
-use Rattle.spec.specs.Plan.{Within, top, element, inner, Here}
-use Rattle.spec.specs.Evaluation.{Left, entering, complete, Call, in-order, eval, eval-all, run-code, top-level, start, run, result}
-use Rattle.laws.specs.Holding.{and-hold, beyond, onward, NotTop, together, in-list, skip}
+use Rattle.spec.specs.Nodes.{Node, leaf, branch, bytecode, Nodes, empty, cons, fails, becomes, number-all, row, elements, markers}
+use Rattle.spec.specs.Bytecode.{transform-all}
+use Rattle.spec.specs.Runs.{Event, step, charge, End, done, stopped, Run, give, stop, before, after, follow, bind, Held, reached, ceased, hold-events, hold, steps-in}
+use Rattle.spec.specs.Plan.{Within, top, element, inner, Here, plan}
+use Rattle.spec.specs.Evaluation.{Left, entering, complete, Call, in-order, perform, rule, eval-all, eval, run-code, top-level, start, run, result}
+use Rattle.laws.specs.Holding.{and-hold, beyond, onward, NotTop, NoBytecode, together, in-list, skip}
 use Rattle.laws.specs.Sanity.{RowsBelow, Proper}
 use Rattle.laws.proofs.Basics.{impossible, by-test}
 use Rattle.laws.proofs.Runs.{bind-same, bind-assoc, charges, Holds, ends, lacks-step, lacks-work, holds}
@@ -74,6 +75,21 @@ module _ {A : Type 0} (s w : ℕ) where
     unfolding hold-events
     hold-step h = rw (ne-eqb s 0 (λ e. omega arith))
 
+-- steps one after the other, as many as there are, or the first that there is none for
+module _ {A : Type 0} (run : Run A) where
+  pub hold-steps : (rows : List ℕ) (s w : ℕ) → length rows ≤ s → hold s w (after (map step rows) run) ≡ hold (s - length rows) w run
+  hold-steps [] s w h = let all : s - 0 ≡ s = omega arith in rw all
+  hold-steps (r ∷ rows) s w h =
+      let fewer : s - 1 - length rows ≡ s - length (r ∷ rows) = omega arith in
+      hold-step s w r (after (map step rows) run) (omega arith) ∙ hold-steps rows (s - 1) w (omega arith) ∙ ap (λ (k : ℕ). hold k w run) fewer
+
+  pub hold-steps-none : (rows : List ℕ) (s w : ℕ) → s < length rows → hold s w (after (map step rows) run) ≡ ceased 16 (getD rows s 0)
+  hold-steps-none [] s w h = absurd (omega arith)
+  hold-steps-none (r ∷ rows) zero w h = hold-step-none 0 w r (after (map step rows) run) refl
+  hold-steps-none (r ∷ rows) (suc s) w h =
+      let less : suc s - 1 ≡ s = omega arith in
+      hold-step (suc s) w r (after (map step rows) run) (omega arith) ∙ rw less (hold-steps-none rows s w (omega arith))
+
 module _ (s w r : ℕ) (vs : Exprs) (h : Here) where
   pub hold-complete-deep : 64 < deepest vs → hold s w (complete r vs h) ≡ ceased 6 r
   unfolding hold-events
@@ -122,6 +138,33 @@ module _ {A : Type 0} where
   pub hold-ceased-row : (n s w : ℕ) (run : Run A) (v r : ℕ) → Proper n run → hold s w run ≡ ceased v r → r < n
   hold-ceased-row n s w run v r p h = hold-events-row n (run .end) (λ v r q. p .stops v r q .1) (run .events) s w v r (p .rows-below) h
 
+-- One expression
+
+module _ (call : Call) (h : Here) where
+  -- no bytecode form: by its plan
+  pub rule-plan : (e : Node) → NoBytecode e → rule call e h ≡ perform call (row e) (eval-all call (elements e)) h (plan e h)
+  unfolding rule
+  rule-plan (leaf r a) n = refl
+  rule-plan (branch r es) n = refl
+
+  module _ (r : ℕ) (es : Nodes) where
+    pub rule-fails : (v : ℕ) → rule call (bytecode r es (fails v)) h ≡ stop v r
+    unfolding rule
+    rule-fails v = refl
+
+    -- the flat list's steps, then what it becomes
+    pub rule-becomes : (rows : List ℕ) (e : Node) → rule call (bytecode r es (becomes rows e)) h ≡ after (map step rows) (rule call e h)
+    unfolding rule
+    rule-becomes rows e = refl
+
+  -- its step, then the rule
+  module _ (e : Node) (s w : ℕ) where
+    pub hold-eval-none : s ≡ 0 → hold s w (eval call e h) ≡ ceased 16 (row e)
+    hold-eval-none q = hold-step-none s w (row e) (rule call e h) q
+
+    pub hold-eval : 0 < s → hold s w (eval call e h) ≡ hold (s - 1) w (rule call e h)
+    hold-eval l = hold-step s w (row e) (rule call e h) l
+
 -- Lists of nodes
 
 onward-same : (e : Node) (h : Here) → NotTop (h .within) → onward e h ≡ h
@@ -147,14 +190,14 @@ module _ (call : Call) where
       (and-hold-same (hold s w (eval call e h)) λ one s′ w′ q. hold-bind s′ w′ (ls one) (λ others. give (together one others)))
 
   drop-skip : (k : ℕ) (es : Nodes) → drop k (eval-all call es) ≡ eval-all call (skip k es)
-  unfolding eval skip
+  unfolding rule skip
   drop-skip zero es = refl
   drop-skip (suc k) empty = refl
   drop-skip (suc k) (cons e es) = drop-skip k es
 
   -- `in-order` is `in-list`, but at the top level
   in-order-list : (es : Nodes) (h : Here) → NotTop (h .within) → in-order (eval-all call es) h ≡ in-list call es h
-  unfolding in-order in-list eval
+  unfolding in-order in-list rule
   in-order-list empty h t = refl
   in-order-list (cons e es) h t = bind-same (eval call e h) λ one q.
       let inside : NotTop (one .here .within) = rw (eval-within call e h one q) t in
@@ -205,6 +248,8 @@ top-level-list (cons e es) earlier h =
     ∙ sym (bind-assoc ev _ _)
 
 pub hold-run : (es : Exprs) (s w : ℕ) → hold s w (bind (run es) (λ ls. give (result ls)))
-    ≡ and-hold (hold s w (in-list (run-code 32) (number-all 0 es) start)) (λ left s′ w′. reached (left .values) s′ w′)
+    ≡ and-hold (hold s w (in-list (run-code 32) (transform-all (number-all 0 es)) start)) (λ left s′ w′. reached (left .values) s′ w′)
 unfolding run hold-events
-hold-run es s w = rw (top-level-list (number-all 0 es) [] start) (hold-bind s w (in-list (run-code 32) (number-all 0 es) start) _)
+hold-run es s w =
+    let nodes = transform-all (number-all 0 es) in
+    rw (top-level-list nodes [] start) (hold-bind s w (in-list (run-code 32) nodes start) _)

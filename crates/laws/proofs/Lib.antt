@@ -12,6 +12,7 @@ pub mod Written
 pub mod Steps
 pub mod Items
 pub mod Runs
+pub mod Bytecode
 pub mod Walk
 pub mod Singles
 pub mod Holding

@@ -236,6 +236,20 @@ mutual
   lists-all none x sp p ts = refl
   lists-all (more e es) x sp p ts = lists-expr e (sp .0) (sp .3) p _ ∙ ap (put e) (lists-all es (sp .1) (sp .4) _ ts)
 
+-- a stream that begins with bytes that spell an expression begins with that expression
+pub read-first : (e : Expr) (x s : List ℕ) → Spells e x → Bytes (x ++ s) → (room : ℕ) (rs : List Row) (es : Exprs) → read (x ++ s) room ≡ readable rs es
+    → (fs : Exprs) × (es ≡ more e fs)
+read-first e x s sp b room rs es h =
+    let r = read-readable (x ++ s) room rs es h in
+    let are : lists (tokens 0 0 (x ++ s)) ≡ put e (lists (tokens (0 + length x) 0 s)) =
+    ap lists (tokens-expr e x sp 0 s) ∙ lists-expr e x sp 0 (tokens (0 + length x) 0 s) in
+    let sound = lists-sound (r .well) (length (x ++ s)) 0 (omega arith) (stream-laid (x ++ s) b) .0 in
+    go (lists (tokens (0 + length x) 0 s)) (rw are at sound) (r .means ∙ ap (λ (ls : List Exprs). getD ls 0 none) are)
+  where
+    go : (ls : List Exprs) → ListsFit 0 (put e ls) → es ≡ getD (put e ls) 0 none → (fs : Exprs) × (es ≡ more e fs)
+    go [] f q = absurd f
+    go (fs ∷ ls) f q = (fs, q)
+
 module _ (end room : ℕ) where
   mutual
     unfolding check rows depth expr-tokens

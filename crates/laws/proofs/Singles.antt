@@ -10,14 +10,16 @@ use lib.ListN.{length, drop}
 use lib.Dec.{ltb, eqb}
 use borrow.Author.Tests.{ltb-false, not-true}
 use Rattle.spec.specs.Expr.{if_then_else_, nil, array, int, ref, Expr, atom, form, Exprs, none, more, only, append, size, first, without, deepest, canonical}
-use Rattle.spec.specs.Nodes.{Word, rest, is, Node, leaf, branch, Nodes, empty, cons, elements, tail, headed-by}
+use Rattle.spec.specs.Nodes.{Word, rest, plain, is, Node, leaf, branch, bytecode, Nodes, empty, cons, Outcome, fails, becomes, elements, tail, head-word, headed-by}
 use Rattle.spec.specs.Runs.{charge, done, Run, give, stop, before}
 use Rattle.spec.specs.Plan.{Defined, value, function, Definition, Scope, Found, latest, nothing, look-up, Namespace, Within, element, inner, passed, Here, as-form, as-concat, as-call, Plan, associate, inside, plan}
-use Rattle.spec.specs.Evaluation.{Left, entering, add-namespace, add-definition, complete, join, one-value, Call, Meaning, in-order, perform, eval, eval-all, run-code}
+use Rattle.spec.specs.Evaluation.{Left, entering, add-namespace, add-definition, complete, join, one-value, Call, Meaning, in-order, perform, rule, rule-bytecode, eval-all, eval, run-code}
 use Rattle.laws.specs.Holding.{beyond, onward, NotTop, together, in-list}
 use Rattle.laws.proofs.Basics.{impossible, by-test}
+use Rattle.laws.proofs.Fits.{FitsNode, FitsNodes, FitsOutcome, tail-fits, elements-fit}
+use Rattle.laws.proofs.Bytecode.{unled-plain}
 use Rattle.laws.proofs.Runs.{bind-done}
-use Rattle.laws.proofs.Walk.{Rule, refuses, own, defined, argument, others, associates, defines-function, defines-value, joins, forms, calls, calls-subst, rule}
+use Rattle.laws.proofs.Walk.{Rule, refuses, own, defined, argument, others, associates, defines-function, defines-value, joins, forms, calls, calls-subst, rule-is}
 
 -- What is so of each definition that is visible
 
@@ -39,12 +41,14 @@ pub record Single (vs : Exprs) : Type 0 where
   pub value : Expr
   pub is : vs ≡ only value
 
-abbrev SingleDefined : Defined → Type 0
-SingleDefined (value vs) = Single vs
-SingleDefined (function es) = Unit {0}
+-- a value is one, and a function's code fits, in a stream of so many rows
+module _ (bound : ℕ) where
+  abbrev SingleDefined : Defined → Type 0
+  SingleDefined (value vs) = Single vs
+  SingleDefined (function es) = FitsNodes bound es
 
-abbrev pub SingleScope : Scope → Type 0
-SingleScope = EachDefined SingleDefined
+  abbrev pub SingleScope : Scope → Type 0
+  SingleScope = EachDefined SingleDefined
 
 -- argument n
 argument-single : (n : ℕ) (vs : Exprs) → n < size vs → Single (first 1 (without n vs))
@@ -57,17 +61,17 @@ abbrev NotInner : Within → Type 0
 NotInner p = p ≡ inner → ⊥
 
 -- the definitions that a call's code sees
-pub call-single : (e : Node) (h : Here) (k : ℕ) (p : Within) (code : Nodes) (scope : Scope) → plan e h ≡ inside k p (as-call code scope)
-    → SingleScope (h .scope) → SingleScope scope
-call-single e h k p code scope q s = go (rw q at (rule h e))
+pub call-single : (bound : ℕ) (e : Node) (h : Here) (k : ℕ) (p : Within) (code : Nodes) (scope : Scope) → plan e h ≡ inside k p (as-call code scope)
+    → SingleScope bound (h .scope) → SingleScope bound scope
+call-single bound e h k p code scope q s = go (rw q at (rule-is h e))
   where
-    go : {w : Word} {e : Node} {k : ℕ} {p : Within} {code : Nodes} {scope : Scope} → Rule h w e (inside k p (as-call code scope)) → SingleScope scope
-    go (calls {m = m} {n} t) = rw t at (look-up-each SingleDefined m n (h .scope) s) .1
+    go : {w : Word} {e : Node} {k : ℕ} {p : Within} {code : Nodes} {scope : Scope} → Rule h w e (inside k p (as-call code scope)) → SingleScope bound scope
+    go (calls {m = m} {n} t) = rw t at (look-up-each (SingleDefined bound) m n (h .scope) s) .1
     go (calls-subst t) = s
 
 -- 19: "more than [..] 64 namespaces"
 pub plan-counted : (e : Node) (h : Here) (vs : Exprs) (k : Namespace) → plan e h ≡ associate vs k → length (h .namespaces) < 64
-plan-counted e h vs k q = go (rw q at (rule h e))
+plan-counted e h vs k q = go (rw q at (rule-is h e))
   where
     go : {w : Word} {e : Node} {vs : Exprs} {k : Namespace} → Rule h w e (associate vs k) → length (h .namespaces) < 64
     go (associates may) = may .few
@@ -120,19 +124,20 @@ module _ (call : Call) (r : ℕ) (ms : List Meaning) (h : Here) (left : Left) wh
       let b = bind-done (call r code (in-code h scope (a .0 .values))) _ left (a .2) in
       (a .0 .values, b .0, b .1, complete-done r _ h left (b .2))
 
--- where what follows an expression is evaluated
-data Moves (call : Call) (h : Here) : Here → Type 0 where
-  stays : Moves call h h
-  adds-namespace : {n : Namespace} → (NotTop (h .within) → ⊥) → Moves call h (add-namespace n h)
-  adds-function : {m n : ℕ} {code : Nodes} → NotInner (h .within) → Moves call h (add-definition (record { marker = m; name = n; content = function code }) h)
-  adds-value : {m n : ℕ} (v : Node) → headed-by rest v ≡ false → NotInner (h .within) → (a : Left)
+-- where what follows the expression e is evaluated
+data Moves (call : Call) (h : Here) (e : Node) : Here → Type 0 where
+  stays : Moves call h e h
+  adds-namespace : {n : Namespace} → (NotTop (h .within) → ⊥) → Moves call h e (add-namespace n h)
+  adds-function : {m n : ℕ} {code : Nodes} → ((bound : ℕ) → FitsNode bound e → FitsNodes bound code) → NotInner (h .within)
+      → Moves call h e (add-definition (record { marker = m; name = n; content = function code }) h)
+  adds-value : {m n : ℕ} (v : Node) → ((bound : ℕ) → FitsNode bound e → FitsNode bound v) → headed-by rest v ≡ false → NotInner (h .within) → (a : Left)
       → in-order (eval-all call (cons v empty)) (entering inner h) .end ≡ done a
-      → Moves call h (add-definition (record { marker = m; name = n; content = value (a .values) }) h)
+      → Moves call h e (add-definition (record { marker = m; name = n; content = value (a .values) }) h)
 
 module _ (call : Call) where
   perform-moves : (r : ℕ) (h : Here) {w : Word} {e : Node} {p : Plan} → Rule h w e p → (left : Left)
-      → perform call r (eval-all call (elements e)) h p .end ≡ done left → Moves call h (left .here)
-  unfolding eval
+      → perform call r (eval-all call (elements e)) h p .end ≡ done left → Moves call h e (left .here)
+  unfolding rule
   perform-moves r h (refuses n) left e = impossible (cc)
   perform-moves r h own left e = rw (complete-done r _ h left e) stays
   perform-moves r h (defined t) left e = rw (complete-done r _ h left e) stays
@@ -142,30 +147,38 @@ module _ (call : Call) where
   perform-moves r h (defines-function {m = m} {n} {v = v} may t) left e =
       let d : Definition = record { marker = m; name = n; content = function (tail (elements v)) } in
       let k : left ≡ record { values = none; here = add-definition d h } = cc in
-      rw k (adds-function (may .within))
+      rw k (adds-function (λ bound f. tail-fits bound (elements v) (elements-fit bound v (f .1 .1 .1 .0))) (may .within))
   perform-moves r h (defines-value {m = m} {n} {v = v} may t) left e =
       let a = bind-done (in-order (eval-all call (cons v empty)) (entering inner h)) _ left e in
       let d : Definition = record { marker = m; name = n; content = value (a .0 .values) } in
       let k : left ≡ record { values = none; here = add-definition d h } = cc (a .2) in
-      rw k (adds-value v (may .no-rest) (may .within) (a .0) (a .1))
+      rw k (adds-value v (λ bound f. f .1 .1 .1 .0) (may .no-rest) (may .within) (a .0) (a .1))
   perform-moves r h (joins {x = x} {a} {b} t u) left e = rw (concat-done call r (eval-all call (cons x (cons a (cons b empty)))) h left e .1) stays
   perform-moves r h (forms {es = es}) left e = rw (form-done call r (eval-all call es) h left e .1) stays
   perform-moves r h (calls {q = q} {m} {n} {es} t) left e = rw (call-done call r (eval-all call (cons (leaf q (ref m n)) es)) h left _ _ e .3) stays
   perform-moves r h (calls-subst {q = q} {fs} {es} t) left e = rw (call-done call r (eval-all call (cons (branch q fs) es)) h left _ _ e .3) stays
 
-  eval-moves : (e : Node) (h : Here) (left : Left) → eval call e h .end ≡ done left → Moves call h (left .here)
-  unfolding eval
-  eval-moves (leaf r a) h left e = perform-moves r h (rule h (leaf r a)) left e
-  eval-moves (branch r es) h left e = perform-moves r h (rule h (branch r es)) left e
+  -- the expression itself, or what it becomes
+  mutual
+    unfolding rule
+
+    rule-moves : (e : Node) (h : Here) (left : Left) → rule call e h .end ≡ done left → (x : Node) × Moves call h x (left .here)
+    rule-moves (leaf r a) h left e = (leaf r a, perform-moves r h (rule-is h (leaf r a)) left e)
+    rule-moves (branch r es) h left e = (branch r es, perform-moves r h (rule-is h (branch r es)) left e)
+    rule-moves (bytecode r es o) h left e = bytecode-moves r o h left e
+
+    bytecode-moves : (r : ℕ) (o : Outcome) (h : Here) (left : Left) → rule-bytecode call r o h .end ≡ done left → (x : Node) × Moves call h x (left .here)
+    bytecode-moves r (fails w) h left e = impossible (cc)
+    bytecode-moves r (becomes rows x) h left e = rule-moves x h left e
 
   pub eval-within : (e : Node) (h : Here) (left : Left) → eval call e h .end ≡ done left → left .here .within ≡ h .within
-  eval-within e h left q = go (eval-moves e h left q)
+  eval-within e h left q = go (rule-moves e h left q .1)
     where
-      go : {g : Here} → Moves call h g → g .within ≡ h .within
+      go : {x : Node} {g : Here} → Moves call h x g → g .within ≡ h .within
       go stays = refl
       go (adds-namespace t) = refl
-      go (adds-function t) = refl
-      go (adds-value v r t a w) = refl
+      go (adds-function f t) = refl
+      go (adds-value v f r t a w) = refl
 
 -- what evaluation leaves as it was: the arguments; the namespaces, but at the top level; the definitions, where none is allowed
 pub record Stays (h g : Here) : Type 0 where
@@ -174,13 +187,13 @@ pub record Stays (h g : Here) : Type 0 where
   pub scope : h .within ≡ inner → g .scope ≡ h .scope
 
 pub eval-stays : (call : Call) (e : Node) (h : Here) (left : Left) → eval call e h .end ≡ done left → Stays h (left .here)
-eval-stays call e h left q = go (eval-moves call e h left q)
+eval-stays call e h left q = go (rule-moves call e h left q .1)
   where
-    go : {g : Here} → Moves call h g → Stays h g
+    go : {x : Node} {g : Here} → Moves call h x g → Stays h g
     go stays = record { arguments = refl; namespaces = λ t. refl; scope = λ q. refl }
     go (adds-namespace t) = record { arguments = refl; namespaces = λ u. absurd (t u); scope = λ q. refl }
-    go (adds-function t) = record { arguments = refl; namespaces = λ u. refl; scope = λ q. absurd (t q) }
-    go (adds-value v r t a w) = record { arguments = refl; namespaces = λ u. refl; scope = λ q. absurd (t q) }
+    go (adds-function f t) = record { arguments = refl; namespaces = λ u. refl; scope = λ q. absurd (t q) }
+    go (adds-value v f r t a w) = record { arguments = refl; namespaces = λ u. refl; scope = λ q. absurd (t q) }
 
 -- Lists of nodes
 
@@ -226,93 +239,135 @@ module _ (call : Call) where
 
 -- One value
 
--- a call whose code is to give one value gives one
-abbrev SingleCall : Call → Type 0
-SingleCall call = (r : ℕ) (code : Nodes) (h : Here) (left : Left) → one-value code ≡ true → h .within ≡ inner → SingleScope (h .scope)
-    → call r code h .end ≡ done left → Single (left .values)
+-- an expression with this head has one value and defines nothing
+data Valued (h : Here) (w : Word) : Type 0 where
+  in-value : h .within ≡ inner → is w rest ≡ false → Valued h w
+  no-function : is w plain ≡ true → Valued h w
 
-module _ (call : Call) (call-single : SingleCall call) where
-  call-value : (r : ℕ) (code : Nodes) (h : Here) (left : Left) → h .within ≡ inner → SingleScope (h .scope) → call r code h .end ≡ done left
-      → Single (if one-value code then left .values else only (form (left .values)))
-  call-value r code h left i s e =
-      by-test Single (one-value code) (λ q. call-single r code h left q i s e) (λ q. record { value = form (left .values); is = refl })
+not-valued-rest : {h : Here} → Valued h rest → ⊥
+not-valued-rest (in-value i k) = impossible (cc)
+not-valued-rest (no-function k) = impossible (cc)
 
-  perform-single : (r : ℕ) (ms : List Meaning) (h : Here) {w : Word} {e : Node} {p : Plan} → Rule h w e p → is w rest ≡ false → (left : Left)
-      → h .within ≡ inner → SingleScope (h .scope) → perform call r ms h p .end ≡ done left → Single (left .values)
-  perform-single r ms h (refuses n) k left i s e = impossible (cc)
-  perform-single r ms h (own {a = a}) k left i s e = rw (complete-done r _ h left e) (record { value = atom a; is = refl })
-  perform-single r ms h (defined {m = m} {n} t) k left i s e =
-      rw (complete-done r _ h left e) (rw t at (look-up-each SingleDefined m n (h .scope) s) .0)
-  perform-single r ms h (argument {n = n} {vs = vs} t l) k left i s e = rw (complete-done r _ h left e) (argument-single n vs l)
-  perform-single r ms h (others t l) k left i s e = impossible (cc)
-  perform-single r ms h (associates may) k left i s e = impossible (cc (may .within))
-  perform-single r ms h (defines-function may t) k left i s e = absurd (may .within i)
-  perform-single r ms h (defines-value may t) k left i s e = absurd (may .within i)
-  perform-single r ms h (joins t u) k left i s e =
-      let a = concat-done call r ms h left e in rw (a .1) (record { value = atom (array (a .0)); is = refl })
-  perform-single r ms h forms k left i s e = let a = form-done call r ms h left e in rw (a .1) (record { value = form (a .0); is = refl })
-  perform-single r ms h (calls {m = m} {n} t) k left i s e =
-      let a = call-done call r ms h left _ _ e in
-      rw (a .3) (call-value r _ _ (a .1) refl (rw t at (look-up-each SingleDefined m n (h .scope) s) .1) (a .2))
-  perform-single r ms h (calls-subst t) k left i s e = let a = call-done call r ms h left _ _ e in rw (a .3) (call-value r _ _ (a .1) refl s (a .2))
+valued-inner : {h : Here} {w : Word} → is w plain ≡ false → Valued h w → h .within ≡ inner
+valued-inner n (in-value i k) = i
+valued-inner n (no-function k) = impossible (cc)
 
-  -- an expression that is no `rest` form, where no definition is allowed, leaves one value
-  eval-single : (e : Node) (h : Here) (left : Left) → headed-by rest e ≡ false → h .within ≡ inner → SingleScope (h .scope)
-      → eval call e h .end ≡ done left → Single (left .values)
-  unfolding eval
-  eval-single (leaf r a) h left q i s e = perform-single r [] h (rule h (leaf r a)) q left i s e
-  eval-single (branch r es) h left q i s e = perform-single r (eval-all call es) h (rule h (branch r es)) q left i s e
+-- it leaves one value, and what follows is evaluated where it was
+abbrev pub LeavesOne : Here → Left → Type 0
+LeavesOne h left = Single (left .values) × (left .here ≡ h)
 
-  -- the only one of a list
-  one-single : (e : Node) (h : Here) (left : Left) → headed-by rest e ≡ false → h .within ≡ inner → SingleScope (h .scope)
-      → in-order (eval-all call (cons e empty)) h .end ≡ done left → Single (left .values)
-  unfolding eval in-order
-  one-single e h left q i s t =
-      let a = bind-done (eval call e h) _ left t in
-      let k : left ≡ record { values = append (a .0 .values) none; here = a .0 .here } = cc (a .2) in
-      rw (k, append-none (a .0 .values)) (eval-single e h (a .0) q i s (a .1))
+module _ (bound : ℕ) where
+  -- a call whose code is to give one value gives one
+  abbrev SingleCall : Call → Type 0
+  SingleCall call = (r : ℕ) (code : Nodes) (h : Here) (left : Left) → one-value code ≡ true → FitsNodes bound code → h .within ≡ inner
+      → SingleScope bound (h .scope) → call r code h .end ≡ done left → Single (left .values)
 
-  eval-scope-if : (e : Node) (h : Here) (left : Left) → SingleScope (h .scope) → eval call e h .end ≡ done left → SingleScope (left .here .scope)
-  unfolding eval
-  eval-scope-if e h left s q = go (eval-moves call e h left q)
-    where
-      go : {g : Here} → Moves call h g → SingleScope (g .scope)
-      go stays = s
-      go (adds-namespace t) = s
-      go (adds-function t) = (tt, s)
-      go (adds-value v r t a w) = (one-single v (entering inner h) a r refl s w, s)
+  module _ (call : Call) (call-single : SingleCall call) where
+    call-value : (r : ℕ) (code : Nodes) (h : Here) (left : Left) → FitsNodes bound code → h .within ≡ inner → SingleScope bound (h .scope)
+        → call r code h .end ≡ done left → Single (if one-value code then left .values else only (form (left .values)))
+    call-value r code h left f i s e =
+        by-test Single (one-value code) (λ q. call-single r code h left q f i s e) (λ q. record { value = form (left .values); is = refl })
 
-run-code-single : (k : ℕ) → SingleCall (run-code k)
-unfolding run-code
-run-code-single zero r code h left o i s e = impossible (cc)
-run-code-single (suc k) r empty h left o i s e = impossible (cc)
-run-code-single (suc k) r (cons e empty) h left o i s q =
-    one-single (run-code k) (run-code-single k) e h left (not-true (headed-by rest e) o) i s q
-run-code-single (suc k) r (cons e (cons f es)) h left o i s q = impossible (cc)
+    perform-single : (r : ℕ) (ms : List Meaning) (h : Here) {w : Word} {e : Node} {p : Plan} → Rule h w e p → FitsNode bound e → Valued h w → (left : Left)
+        → SingleScope bound (h .scope) → perform call r ms h p .end ≡ done left → LeavesOne h left
+    perform-single r ms h (refuses n) f k left s e = impossible (cc)
+    perform-single r ms h (own {a = a}) f k left s e = rw (complete-done r _ h left e) (record { value = atom a; is = refl }, refl)
+    perform-single r ms h (defined {m = m} {n} t) f k left s e =
+        rw (complete-done r _ h left e) (rw t at (look-up-each (SingleDefined bound) m n (h .scope) s) .0, refl)
+    perform-single r ms h (argument {n = n} {vs = vs} t l) f k left s e = rw (complete-done r _ h left e) (argument-single n vs l, refl)
+    perform-single r ms h (others t l) f k left s e = absurd (not-valued-rest k)
+    perform-single r ms h (associates may) f k left s e = impossible (cc (may .within, valued-inner refl k))
+    perform-single r ms h (defines-function may t) f k left s e = absurd (may .within (valued-inner refl k))
+    perform-single r ms h (defines-value may t) f k left s e = absurd (may .within (valued-inner refl k))
+    perform-single r ms h (joins t u) f k left s e =
+        let a = concat-done call r ms h left e in rw (a .1) (record { value = atom (array (a .0)); is = refl }, refl)
+    perform-single r ms h forms f k left s e = let a = form-done call r ms h left e in rw (a .1) (record { value = form (a .0); is = refl }, refl)
+    perform-single r ms h (calls {m = m} {n} t) f k left s e =
+        let a = call-done call r ms h left _ _ e in
+        let d = rw t at (look-up-each (SingleDefined bound) m n (h .scope) s) in
+        rw (a .3) (call-value r _ _ (a .1) (d .0) refl (d .1) (a .2), refl)
+    perform-single r ms h (calls-subst {fs = fs} t) f k left s e =
+        let a = call-done call r ms h left _ _ e in rw (a .3) (call-value r _ _ (a .1) (tail-fits bound fs (f .1 .0 .1)) refl s (a .2), refl)
+
+    -- a bytecode form, too: what it becomes is headed by no name
+    mutual
+      unfolding rule
+
+      rule-single : (e : Node) (h : Here) (left : Left) → FitsNode bound e → Valued h (head-word (elements e)) → SingleScope bound (h .scope)
+          → rule call e h .end ≡ done left → LeavesOne h left
+      rule-single (leaf r a) h left f k s e = perform-single r [] h (rule-is h (leaf r a)) f k left s e
+      rule-single (branch r es) h left f k s e = perform-single r (eval-all call es) h (rule-is h (branch r es)) f k left s e
+      rule-single (bytecode r es o) h left f k s e = bytecode-single r o h left (f .3) s e
+
+      bytecode-single : (r : ℕ) (o : Outcome) (h : Here) (left : Left) → FitsOutcome bound o → SingleScope bound (h .scope)
+          → rule-bytecode call r o h .end ≡ done left → LeavesOne h left
+      bytecode-single r (fails w) h left f s e = impossible (cc)
+      bytecode-single r (becomes rows x) h left f s e = rule-single x h left (f .1) (no-function (unled-plain (elements x) (f .2))) s e
+
+    -- an expression that is no `rest` form, where no definition is allowed, leaves one value
+    eval-single : (e : Node) (h : Here) (left : Left) → FitsNode bound e → headed-by rest e ≡ false → h .within ≡ inner → SingleScope bound (h .scope)
+        → eval call e h .end ≡ done left → Single (left .values)
+    eval-single e h left f q i s t = rule-single e h left f (in-value i q) s t .0
+
+    -- the only one of a list
+    one-single : (e : Node) (h : Here) (left : Left) → FitsNode bound e → headed-by rest e ≡ false → h .within ≡ inner → SingleScope bound (h .scope)
+        → in-order (eval-all call (cons e empty)) h .end ≡ done left → Single (left .values)
+    unfolding rule in-order
+    one-single e h left f q i s t =
+        let a = bind-done (eval call e h) _ left t in
+        let k : left ≡ record { values = append (a .0 .values) none; here = a .0 .here } = cc (a .2) in
+        rw (k, append-none (a .0 .values)) (eval-single e h (a .0) f q i s (a .1))
+
+    moves-scope : (e : Node) (h : Here) {g : Here} → Moves call h e g → FitsNode bound e → SingleScope bound (h .scope) → SingleScope bound (g .scope)
+    moves-scope e h stays f s = s
+    moves-scope e h (adds-namespace t) f s = s
+    moves-scope e h (adds-function c t) f s = (c bound f, s)
+    moves-scope e h (adds-value v c r t a w) f s = (one-single v (entering inner h) a (c bound f) r refl s w, s)
+
+    eval-scope-if : (e : Node) (h : Here) (left : Left) → FitsNode bound e → SingleScope bound (h .scope) → eval call e h .end ≡ done left
+        → SingleScope bound (left .here .scope)
+    unfolding rule
+    eval-scope-if (leaf r a) h left f s q = moves-scope (leaf r a) h (perform-moves call r h (rule-is h (leaf r a)) left q) f s
+    eval-scope-if (branch r es) h left f s q = moves-scope (branch r es) h (perform-moves call r h (rule-is h (branch r es)) left q) f s
+    eval-scope-if (bytecode r es o) h left f s q = rw (bytecode-single r o h left (f .3) s q .1) s
+
+  run-code-single : (k : ℕ) → SingleCall (run-code k)
+  unfolding run-code
+  run-code-single zero r code h left o f i s e = impossible (cc)
+  run-code-single (suc k) r empty h left o f i s e = impossible (cc)
+  run-code-single (suc k) r (cons e empty) h left o f i s q =
+      one-single (run-code k) (run-code-single k) e h left (f .0) (not-true (headed-by rest e) o) i s q
+  run-code-single (suc k) r (cons e (cons x es)) h left o f i s q = impossible (cc)
 
 pair : (us vs ws : Exprs) → Single vs → Single ws → us ≡ append vs ws → (x : Expr) × (y : Expr) × (us ≡ more x (only y))
 unfolding append
 pair us vs ws x y q = (x .value, y .value, q ∙ rw (x .is, y .is))
 
-module _ (k : ℕ) where
+module _ (bound k : ℕ) where
   -- definitions that have one value each are kept so
-  pub eval-scope : (e : Node) (h : Here) (left : Left) → SingleScope (h .scope) → eval (run-code k) e h .end ≡ done left
-      → SingleScope (left .here .scope)
-  eval-scope e h left s t = eval-scope-if (run-code k) (run-code-single k) e h left s t
+  pub eval-scope : (e : Node) (h : Here) (left : Left) → FitsNode bound e → SingleScope bound (h .scope) → eval (run-code k) e h .end ≡ done left
+      → SingleScope bound (left .here .scope)
+  eval-scope e h left f s t = eval-scope-if bound (run-code k) (run-code-single bound k) e h left f s t
 
-  pub in-list-single : (e : Node) (h : Here) (left : Left) → headed-by rest e ≡ false → h .within ≡ inner → SingleScope (h .scope)
+  -- a bytecode form leaves one value, wherever it stands
+  pub eval-bytecode : (r : ℕ) (es : Nodes) (o : Outcome) (h : Here) (left : Left) → FitsNode bound (bytecode r es o) → SingleScope bound (h .scope)
+      → eval (run-code k) (bytecode r es o) h .end ≡ done left → LeavesOne h left
+  unfolding rule
+  eval-bytecode r es o h left f s t = bytecode-single bound (run-code k) (run-code-single bound k) r o h left (f .3) s t
+
+  pub in-list-single : (e : Node) (h : Here) (left : Left) → FitsNode bound e → headed-by rest e ≡ false → h .within ≡ inner → SingleScope bound (h .scope)
       → in-list (run-code k) (cons e empty) h .end ≡ done left → Single (left .values)
-  in-list-single e h left q i s t =
+  in-list-single e h left f q i s t =
       let a = in-list-split (run-code k) e empty h left t in
       let b = in-list-none (run-code k) (onward e (a .one .here)) (a .others) (a .continues) in
-      rw (a .is, b, append-none (a .one .values)) (eval-single (run-code k) (run-code-single k) e h (a .one) q i s (a .evaluates))
+      rw (a .is, b, append-none (a .one .values)) (eval-single bound (run-code k) (run-code-single bound k) e h (a .one) f q i s (a .evaluates))
 
-  pub in-list-pair : (e f : Node) (h : Here) (left : Left) → headed-by rest e ≡ false → headed-by rest f ≡ false → h .within ≡ inner
-      → SingleScope (h .scope) → in-list (run-code k) (cons e (cons f empty)) h .end ≡ done left
+  pub in-list-pair : (e e′ : Node) (h : Here) (left : Left) → FitsNode bound e → FitsNode bound e′ → headed-by rest e ≡ false → headed-by rest e′ ≡ false
+      → h .within ≡ inner → SingleScope bound (h .scope) → in-list (run-code k) (cons e (cons e′ empty)) h .end ≡ done left
       → (x : Expr) × (y : Expr) × (left .values ≡ more x (only y))
-  in-list-pair e f h left q t i s u =
-      let a = in-list-split (run-code k) e (cons f empty) h left u in
-      let x = eval-single (run-code k) (run-code-single k) e h (a .one) q i s (a .evaluates) in
+  in-list-pair e e′ h left f f′ q t i s u =
+      let a = in-list-split (run-code k) e (cons e′ empty) h left u in
+      let x = eval-single bound (run-code k) (run-code-single bound k) e h (a .one) f q i s (a .evaluates) in
       let w = beyond-inner e (a .one .here .within) (eval-within (run-code k) e h (a .one) (a .evaluates) ∙ i) in
-      let y = in-list-single f (onward e (a .one .here)) (a .others) t w (eval-scope e h (a .one) s (a .evaluates)) (a .continues) in
+      let y = in-list-single e′ (onward e (a .one .here)) (a .others) f′ t w (eval-scope e h (a .one) f s (a .evaluates)) (a .continues) in
       pair (left .values) (a .one .values) (a .others .values) x y (ap (λ (l : Left). l .values) (a .is))

@@ -364,7 +364,7 @@ module _ (s : List ℕ) (room : ℕ) (rs : List Row) (es : Exprs) (stream : Byte
   pub row-fourth : (i : ℕ) → i < length rs → FirstFrom (row-at rs i .end) rs (row-at [] 0) (getD (numbers rs rs) (row-width * i + 3) 0)
   row-fourth i h = rw (numbers-fourth (row-at [] 0) rs rs i h) (next-row-first (row-at [] 0) (row-at rs i .end) rs)
 
-  -- a run names only rows of the table, and its own refusals are 6, 11 to 15 and 19
+  -- a run names only rows of the table, and its own refusals are 6, 11 to 15, 19 and 22
   pub run-names-rows : Proper (length rs) (run es)
   run-names-rows = rw rows-counted (run-proper es (meant s room rs es stream reads .fits))
 

@@ -3,23 +3,25 @@
 -- Document 01: "a value with over 64 forms one inside another", "Workspace", "Its value is itself". Assumes nothing.
 use Prim.Native.Nat.{ℕ, zero, suc, _+_, _≤_, _<_}
 use mathlib.Core.Path.{_≡_, refl, ap}
-use mathlib.Core.List.{List, [], _∷_, _++_}
+use mathlib.Core.List.{List, [], _∷_, _++_, map}
 use mathlib.Core.Bool.{false}
 use native.Mathlib.Omega.{arith}
 use lib.ListN.{length, drop, length-append}
 use Rattle.spec.specs.Expr.{if_then_else_, Atom, nil, array, int, ref, Expr, atom, form, Exprs, none, more, only, append, first, without, rows, rows-all, depth, deepest, canonical}
-use Rattle.spec.specs.Nodes.{Word, Node, leaf, branch, Nodes, empty, cons, number, number-all, unnumbered, unnumbered-all, elements, tail, markers}
-use Rattle.spec.specs.Runs.{Event, step, charge, End, done, stopped, Run, stop, give, before, follow, bind}
+use Rattle.spec.specs.Nodes.{Word, Node, leaf, branch, bytecode, Nodes, empty, cons, Outcome, fails, becomes, number, number-all, unnumbered, unnumbered-all, elements, markers}
+use Rattle.spec.specs.Bytecode.{transform-all}
+use Rattle.spec.specs.Runs.{Event, step, charge, End, done, stopped, Run, stop, give, before, after, follow, bind}
 use Rattle.spec.specs.Plan.{Defined, value, function, Scope, Within, top, Arguments, outside, passed, Here, Finish, as-form, as-definition, as-concat, as-call, Plan, refuse, leave, associate, define-function, inside, plan}
-use Rattle.spec.specs.Evaluation.{Left, entering, complete, join, one-value, Call, finish, Meaning, in-order, perform, eval, eval-all, run-code, top-level, start, run, result}
+use Rattle.spec.specs.Evaluation.{Left, entering, complete, join, one-value, Call, finish, Meaning, in-order, perform, rule, rule-bytecode, eval-all, eval, run-code, top-level, start, run, result}
 use Rattle.laws.specs.Demands.{Bytes}
 use Rattle.laws.specs.Holding.{onward, in-list}
 use Rattle.laws.specs.Sanity.{RowsBelow, rule-number, RuleNumber, Proper}
 use Rattle.laws.proofs.Basics.{impossible, by-test}
-use Rattle.laws.proofs.Fits.{bytes-append, Fits, FitsExpr, FitsAll}
+use Rattle.laws.proofs.Fits.{bytes-append, Fits, FitsExpr, FitsAll, FitsNode, FitsNodes, FitsOutcome, row-below, tail-fits, elements-fit}
 use Rattle.laws.proofs.Canonical.{canonical-append}
 use Rattle.laws.proofs.Runs.{charges, charges-append}
-use Rattle.laws.proofs.Walk.{Rule, refuses, own, defined, argument, others, associates, defines-function, defines-value, joins, forms, calls, calls-subst, rule}
+use Rattle.laws.proofs.Walk.{Rule, refuses, own, defined, argument, others, associates, defines-function, defines-value, joins, forms, calls, calls-subst, as-written, rule-is}
+use Rattle.laws.proofs.Bytecode.{transform-all-fits}
 use Rattle.laws.proofs.Singles.{EachDefined, look-up-each, complete-cases}
 
 -- values that fit and have at most 64 forms one inside another
@@ -115,51 +117,43 @@ module _ (bound : ℕ) where
   goes-proper : {A : Type 0} {P : List Event → A → Type 0} {run : Run A} → Goes P run → Proper bound run
   goes-proper g = record { rows-below = g .rows-below; stops = λ w r p. rw p at (g .holds) }
 
-  -- nodes that fit, at rows of the stream
-  abbrev mutual
-    pub FitsNode : Node → Type 0
-    FitsNode (leaf r a) = (r < bound) × Fits a
-    FitsNode (branch r es) = (r < bound) × FitsNodes es
-
-    pub FitsNodes : Nodes → Type 0
-    FitsNodes empty = Unit {0}
-    FitsNodes (cons e es) = FitsNode e × FitsNodes es
-
   mutual
     unfolding number rows
 
-    number-fits : (r : ℕ) (e : Expr) → r + rows e ≤ bound → FitsExpr e → FitsNode (number r e)
+    number-fits : (r : ℕ) (e : Expr) → r + rows e ≤ bound → FitsExpr e → FitsNode bound (number r e)
     number-fits r (atom a) h f = (omega arith, f)
     number-fits r (form es) h f = (omega arith, number-all-fits (r + 1) es (omega arith) f)
 
-    pub number-all-fits : (r : ℕ) (es : Exprs) → r + rows-all es ≤ bound → FitsAll es → FitsNodes (number-all r es)
+    pub number-all-fits : (r : ℕ) (es : Exprs) → r + rows-all es ≤ bound → FitsAll es → FitsNodes bound (number-all r es)
     number-all-fits r none h f = tt
     number-all-fits r (more e es) h f = (number-fits r e (omega arith) (f .0), number-all-fits (r + rows e) es (omega arith) (f .1))
+
+  -- the expressions of a stream, as they are evaluated
+  pub stream-fits : (es : Exprs) → rows-all es ≤ bound → FitsAll es → FitsNodes bound (transform-all (number-all 0 es))
+  stream-fits es h f = transform-all-fits bound (number-all 0 es) (number-all-fits 0 es (omega arith) f)
 
   mutual
     unfolding unnumbered
 
-    unnumbered-fits : (e : Node) → FitsNode e → FitsExpr (unnumbered e)
+    unnumbered-fits : (e : Node) → FitsNode bound e → FitsExpr (unnumbered e)
     unnumbered-fits (leaf r a) f = f .1
     unnumbered-fits (branch r es) f = unnumbered-all-fits es (f .1)
+    unnumbered-fits (bytecode r es o) f = unnumbered-all-fits es (f .1)
 
-    pub unnumbered-all-fits : (es : Nodes) → FitsNodes es → FitsAll (unnumbered-all es)
+    pub unnumbered-all-fits : (es : Nodes) → FitsNodes bound es → FitsAll (unnumbered-all es)
     unnumbered-all-fits empty f = tt
     unnumbered-all-fits (cons e es) f = (unnumbered-fits e (f .0), unnumbered-all-fits es (f .1))
 
-  tail-fits : (es : Nodes) → FitsNodes es → FitsNodes (tail es)
-  tail-fits empty f = tt
-  tail-fits (cons e es) f = f .1
-
-  pub elements-fit : (e : Node) → FitsNode e → FitsNodes (elements e)
-  elements-fit (leaf r a) f = tt
-  elements-fit (branch r es) f = f .1
+  written-fits : (e : Node) → FitsNode bound e → FitsNode bound (as-written e)
+  written-fits (leaf r a) f = f
+  written-fits (branch r es) f = f
+  written-fits (bytecode r es o) f = (f .0, f .1)
 
   -- Where an expression is evaluated: values and arguments are sound, and code fits
 
   abbrev SoundDefined : Defined → Type 0
   SoundDefined (value vs) = Sound vs
-  SoundDefined (function es) = FitsNodes es
+  SoundDefined (function es) = FitsNodes bound es
 
   abbrev pub SoundScope : Scope → Type 0
   SoundScope = EachDefined SoundDefined
@@ -177,7 +171,7 @@ module _ (bound : ℕ) where
   SoundFinish as-form = Unit {0}
   SoundFinish (as-definition m n) = Unit {0}
   SoundFinish as-concat = Unit {0}
-  SoundFinish (as-call code scope) = FitsNodes code × SoundScope scope
+  SoundFinish (as-call code scope) = FitsNodes bound code × SoundScope scope
 
   abbrev SoundPlan : Plan → Type 0
   SoundPlan (refuse w) = RuleNumber w
@@ -186,26 +180,26 @@ module _ (bound : ℕ) where
   SoundPlan (define-function d) = SoundDefined (d .content)
   SoundPlan (inside k p f) = SoundFinish f
 
-  rule-sound : (h : Here) {w : Word} {e : Node} {p : Plan} → Rule h w e p → FitsNode e → SoundHere h → SoundPlan p
+  rule-sound : (h : Here) {w : Word} {e : Node} {p : Plan} → Rule h w e p → FitsNode bound e → SoundHere h → SoundPlan p
   rule-sound h (refuses n) f s = n
   rule-sound h (own {a = a}) f s = atom-sound a (f .1)
   rule-sound h (defined {m = m} {n} t) f s = rw t at (look-up-each SoundDefined m n (h .scope) (s .0)) .0
   rule-sound h (argument {n = n} {vs = vs} t l) f s = first-sound 1 (without n vs) (without-sound n vs (rw t at (s .1)))
   rule-sound h (others {n = n} {vs = vs} t l) f s = without-sound n vs (rw t at (s .1))
   rule-sound h (associates {es = es} may) f s = (unnumbered-all-fits es (f .1), tt)
-  rule-sound h (defines-function {v = v} may t) f s = tail-fits (elements v) (elements-fit v (f .1 .1 .1 .0))
+  rule-sound h (defines-function {v = v} may t) f s = tail-fits bound (elements v) (elements-fit bound v (f .1 .1 .1 .0))
   rule-sound h (defines-value may t) f s = tt
   rule-sound h (joins t u) f s = tt
   rule-sound h forms f s = tt
   rule-sound h (calls {m = m} {n} t) f s = rw t at (look-up-each SoundDefined m n (h .scope) (s .0))
-  rule-sound h (calls-subst {fs = fs} t) f s = (tail-fits fs (f .1 .0 .1), s .0)
+  rule-sound h (calls-subst {fs = fs} t) f s = (tail-fits bound fs (f .1 .0 .1), s .0)
 
-  pub plan-sound : (e : Node) (h : Here) → FitsNode e → SoundHere h → SoundPlan (plan e h)
-  plan-sound e h f s = rule-sound h (rule h e) f s
+  pub plan-sound : (e : Node) (h : Here) → FitsNode bound e → SoundHere h → SoundPlan (plan e h)
+  plan-sound e h f s = rule-sound h (rule-is h e) (written-fits e f) s
 
   -- a call's code, and the definitions that it sees
   pub call-sound : (e : Node) (h : Here) (k : ℕ) (p : Within) (code : Nodes) (scope : Scope) → plan e h ≡ inside k p (as-call code scope)
-      → FitsNode e → SoundHere h → FitsNodes code × SoundScope scope
+      → FitsNode bound e → SoundHere h → FitsNodes bound code × SoundScope scope
   call-sound e h k p code scope q f s = rw q at (plan-sound e h f s)
 
   -- Evaluation: an expression that fits leaves sound values, and what follows is evaluated where all is sound too
@@ -225,6 +219,10 @@ module _ (bound : ℕ) where
   step-goes : {r : ℕ} {run : Run Left} → r < bound → Goes SoundLeft run → Goes SoundLeft (before (step r) run)
   unfolding charges
   step-goes p g = record { rows-below = (p, g .rows-below); holds = g .holds }
+
+  steps-go : (rows : List ℕ) {run : Run Left} → RowsBelow bound (map step rows) → Goes SoundLeft run → Goes SoundLeft (after (map step rows) run)
+  steps-go [] p g = g
+  steps-go (r ∷ rows) p g = step-goes (p .0) (steps-go rows (p .1) g)
 
   -- the first of a list, then the others: their charges add up
   both-paid : (es fs : List Event) (vs ws : Exprs) → length (canonical vs) ≤ charges es → length (canonical ws) ≤ charges fs
@@ -267,7 +265,7 @@ module _ (bound : ℕ) where
       λ later k. give-goes (append-sound (left .values) (later .values) (l .0) (k .0), k .1, both-paid _ _ (left .values) (later .values) (l .2) (k .2))
 
   abbrev SoundCall : Call → Type 0
-  SoundCall call = (r : ℕ) (code : Nodes) (h : Here) → r < bound → FitsNodes code → SoundHere h → Goes SoundLeft (call r code h)
+  SoundCall call = (r : ℕ) (code : Nodes) (h : Here) → r < bound → FitsNodes bound code → SoundHere h → Goes SoundLeft (call r code h)
 
   module _ (call : Call) (calls : SoundCall call) where
     finish-sound : (r : ℕ) (h : Here) (f : Finish) (vs : Exprs) → r < bound → SoundFinish f → Sound vs → SoundHere h →
@@ -292,17 +290,24 @@ module _ (bound : ℕ) where
         after-goes (in-order-sound (drop k ms) (entering p h) (drop-sound k ms m) s) λ left l. finish-sound r h f (left .values) q v (l .0) s
 
     mutual
-      unfolding eval
+      unfolding rule
 
-      pub eval-sound : (e : Node) → FitsNode e → SoundMeaning (eval call e)
-      eval-sound (leaf r a) f h s = step-goes (f .0) (perform-sound r [] h (plan (leaf r a) h) (f .0) (plan-sound (leaf r a) h f s) tt s)
-      eval-sound (branch r es) f h s =
-          step-goes (f .0)
-          (perform-sound r (eval-all call es) h (plan (branch r es) h) (f .0) (plan-sound (branch r es) h f s) (eval-all-sound es (f .1)) s)
+      rule-goes : (e : Node) → FitsNode bound e → SoundMeaning (rule call e)
+      rule-goes (leaf r a) f h s = perform-sound r [] h (plan (leaf r a) h) (f .0) (plan-sound (leaf r a) h f s) tt s
+      rule-goes (branch r es) f h s =
+          perform-sound r (eval-all call es) h (plan (branch r es) h) (f .0) (plan-sound (branch r es) h f s) (eval-all-sound es (f .1)) s
+      rule-goes (bytecode r es o) f h s = bytecode-goes r o (f .0) (f .3) h s
 
-      eval-all-sound : (es : Nodes) → FitsNodes es → SoundMeanings (eval-all call es)
+      bytecode-goes : (r : ℕ) (o : Outcome) → r < bound → FitsOutcome bound o → SoundMeaning (rule-bytecode call r o)
+      bytecode-goes r (fails w) q f h s = stop-goes f q
+      bytecode-goes r (becomes rows e) q f h s = steps-go rows (f .0) (rule-goes e (f .1) h s)
+
+      eval-all-sound : (es : Nodes) → FitsNodes bound es → SoundMeanings (eval-all call es)
       eval-all-sound empty f = tt
-      eval-all-sound (cons e es) f = (λ h s. eval-sound e (f .0) h s, eval-all-sound es (f .1))
+      eval-all-sound (cons e es) f = (λ h s. step-goes (row-below bound e (f .0)) (rule-goes e (f .0) h s), eval-all-sound es (f .1))
+
+    pub eval-sound : (e : Node) → FitsNode bound e → SoundMeaning (eval call e)
+    eval-sound e f h s = step-goes (row-below bound e f) (rule-goes e f h s)
 
   pub run-code-sound : (k : ℕ) → SoundCall (run-code k)
   unfolding run-code
@@ -311,7 +316,7 @@ module _ (bound : ℕ) where
       in-order-sound (eval-all (run-code k) code) h (eval-all-sound (run-code k) (run-code-sound k) code f) s
 
   module _ (k : ℕ) where
-    in-list-sound : (es : Nodes) (h : Here) → FitsNodes es → SoundHere h → Goes SoundLeft (in-list (run-code k) es h)
+    in-list-sound : (es : Nodes) (h : Here) → FitsNodes bound es → SoundHere h → Goes SoundLeft (in-list (run-code k) es h)
     unfolding in-list canonical
     in-list-sound empty h f s = give-goes (none-sound, s, omega arith)
     in-list-sound (cons e es) h f s =
@@ -319,7 +324,7 @@ module _ (bound : ℕ) where
         λ left l. bind-goes (in-list-sound es (onward e (left .here)) (f .1) (l .1))
         λ later m. give-goes (append-sound (left .values) (later .values) (l .0) (m .0), m .1, both-paid _ _ (left .values) (later .values) (l .2) (m .2))
 
-    pub in-list-left : (es : Nodes) (h : Here) (left : Left) → FitsNodes es → SoundHere h → in-list (run-code k) es h .end ≡ done left
+    pub in-list-left : (es : Nodes) (h : Here) (left : Left) → FitsNodes bound es → SoundHere h → in-list (run-code k) es h .end ≡ done left
         → Sound (left .values) × SoundHere (left .here)
     in-list-left es h left f s q = let l = rw q at (in-list-sound es h f s .holds) in (l .0, l .1)
 
@@ -327,7 +332,7 @@ module _ (bound : ℕ) where
   abbrev SoundResult : List Event → List Exprs → Type 0
   SoundResult es ls = Sound (result ls) × (length (canonical (result ls)) ≤ charges es)
 
-  top-level-sound : (earlier : List ℕ) (es : Nodes) (h : Here) → FitsNodes es → SoundHere h → Goes SoundResult (top-level earlier es h)
+  top-level-sound : (earlier : List ℕ) (es : Nodes) (h : Here) → FitsNodes bound es → SoundHere h → Goes SoundResult (top-level earlier es h)
   unfolding top-level result canonical
   top-level-sound earlier empty h f s = give-goes (none-sound, omega arith)
   top-level-sound earlier (cons e es) h f s =
@@ -339,7 +344,7 @@ run-goes : (es : Exprs) → FitsAll es → Goes (rows-all es) (SoundResult (rows
 unfolding run
 run-goes es f =
     let all : ℕ = rows-all es in
-    top-level-sound all [] (number-all 0 es) start (number-all-fits all 0 es (omega arith) f) (tt, tt)
+    top-level-sound all [] (transform-all (number-all 0 es)) start (stream-fits all es (omega arith) f) (tt, tt)
 
 -- what a run that ends leaves
 pub run-fits : (es : Exprs) (ls : List Exprs) → FitsAll es → run es .end ≡ done ls

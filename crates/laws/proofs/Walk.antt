@@ -8,7 +8,7 @@ use lib.ListN.{length}
 use lib.Dec.{eqb, ltb, leb}
 use borrow.Author.Tests.{ltb-true, ltb-false, leb-true, leb-false, eqb-false, not-false}
 use Rattle.spec.specs.Expr.{if_then_else_, same, some, Atom, nil, array, int, ref, atom, form, Exprs, only, size, first, without}
-use Rattle.spec.specs.Nodes.{core, Word, ns, define, concat, subst, arg, rest, plain, is, word, Node, leaf, branch, Nodes, empty, cons, unnumbered-all, elements, tail, head-word, headed-by}
+use Rattle.spec.specs.Nodes.{core, Word, ns, define, concat, subst, arg, rest, plain, is, word, Node, leaf, branch, bytecode, Nodes, empty, cons, unnumbered-all, elements, tail, head-word, headed-by}
 use Rattle.spec.specs.Plan.{value, function, Scope, Found, latest, nothing, look-up, Within, top, element, inner, Arguments, outside, passed, Here, as-form, as-definition, as-concat, as-call, Plan, refuse, leave, associate, define-function, inside, expect-one, expect-two, expect-ref, expect-array, expect-int, clash, plan-ns, plan-definition, plan-define, plan-arg, plan-rest, plan-head, plan-other, plan-form, plan-reference, plan-atom, plan}
 use Rattle.laws.specs.Sanity.{RuleNumber}
 use Rattle.laws.proofs.Basics.{impossible, by-test, both-false}
@@ -19,6 +19,12 @@ two r x a = branch r (cons x (cons a empty))
 
 abbrev pub three : ℕ → Node → Node → Node → Node
 three r x a b = branch r (cons x (cons a (cons b empty)))
+
+-- a bytecode form "taken as it is written"
+abbrev pub as-written : Node → Node
+as-written (leaf r a) = leaf r a
+as-written (branch r es) = branch r es
+as-written (bytecode r es o) = branch r es
 
 -- an `ns` form with this marker and id passes its tests
 pub record MayAssociate (h : Here) (m : ℕ) (id : List ℕ) : Type 0 where
@@ -85,6 +91,7 @@ module _ (h : Here) where
     expect-ref-rule (leaf q (int v)) s = refuses refl
     expect-ref-rule (leaf q (ref m n)) s = s q m n refl
     expect-ref-rule (branch q es) s = refuses refl
+    expect-ref-rule (bytecode q es o) s = refuses refl
 
     expect-array-rule : (a : Node) {f : List ℕ → Plan} → ((bs : List ℕ) → Rule h w e (f bs)) → Rule h w e (expect-array a f)
     expect-array-rule (leaf q nil) s = refuses refl
@@ -92,6 +99,7 @@ module _ (h : Here) where
     expect-array-rule (leaf q (int v)) s = refuses refl
     expect-array-rule (leaf q (ref m n)) s = refuses refl
     expect-array-rule (branch q es) s = refuses refl
+    expect-array-rule (bytecode q es o) s = refuses refl
 
     expect-int-rule : (a : Node) {f : ℕ → Plan} → ((q n : ℕ) → a ≡ leaf q (int n) → Rule h w e (f n)) → Rule h w e (expect-int a f)
     expect-int-rule (leaf q nil) s = refuses refl
@@ -99,6 +107,7 @@ module _ (h : Here) where
     expect-int-rule (leaf q (int n)) s = s q n refl
     expect-int-rule (leaf q (ref m n)) s = refuses refl
     expect-int-rule (branch q es) s = refuses refl
+    expect-int-rule (bytecode q es o) s = refuses refl
 
     -- a refusal where the test holds
     unless : (v : ℕ) (b : Bool) {p : Plan} → RuleNumber v → (b ≡ false → Rule h w e p) → Rule h w e (if b then refuse v else p)
@@ -172,6 +181,7 @@ module _ (h : Here) where
   other-rule r (cons (leaf q (ref m n)) es) = head-rule r q m n es (look-up m n (h .scope)) refl
   other-rule r (cons (branch q fs) es) =
       by-test (Rule h plain (branch r (cons (branch q fs) es))) (is (head-word fs) subst) calls-subst (λ k. forms)
+  other-rule r (cons (bytecode q fs o) es) = forms
 
   form-rule : (w : Word) (r : ℕ) (es : Nodes) → Rule h w (branch r es) (plan-form w es h)
   unfolding plan-form
@@ -196,6 +206,7 @@ module _ (h : Here) where
   atom-rule r (ref m n) =
       by-test (Rule h plain (leaf r (ref m n))) (is (word m n) plain) (λ k. reference-rule r m n (look-up m n (h .scope)) refl) (λ k. refuses refl)
 
-  pub rule : (e : Node) → Rule h (head-word (elements e)) e (plan e h)
-  rule (leaf r a) = atom-rule r a
-  rule (branch r es) = form-rule (head-word es) r es
+  pub rule-is : (e : Node) → Rule h (head-word (elements e)) (as-written e) (plan e h)
+  rule-is (leaf r a) = atom-rule r a
+  rule-is (branch r es) = form-rule (head-word es) r es
+  rule-is (bytecode r es o) = form-rule (head-word es) r es

@@ -3,7 +3,7 @@
 use Prim.Native.Nat.{ℕ, zero, suc}
 use mathlib.Core.List.{_++_}
 use Rattle.spec.specs.Expr.{none, append}
-use Rattle.spec.specs.Nodes.{Node, Nodes, empty, cons, markers}
+use Rattle.spec.specs.Nodes.{Node, leaf, branch, bytecode, Nodes, empty, cons, markers}
 use Rattle.spec.specs.Runs.{Run, give, bind, Held, reached, ceased}
 use Rattle.spec.specs.Plan.{Within, top, element, inner, Here}
 use Rattle.spec.specs.Evaluation.{Left, entering, Call, eval}
@@ -28,6 +28,12 @@ abbrev pub NotTop : Within → Type 0
 NotTop (top earlier) = ⊥
 NotTop element = Unit {0}
 NotTop inner = Unit {0}
+
+-- an expression that is no bytecode form
+abbrev pub NoBytecode : Node → Type 0
+NoBytecode (leaf r a) = Unit {0}
+NoBytecode (branch r es) = Unit {0}
+NoBytecode (bytecode r es o) = ⊥
 
 -- what the first of a list leaves, with what the others do
 abbrev pub together : Left → Left → Left

@@ -6,90 +6,11 @@ use Prim.Native.Nat.{ℕ, zero, suc, _+_}
 use mathlib.Core.Path.{_≡_, refl}
 use mathlib.Core.List.{List, [], _∷_, _++_, map}
 use lib.ListN.{length, replicate}
-use Rattle.spec.specs.Expr.{same, some, array, int, ref, atom, form, Exprs, none, only, append, size, first, without, rows, depth, array-head, marker-bytes, atom-bytes, bytes}
-use Rattle.spec.specs.Reading.{take-bytes, natural, plain-length, length-expr, marker, name, read-atom, token, tokens, check, lists, ends, rows-of, next-row, numbers, Reading, refused, readable, read}
-use Rattle.spec.specs.Nodes.{among, word, number, unnumbered, markers}
-use Rattle.spec.specs.Runs.{hold-events, steps-in}
-use Rattle.spec.specs.Plan.{look-up, plan-form, plan-atom}
-use Rattle.spec.specs.Evaluation.{join, in-order, eval, run-code, top-level, run, result}
-use Rattle.spec.specs.Calls.{Answer, put-out, run-answer, Read, Write, Evaluate, Buffer, of-stream, of-result, Part, part, no-part, item, Item}
-
--- A call. Every buffer but a stream is given by its length, and holds EE before.
-data Request : Type 0 where
-  -- stream, table
-  reads : List ℕ → ℕ → Request
-  -- stream: its meaning, with rows enough
-  means : List ℕ → Request
-  -- stream, table, output
-  writes : List ℕ → ℕ → ℕ → Request
-  -- stream, workspace, output, steps; the table has 1,050 rows
-  evaluates : List ℕ → ℕ → ℕ → ℕ → Request
-  -- stream, table, output: the table that Write leaves
-  rewrites : List ℕ → ℕ → ℕ → Request
-  -- stream, table, workspace, output, steps: the table that Evaluate leaves
-  fills : List ℕ → ℕ → ℕ → ℕ → ℕ → Request
-  -- stream, result, which, k
-  items : List ℕ → List ℕ → Buffer → ℕ → Request
-
-data Told : Type 0 where
-  -- number, place, rows or length, steps; and afterwards the table or the output
-  told : ℕ → ℕ → ℕ → ℕ → List ℕ → Told
-  meaning : Exprs → Told
-  item-is : Part → Told
-
-infix 5 _gives_
-data Case : Type 0 where
-  _gives_ : Request → Told → Case
-
-before : ℕ → List ℕ
-before n = replicate n 0xEE
-
-with-table : Answer → Told
-with-table a = told (a .number) (a .place) (a .given) (a .steps) (a .table)
-
-with-output : Answer → Told
-with-output a = told (a .number) (a .place) (a .given) (a .steps) (a .output)
-
-meant : Reading → Told
-meant (refused w p) = told w p 0 0 []
-meant (readable rows es) = meaning es
-
-answer : Request → Told
-answer (reads s t) = with-table (Read s (before t))
-answer (means s) = meant (read s (length s))
-answer (writes s t o) = with-output (Write s (before t) (before o))
-answer (evaluates s w o n) = with-output (Evaluate s (before 4200) w (before o) n)
-answer (rewrites s t o) = with-table (Write s (before t) (before o))
-answer (fills s t w o n) = with-table (Evaluate s (before t) w (before o) n)
-answer (items s r b k) = item-is (Item s r b k)
-
-asked : Case → Told
-asked (q gives a) = answer q
-
-expected : Case → Told
-expected (q gives a) = a
-
--- all that a table's answers are computed by
-answers : List Case → List Told
-unfolding asked answer with-table with-output meant before same some append size first without rows depth array-head marker-bytes atom-bytes bytes take-bytes natural plain-length length-expr marker name read-atom token tokens check lists ends rows-of next-row numbers read among word number unnumbered markers hold-events steps-in look-up plan-form plan-atom join in-order eval run-code top-level run result put-out run-answer Read Write Evaluate item Item
-answers cases = map asked cases
-
--- a refusal, with the buffer of so many numbers unchanged
-refusal : ℕ → ℕ → ℕ → Told
-refusal w p n = told w p 0 0 (before n)
-
--- an evaluation's result and steps
-result-is : List ℕ → ℕ → Told
-result-is bs n = told 0 0 (length bs) n bs
-
--- "V is the six bytes"
-version-form : List ℕ
-version-form = 0x01 ∷ 0x20 ∷ 0x00 ∷ 0x81 ∷ 0x80 ∷ 0x02 ∷ []
+use Rattle.spec.specs.Expr.{array, int, ref, atom, form, Exprs, none, only}
+use Rattle.spec.specs.Calls.{Read, of-stream, of-result, part, no-part}
+use Rattle.spec.proofs.Cases.{reads, means, writes, evaluates, rewrites, fills, items, told, meaning, item-is, Case, _gives_, before, expected, answers, refusal, result-is, version-form, ns-form, in-form, core-form, word-28, defines, space, joins, code, arg-form, rest-form, function-name, identity, chain, nested, refuses, leaves}
 
 -- the parts of N
-ns-form : List ℕ
-ns-form = 0x01 ∷ 0x20 ∷ 0x06 ∷ 0x28 ∷ 0x00 ∷ 0xC1 ∷ 0x41 ∷ 0x02 ∷ []
-
 define-85 : List ℕ
 define-85 = 0x01 ∷ 0x20 ∷ 0x09 ∷ 0x28 ∷ 0x01 ∷ 0x85 ∷ 0x02 ∷ []
 
@@ -144,7 +65,7 @@ starred =
     []
 
 starred-hold : answers starred ≡ map expected starred
-unfolding answers expected starred refusal result-is version-form ns-form define-85 define-89 word-28-01 N call-l
+unfolding answers starred define-85 define-89 word-28-01 N call-l
 starred-hold = refl
 
 -- Leaving 7F out of the sum is ruled out by f*.
@@ -170,52 +91,14 @@ errors =
     []
 
 errors-ruled-out : answers errors ≡ map expected errors
-unfolding answers expected errors refusal result-is version-form ns-form define-85 define-89 word-28-01 N
+unfolding answers errors define-85 define-89 word-28-01 N
 errors-ruled-out = refl
 
 -- Parts of streams to be evaluated
 
--- a form, and one that a core name heads
-in-form : List ℕ → List ℕ
-in-form s = 0x01 ∷ (s ++ (0x02 ∷ []))
-
-core-form : ℕ → List ℕ → List ℕ
-core-form n s = in-form (0x20 ∷ n ∷ s)
-
--- the reference 28 n, and its definition
-word-28 : ℕ → List ℕ
-word-28 n = 0x28 ∷ n ∷ []
-
-defines : ℕ → List ℕ → List ℕ
-defines n s = core-form 0x09 (word-28 n ++ s)
-
--- an ns form with an id of one byte, and one with an id of n bytes
-space : ℕ → ℕ → List ℕ
-space m id = core-form 0x06 (m ∷ 0x00 ∷ 0xC1 ∷ id ∷ [])
-
+-- an ns form with an id of n bytes
 named : ℕ → List ℕ
 named n = core-form 0x06 ((0x29 ∷ 0x00 ∷ 0x03 ∷ 0xC1 ∷ n ∷ []) ++ replicate n 0x41)
-
-joins : List ℕ → List ℕ → List ℕ
-joins s u = core-form 0x0A (s ++ u)
-
--- a subst form, and the forms that speak of arguments
-code : List ℕ → List ℕ
-code s = core-form 0x0B s
-
-arg-form : ℕ → List ℕ
-arg-form n = core-form 0x0C ((0x80 + n) ∷ [])
-
-rest-form : ℕ → List ℕ
-rest-form n = core-form 0x0D ((0x80 + n) ∷ [])
-
--- what is 12 wherever it is evaluated
-function-name : List ℕ
-function-name = 0x20 ∷ 0x09 ∷ []
-
--- a function 28 02 that gives its first argument
-identity : List ℕ
-identity = defines 2 (code (arg-form 0))
 
 -- some bytes n times
 again : ℕ → List ℕ → List ℕ
@@ -227,18 +110,10 @@ spaces : ℕ → List ℕ
 spaces zero = []
 spaces (suc n) = spaces n ++ space (0x28 + n) n
 
--- functions 28 00 to 28 n: the first has this code, each other calls the one before
-chain : List ℕ → ℕ → List ℕ
-chain s zero = defines 0 (code s)
-chain s (suc n) = chain s n ++ defines (suc n) (code (in-form (word-28 n)))
-
--- n forms one inside another, and their bytes around some others
+-- n forms one inside another
 form-in : ℕ → Exprs
 form-in zero = none
 form-in (suc n) = only (form (form-in n))
-
-nested : ℕ → List ℕ → List ℕ
-nested n s = replicate n 0x01 ++ s ++ replicate n 0x02
 
 -- a value with 65 forms one inside another: 4,244 bytes are charged before it
 deep : List ℕ
@@ -247,13 +122,6 @@ deep = version-form ++ ns-form ++ defines 1 (nested 33 []) ++ nested 32 word-28-
 -- a byte, and 14 times what was defined before joined with itself
 doubled : List ℕ
 doubled = version-form ++ ns-form ++ defines 0 (0xC1 ∷ 0x42 ∷ []) ++ again 14 (defines 0 (joins (word-28 0) (word-28 0)))
-
--- V and the ns form, 14 bytes and 5 steps, and after them what is refused, or what leaves some bytes
-refuses : List ℕ → ℕ → ℕ → Case
-refuses s w p = evaluates (version-form ++ ns-form ++ s) 65536 9 999 gives refusal w p 9
-
-leaves : List ℕ → List ℕ → ℕ → Case
-leaves s bs n = evaluates (version-form ++ ns-form ++ s) 65536 (14 + length bs) 999 gives result-is (version-form ++ ns-form ++ bs) n
 
 -- "Bytes to expressions", and reading's refusals in their order
 
@@ -328,15 +196,15 @@ readings =
     []
 
 readings-hold : answers readings ≡ map expected readings
-unfolding answers expected readings written refusal long-marker form-in nested
+unfolding answers readings written long-marker form-in
 readings-hold = refl
 
 -- The rules: what is visible, calls and arguments, names and namespaces
 
 -- version, true, false, string encodings, package, import, a name that is not given; in document 000's numbers concat and rest, which are
--- others here; arithmetic, bytecode
+-- others here; arithmetic; of bytecode all but prefix*
 plain-names : List ℕ
-plain-names = 0x00 ∷ 0x01 ∷ 0x02 ∷ 0x03 ∷ 0x05 ∷ 0x07 ∷ 0x08 ∷ 0x0E ∷ 0x10 ∷ 0x13 ∷ 0x27 ∷ 0x31 ∷ []
+plain-names = 0x00 ∷ 0x01 ∷ 0x02 ∷ 0x03 ∷ 0x05 ∷ 0x07 ∷ 0x08 ∷ 0x0E ∷ 0x10 ∷ 0x13 ∷ 0x27 ∷ 0x30 ∷ 0x32 ∷ 0x33 ∷ 0x34 ∷ []
 
 -- for each name a form that it heads
 headed : List ℕ → List ℕ → List ℕ
@@ -396,7 +264,7 @@ rules =
     (evaluates (version-form ++ in-form (code (0x85 ∷ []))) 11 7 6 gives refusal 17 6 7) ∷
     (evaluates (version-form ++ in-form (code (rest-form 0 ++ function-name))) 10 9 99 gives refusal 12 15 9) ∷
     -- core names that are no function names stand for themselves, and head data forms; so do all names of other namespaces
-    leaves (define-85 ++ headed plain-names word-28-01) (headed plain-names (0x85 ∷ [])) 43 ∷
+    leaves (define-85 ++ headed plain-names word-28-01) (headed plain-names (0x85 ∷ [])) 52 ∷
     leaves (headed (0x00 ∷ []) (0x20 ∷ 0x07 ∷ 0x20 ∷ 0x08 ∷ 0x20 ∷ 0x0E ∷ [])) (headed (0x00 ∷ []) (0x20 ∷ 0x07 ∷ 0x20 ∷ 0x08 ∷ 0x20 ∷ 0x0E ∷ [])) 10 ∷
     leaves (in-form (word-28 11 ++ word-28 6)) (in-form (word-28 11 ++ word-28 6)) 8 ∷
     -- 12: a function name, a function, a subst form
@@ -430,7 +298,7 @@ rules =
     []
 
 rules-hold : answers rules ≡ map expected rules
-unfolding answers expected rules refuses leaves refusal result-is version-form ns-form define-85 define-89 word-28-01 in-form core-form word-28 defines space named joins code arg-form rest-form function-name identity plain-names headed
+unfolding answers rules define-85 define-89 word-28-01 named plain-names headed
 rules-hold = refl
 
 -- 11: "wrong number or kind of elements in ns, define, concat, arg, rest, counted as written"
@@ -471,7 +339,7 @@ elements =
     []
 
 elements-hold : answers elements ≡ map expected elements
-unfolding answers expected elements refuses refusal version-form ns-form word-28-01 in-form core-form word-28 defines joins rest-form
+unfolding answers elements word-28-01
 elements-hold = refl
 
 -- The limits of evaluation
@@ -498,7 +366,7 @@ limits =
     []
 
 limits-hold : answers limits ≡ map expected limits
-unfolding answers expected limits refuses leaves refusal result-is version-form ns-form define-85 word-28-01 in-form core-form word-28 defines space code arg-form identity again spaces chain nested deep joins doubled
+unfolding answers limits define-85 word-28-01 again spaces deep doubled
 limits-hold = refl
 
 -- "the first that arises, in reading order and then in evaluation order, wins"
@@ -550,7 +418,7 @@ orders =
     []
 
 orders-hold : answers orders ≡ map expected orders
-unfolding answers expected orders refuses refusal version-form ns-form define-85 word-28-01 N in-form core-form word-28 defines space joins code rest-form function-name again spaces chain nested deep
+unfolding answers orders define-85 word-28-01 N again spaces deep
 orders-hold = refl
 
 -- The buffers afterwards, and Item
@@ -588,5 +456,5 @@ buffers =
     []
 
 buffers-hold : answers buffers ≡ map expected buffers
-unfolding answers expected buffers refusal version-form ns-form define-85 word-28-01 N in-form core-form word-28 defines nested deep version-table function-name
+unfolding answers buffers define-85 word-28-01 N deep version-table
 buffers-hold = refl

@@ -1,12 +1,13 @@
 -- Document 01, "Evaluation": "depth first, left to right, over a list of definitions that are visible at each place", as a run. Assumes nothing.
 use Prim.Native.Nat.{ℕ, zero, suc}
-use mathlib.Core.List.{List, [], _∷_, _++_}
+use mathlib.Core.List.{List, [], _∷_, _++_, map}
 use mathlib.Core.Bool.{Bool, false, not}
 use lib.ListN.{length, drop}
 use lib.Dec.{ltb}
 use Rattle.spec.specs.Expr.{if_then_else_, array, if-array, atom, form, Exprs, none, more, only, append, canonical, deepest}
-use Rattle.spec.specs.Nodes.{rest, Node, leaf, branch, Nodes, empty, cons, number-all, headed-by, markers}
-use Rattle.spec.specs.Runs.{step, charge, Run, give, stop, before, bind}
+use Rattle.spec.specs.Nodes.{rest, Node, leaf, branch, bytecode, Nodes, empty, cons, Outcome, fails, becomes, number-all, row, headed-by, markers}
+use Rattle.spec.specs.Bytecode.{transform-all}
+use Rattle.spec.specs.Runs.{step, charge, Run, give, stop, before, after, bind}
 use Rattle.spec.specs.Plan.{Definition, value, Namespace, Within, top, inner, outside, passed, Here, Finish, as-form, as-definition, as-concat, as-call, Plan, refuse, leave, associate, define-function, inside, plan}
 
 -- What an evaluated expression leaves: values (one; of `define` none, of `rest` any number), and where what follows in the same list is
@@ -90,14 +91,27 @@ formed call r es ms h = perform call r ms h (plan (branch r es) h)
 
 -- "Steps: one for each expression evaluated, at its start. Unevaluated heads, the insides of `ns`, a define's ref, n, and a `subst` form as head
 -- or as a define's value cost none."
+abbrev pub stepped : Node → Meaning → Meaning
+stepped e m h = before (step (row e)) (m h)
+
+-- What follows an expression's step. Document 02, §1: 22 and 6 are "both at the form, before its list's first step"; "A step is one expression
+-- taken from the flat list, added to the usual ones, all before the result's evaluation"; the result "costs no second step or charge".
 unfoldable mutual
-  pub eval : Call → Node → Meaning
-  eval call (leaf r a) h = before (step r) (perform call r [] h (plan (leaf r a) h))
-  eval call (branch r es) h = before (step r) (formed call r es (eval-all call es) h)
+  pub rule : Call → Node → Meaning
+  rule call (leaf r a) h = perform call r [] h (plan (leaf r a) h)
+  rule call (branch r es) h = formed call r es (eval-all call es) h
+  rule call (bytecode r es o) h = rule-bytecode call r o h
+
+  pub rule-bytecode : Call → ℕ → Outcome → Meaning
+  rule-bytecode call r (fails w) h = stop w r
+  rule-bytecode call r (becomes rows e) h = after (map step rows) (rule call e h)
 
   pub eval-all : Call → Nodes → List Meaning
   eval-all call empty = []
-  eval-all call (cons e es) = (λ h. eval call e h) ∷ eval-all call es
+  eval-all call (cons e es) = stepped e (λ h. rule call e h) ∷ eval-all call es
+
+abbrev pub eval : Call → Node → Meaning
+eval call e h = stepped e (rule call e) h
 
 -- 19: "more than [..] 32 codes in progress", at the call, "after its arguments"; here k more may be
 unfoldable pub run-code : ℕ → Call
@@ -117,7 +131,7 @@ start = record { within = top []; scope = []; namespaces = []; arguments = outsi
 
 -- the run of a stream's meaning
 unfoldable pub run : Exprs → Run (List Exprs)
-run es = top-level [] (number-all 0 es) start
+run es = top-level [] (transform-all (number-all 0 es)) start
 
 -- "Result: the top-level values in order."
 unfoldable pub result : List Exprs → Exprs

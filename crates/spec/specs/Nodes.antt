@@ -62,10 +62,18 @@ mutual
   pub data Node : Type 0 where
     leaf : ℕ → Atom → Node
     branch : ℕ → Nodes → Node
+    -- a bytecode form: its elements as they are written, and what it is transformed to (specs/Bytecode)
+    bytecode : ℕ → Nodes → Outcome → Node
 
   pub data Nodes : Type 0 where
     empty : Nodes
     cons : Node → Nodes → Nodes
+
+  pub data Outcome : Type 0 where
+    -- a refusal's number, at the form
+    fails : ℕ → Outcome
+    -- the rows of the expressions taken from the flat list, and the result
+    becomes : List ℕ → Node → Outcome
 
 unfoldable mutual
   pub number : ℕ → Expr → Node
@@ -81,15 +89,22 @@ unfoldable mutual
   pub unnumbered : Node → Expr
   unnumbered (leaf r a) = atom a
   unnumbered (branch r es) = form (unnumbered-all es)
+  unnumbered (bytecode r es o) = form (unnumbered-all es)
 
   pub unnumbered-all : Nodes → Exprs
   unnumbered-all empty = none
   unnumbered-all (cons e es) = more (unnumbered e) (unnumbered-all es)
 
+abbrev pub row : Node → ℕ
+row (leaf r a) = r
+row (branch r es) = r
+row (bytecode r es o) = r
+
 -- a form's elements, and what follows its head
 abbrev pub elements : Node → Nodes
 elements (leaf r a) = empty
 elements (branch r es) = es
+elements (bytecode r es o) = es
 
 abbrev pub tail : Nodes → Nodes
 tail empty = empty
@@ -100,6 +115,7 @@ abbrev pub head-word : Nodes → Word
 head-word empty = plain
 head-word (cons (leaf r a) es) = if-ref a word plain
 head-word (cons (branch r fs) es) = plain
+head-word (cons (bytecode r fs o) es) = plain
 
 -- whether an expression is a form headed by a word
 abbrev pub headed-by : Word → Node → Bool
@@ -110,6 +126,7 @@ unfoldable mutual
   pub markers : Node → List ℕ
   markers (leaf r a) = if-ref a (λ m n. m ∷ []) []
   markers (branch r es) = markers-all es
+  markers (bytecode r es o) = markers-all es
 
   pub markers-all : Nodes → List ℕ
   markers-all empty = []

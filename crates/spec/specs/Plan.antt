@@ -5,8 +5,8 @@ use mathlib.Core.List.{List, [], _∷_}
 use mathlib.Core.Bool.{Bool, not, _&&_, _||_}
 use lib.ListN.{length}
 use lib.Dec.{ltb, leb, eqb}
-use Rattle.spec.specs.Expr.{if_then_else_, same, some, Atom, nil, array, int, ref, if-ref, if-array, atom, form, Exprs, only, size, first, without}
-use Rattle.spec.specs.Nodes.{core, Word, ns, define, concat, subst, arg, rest, plain, is, word, Node, leaf, branch, Nodes, empty, cons, unnumbered-all, elements, tail, head-word, headed-by}
+use Rattle.spec.specs.Expr.{if_then_else_, same, some, Atom, if-ref, if-array, if-int, atom, form, Exprs, only, size, first, without}
+use Rattle.spec.specs.Nodes.{core, Word, ns, define, concat, subst, arg, rest, plain, is, word, Node, leaf, branch, bytecode, Nodes, empty, cons, unnumbered-all, elements, tail, head-word, headed-by}
 
 -- Where an expression is evaluated
 
@@ -99,18 +99,18 @@ expect-two (cons h (cons a (cons b (cons c es)))) f = refuse 11
 abbrev pub expect-ref : Node → (ℕ → ℕ → Plan) → Plan
 expect-ref (leaf r a) f = if-ref a f (refuse 11)
 expect-ref (branch r es) f = refuse 11
+expect-ref (bytecode r es o) f = refuse 11
 
 abbrev pub expect-array : Node → (List ℕ → Plan) → Plan
 expect-array (leaf r a) f = if-array a f (refuse 11)
 expect-array (branch r es) f = refuse 11
+expect-array (bytecode r es o) f = refuse 11
 
 -- "n is a written small integer"
 abbrev pub expect-int : Node → (ℕ → Plan) → Plan
-expect-int (leaf r nil) f = refuse 11
-expect-int (leaf r (array bs)) f = refuse 11
-expect-int (leaf r (int n)) f = f n
-expect-int (leaf r (ref m n)) f = refuse 11
+expect-int (leaf r a) f = if-int a f (refuse 11)
 expect-int (branch r es) f = refuse 11
+expect-int (bytecode r es o) f = refuse 11
 
 -- The rules
 
@@ -184,6 +184,7 @@ abbrev pub plan-other : Nodes → Scope → Plan
 plan-other empty scope = data-form
 plan-other (cons (leaf r a) es) scope = if-ref a (λ m n. plan-head (look-up m n scope)) data-form
 plan-other (cons (branch r fs) es) scope = if is (head-word fs) subst then inside 1 inner (as-call (tail fs) scope) else data-form
+plan-other (cons (bytecode r fs o) es) scope = data-form
 
 -- 12: "`subst` form where a value is wanted"
 unfoldable pub plan-form : Word → Nodes → Here → Plan
@@ -208,7 +209,8 @@ plan-atom a scope =
     if-ref a (λ m n. if is (word m n) plain then plan-reference (look-up m n scope) a else refuse 12)
     (leave (only (atom a)))
 
--- the rule for an expression
+-- the rule for an expression, a bytecode form taken as it is written
 abbrev pub plan : Node → Here → Plan
 plan (leaf r a) h = plan-atom a (h .scope)
 plan (branch r es) h = plan-form (head-word es) es h
+plan (bytecode r es o) h = plan-form (head-word es) es h

@@ -28,6 +28,9 @@ stop w r = record { events = []; end = stopped w r }
 abbrev pub before : {A : Type 0} → Event → Run A → Run A
 before e run = record { events = e ∷ run .events; end = run .end }
 
+abbrev pub after : {A : Type 0} → List Event → Run A → Run A
+after es run = record { events = es ++ run .events; end = run .end }
+
 -- a run, then what follows from its result
 abbrev pub follow : {A B : Type 0} → List Event → End A → (A → Run B) → Run B
 follow es (done a) f = record { events = es ++ f a .events; end = f a .end }
