@@ -17,7 +17,7 @@ use Rattle.laws.proofs.Spelling.{length-spelled}
 use Rattle.laws.proofs.Steps.{none-left}
 use Rattle.atoms.specs.Tokens.{leading-threes, around}
 use Rattle.atoms.proofs.Places.{left-at, first-left, around-failed, around-inner, length-many, BehindThrees, behind-threes}
-use Rattle.rows.specs.Rows.{cell, LeafAt}
+use Rattle.rows.specs.Rows.{cell, start, LeafAt}
 use Rattle.rows.specs.Lengths.{EndsAt}
 use Rattle.rows.proofs.Slices.{slice-split, slice-take}
 
@@ -129,7 +129,7 @@ innermost s at depth end whole h e ends = record {
 -- Arrays
 
 -- an array, by its row: one byte before its own, or 03 and a length
-module _ {s t : List ℕ} {row at : ℕ} {bs : List ℕ} (start : at ≡ cell t row 1) (leaf : LeafAt s t row (array bs)) where
+module _ {s t : List ℕ} {row at : ℕ} {bs : List ℕ} (begin : at ≡ start t row) (leaf : LeafAt s t row (array bs)) where
   abbrev end : ℕ
   end = cell t row 2
 
@@ -146,7 +146,7 @@ module _ {s t : List ℕ} {row at : ℕ} {bs : List ℕ} (start : at ≡ cell t 
 
   pub body-begins : ((getD s at 0 ≡ 0x03 → ⊥) → at + 1 ≡ end - length bs)
       × (getD s at 0 ≡ 0x03 → EndsAt s (length-expr 7 (drop (at + 1) s)) (end - length bs))
-  body-begins = go (rw start (leaf .spells))
+  body-begins = go (rw begin (leaf .spells))
     where
       go : SpellsArray bs (slice at end s) → ((getD s at 0 ≡ 0x03 → ⊥) → at + 1 ≡ end - length bs)
           × (getD s at 0 ≡ 0x03 → EndsAt s (length-expr 7 (drop (at + 1) s)) (end - length bs))

@@ -3,20 +3,22 @@
 use Prim.Native.Nat.{ℕ, suc, _+_, _*_, _-_, _/_, _%_, _≤_, _<_}
 use mathlib.Core.Path.{_≡_, refl, sym, ap, _∙_}
 use mathlib.Core.List.{List, [], _∷_, _++_, append-assoc}
-use mathlib.Core.Bool.{Bool, true, false, not, _&&_}
+use mathlib.Core.Bool.{Bool, true, false, not, _&&_, _||_}
 use lib.ListN.{length, getD, take, length-append, replicate, length-replicate}
 use lib.Seq.{slice, getD-take, getD-drop, getD-at, length-slice}
-use lib.Dec.{T, eqb}
-use borrow.Author.Tests.{eqb-true, eqb-false, eq-eqb, ne-eqb}
+use lib.Dec.{T, leb, eqb}
+use borrow.Author.Tests.{leb-true, leb-false, eqb-true, eqb-false, eq-eqb, ne-eqb}
 use types.Run.{OneOf, miss}
 use mir.Val.{hasKey}
 use denote.Enum.Declared.{tagOf}
+use native.Mathlib.Decide.{ℕ-discrete}
 use native.Mathlib.Omega.{arith}
-use Rattle.spec.specs.Expr.{if_then_else_, int, ref, marker-bytes}
-use Rattle.spec.specs.Nodes.{core, Word, plain, order, is, Name, names, among, word}
+use Rattle.spec.specs.Expr.{if_then_else_, some, int, ref, marker-bytes}
+use Rattle.spec.specs.Nodes.{core, Word, plain, order, is, Name, names, among, word, leaf, Nodes, cons}
+use Rattle.spec.specs.Bytecode.{bytecode-names, led-by-name}
 use Rattle.laws.proofs.Canonical.{Mark, short, long, marker-bytes-are}
-use Rattle.rows.specs.Rows.{cell, LeafAt, key-of}
-use Rattle.rows.specs.Forms.{meant}
+use Rattle.rows.specs.Rows.{cell, start, LeafAt, key-of}
+use Rattle.rows.specs.Forms.{meant, reserved}
 use Rattle.rows.specs.declared.words.Word.{Word as Coded}
 use Rattle.rows.specs.declared.words.Word.the-variants.{Ns, Define, Concat, Subst, Arg, Rest, Plain}
 use Rattle.rows.proofs.words.Word.{the-type}
@@ -87,6 +89,62 @@ word-number Plain = refl
 pub other-word : (w : Coded) (v : Word) (ks : List ℕ) → OneOf ks (tagOf the-type w) → T (not (hasKey ks (order v))) → is (meant w) v ≡ false
 other-word w v ks h g = ne-eqb (order (meant w)) (order v) (λ e. miss ks (order v) g (rw (word-number w ∙ e) at h))
 
+-- Bytecode names
+
+name-between : (x : ℕ) → 0x30 ≤ x → x ≤ 0x34 → some (eqb x) bytecode-names ≡ true
+unfolding some
+name-between x l h =
+    elim (ℕ-discrete x 0x30) [
+      | yes e ↦ rw e
+      | no a ↦
+          elim (ℕ-discrete x 0x31) [
+            | yes e ↦ rw e
+            | no b ↦
+                elim (ℕ-discrete x 0x32) [
+                  | yes e ↦ rw e
+                  | no c ↦
+                      elim (ℕ-discrete x 0x33) [ yes e ↦ rw e | no d ↦ (let e : x ≡ 0x34 = omega arith in rw e) ]
+                ]
+          ]
+    ]
+
+name-outside : (x : ℕ) → (0x30 ≤ x → x ≤ 0x34 → ⊥) → some (eqb x) bytecode-names ≡ false
+unfolding some
+name-outside x out =
+    let apart : (y : ℕ) → 0x30 ≤ y → y ≤ 0x34 → eqb x y ≡ false = λ y l h. ne-eqb x y (λ e. out (omega arith) (omega arith)) in
+    rw (apart 0x30 (omega arith) (omega arith), apart 0x31 (omega arith) (omega arith), apart 0x32 (omega arith) (omega arith))
+    (rw (apart 0x33 (omega arith) (omega arith), apart 0x34 (omega arith) (omega arith)))
+
+-- by the key: those from `prefix` to `arity`
+abbrev pub is-bytecode : ℕ → Bool
+is-bytecode k = eqb (k / 256) core && some (eqb (k % 256)) bytecode-names
+
+pub key-bytecode : (k : ℕ) → 0x2030 ≤ k → k ≤ 0x2034 → is-bytecode k ≡ true
+key-bytecode k l h = rw (eq-eqb (k / 256) core (omega arith)) (name-between (k % 256) (omega arith) (omega arith))
+
+pub key-other : (k : ℕ) → (0x2030 ≤ k → k ≤ 0x2034 → ⊥) → is-bytecode k ≡ false
+key-other k out = go (eqb (k / 256) core) refl
+  where
+    go : (b : Bool) → eqb (k / 256) core ≡ b → b && some (eqb (k % 256)) bytecode-names ≡ false
+    go true e = let m = eqb-true (k / 256) core e in name-outside (k % 256) (λ l h. out (omega arith) (omega arith))
+    go false e = refl
+
+pub key-upto : (k : ℕ) → 0x2030 ≤ k → leb k 0x2034 ≡ is-bytecode k
+key-upto k l = go (leb k 0x2034) refl
+  where
+    go : (b : Bool) → leb k 0x2034 ≡ b → b ≡ is-bytecode k
+    go true e = sym (key-bytecode k l (leb-true k 0x2034 e))
+    go false e = sym (key-other k (λ _ h. omega (arith, leb-false k 0x2034 e)))
+
+-- a name is found again in the key
+pub reserved-again : (q m n : ℕ) (es : Nodes) → n < 256 → reserved (key-of m n) ≡ led-by-name (cons (leaf q (ref m n)) es)
+unfolding some
+reserved-again q m n es h = rw (key-marker m n h, key-name m n h) (go (eqb m core))
+  where
+    go : (b : Bool) → not (is (word m n) plain) || b && some (eqb n) bytecode-names ≡ not (is (word m n) plain) || some (λ k. b && eqb n k) bytecode-names
+    go true = refl
+    go false = refl
+
 -- A reference's bytes
 
 -- what is read of a reference that goes from one place to another
@@ -135,8 +193,8 @@ module _ (s : List ℕ) (from to : ℕ) (inside : to ≤ length s) where
 -- Rows
 
 module _ (s t : List ℕ) (r : ℕ) where
-  pub ref-read : (m n : ℕ) → LeafAt s t r (ref m n) → RefAt s (cell t r 1) (cell t r 2) m n
-  ref-read m n l = ref-at s (cell t r 1) (cell t r 2) (l .row .ends) m n (l .spells .2)
+  pub ref-read : (m n : ℕ) → LeafAt s t r (ref m n) → RefAt s (start t r) (cell t r 2) m n
+  ref-read m n l = ref-at s (start t r) (cell t r 2) (l .row .ends) m n (l .spells .2)
 
-  pub int-read : (v : ℕ) → LeafAt s t r (int v) → getD s (cell t r 1) 0 ≡ 0x80 + v
-  int-read v l = part-at s (cell t r 1) (cell t r 2) (l .row .ends) [] (0x80 + v) [] (cell t r 1) (l .spells .1) (omega arith)
+  pub int-read : (v : ℕ) → LeafAt s t r (int v) → getD s (start t r) 0 ≡ 0x80 + v
+  int-read v l = part-at s (start t r) (cell t r 2) (l .row .ends) [] (0x80 + v) [] (start t r) (l .spells .1) (omega arith)

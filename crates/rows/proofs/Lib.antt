@@ -1,7 +1,9 @@
 pub mod Slices
 pub mod Same
 pub mod Nodes
-pub mod Filled
 pub mod Keys
-pub mod Parts
 pub mod Bodies
+pub mod Written
+pub mod Filled
+pub mod Parts
+pub mod Outcomes

@@ -1,23 +1,31 @@
--- Laws of `NodeAt` and `NodesAt`: what the row of a node tells of it, and of nodes one after the other, one for each thing that code asks of
--- a row. Document 01: "Table". Assumes nothing.
+-- Laws of atoms at their rows, of written nodes and of transformed ones: what the row of a node tells of it, and of nodes one after the other,
+-- one for each thing that code asks of a row. Document 01: "Table". Assumes nothing.
 use Prim.Native.Nat.{ℕ, _+_, _-_, _*_, _≤_, _<_}
 use mathlib.Core.Path.{_≡_, refl, sym, ap, _∙_, subst}
 use mathlib.Core.List.{List, [], _∷_, _++_, append-assoc}
+use mathlib.Core.Bool.{Bool, true, false}
 use lib.ListN.{length, take, drop, length-append}
 use lib.Seq.{slice, length-slice, drop-drop, drop-at}
 use native.Mathlib.Omega.{arith}
 use Rattle.spec.specs.Expr.{Atom, nil, array, int, ref, atom-bytes}
 use Rattle.spec.specs.Reading.{atom-kind, row-width}
-use Rattle.spec.specs.Nodes.{Node, leaf, branch, Nodes, empty, cons, markers, markers-all}
+use Rattle.spec.specs.Nodes.{plain, is, Node, leaf, branch, bytecode, Nodes, empty, cons, Outcome, row, elements, head-word, markers, markers-all}
 use Rattle.laws.specs.Demands.{Bytes}
 use Rattle.laws.specs.Grammar.{SpellsArray, small, generic}
 use Rattle.laws.proofs.Fits.{bytes-take, bytes-drop, Fits}
 use Rattle.laws.proofs.Shortest.{spelled-fits}
-use Rattle.rows.specs.Rows.{cell, next, RowAt, LeafAt, NodeAt, NodesAt, row-of}
+use Rattle.laws.proofs.Basics.{impossible}
+use Rattle.rows.specs.Rows.{cell, kind, start, next, RowAt, LeafAt, WrittenAt, WrittenAll, is-made, behind, Opens, NodeAt, NodesAt}
 
 -- Atoms
 
 -- what a kind tells of an atom
+pub kind-nil : (a : Atom) → atom-kind a ≡ 0 → a ≡ nil
+kind-nil nil h = refl
+kind-nil (array bs) h = absurd (omega arith)
+kind-nil (int v) h = absurd (omega arith)
+kind-nil (ref m n) h = absurd (omega arith)
+
 pub kind-array : (a : Atom) → atom-kind a ≡ 2 → (bs : List ℕ) × (a ≡ array bs)
 kind-array nil h = absurd (omega arith)
 kind-array (array bs) h = (bs, refl)
@@ -48,14 +56,14 @@ spelled-array bs x (small h e) = ((0xC0 + length bs) ∷ [], e, omega arith)
 spelled-array bs x (generic y h e) = (0x03 ∷ y, e, omega arith)
 
 module _ {s t : List ℕ} {r : ℕ} where
-  pub leaf-kind : {a : Atom} → LeafAt s t r a → atom-kind a ≡ cell t r 0
+  pub leaf-kind : {a : Atom} → LeafAt s t r a → atom-kind a ≡ kind t r
   leaf-kind l = sym (l .row .kind-is)
 
   -- an array's bytes are the last of its row's
   pub leaf-array : {bs : List ℕ} → LeafAt s t r (array bs)
-      → (slice (cell t r 2 - length bs) (cell t r 2) s ≡ bs) × (length bs < cell t r 2 - cell t r 1) × (length bs < 65536)
+      → (slice (cell t r 2 - length bs) (cell t r 2) s ≡ bs) × (length bs < cell t r 2 - start t r) × (length bs < 65536)
   leaf-array {bs} l =
-      let from = cell t r 1 in
+      let from = start t r in
       let to = cell t r 2 in
       let a = spelled-array bs (slice from to s) (l .spells) in
       let size : length (a .0) + length bs ≡ to - from = sym (length-append (a .0) bs) ∙ ap length (sym (a .1)) ∙ length-slice from to s (l .row .ends) in
@@ -69,34 +77,24 @@ module _ {s t : List ℕ} {r : ℕ} where
       )
 
   -- the other atoms have one way of writing
-  pub leaf-nil : LeafAt s t r nil → slice (cell t r 1) (cell t r 2) s ≡ atom-bytes nil
+  pub leaf-nil : LeafAt s t r nil → slice (start t r) (cell t r 2) s ≡ atom-bytes nil
   unfolding atom-bytes
   leaf-nil l = l .spells
 
-  pub leaf-int : {v : ℕ} → LeafAt s t r (int v) → slice (cell t r 1) (cell t r 2) s ≡ atom-bytes (int v)
+  pub leaf-int : {v : ℕ} → LeafAt s t r (int v) → slice (start t r) (cell t r 2) s ≡ atom-bytes (int v)
   unfolding atom-bytes
   leaf-int l = l .spells .1
 
-  pub leaf-ref : {m n : ℕ} → LeafAt s t r (ref m n) → slice (cell t r 1) (cell t r 2) s ≡ atom-bytes (ref m n)
+  pub leaf-ref : {m n : ℕ} → LeafAt s t r (ref m n) → slice (start t r) (cell t r 2) s ≡ atom-bytes (ref m n)
   unfolding atom-bytes
   leaf-ref l = l .spells .2
 
   pub leaf-fits : {a : Atom} → Bytes s → LeafAt s t r a → Fits a
   leaf-fits {a} b l =
-      let own = bytes-drop (cell t r 1) (take (cell t r 2) s) (bytes-take (cell t r 2) s b) in
-      spelled-fits a (slice (cell t r 1) (cell t r 2) s) own (l .spells) .0
+      let own = bytes-drop (start t r) (take (cell t r 2) s) (bytes-take (cell t r 2) s b) in
+      spelled-fits a (slice (start t r) (cell t r 2) s) own (l .spells) .0
 
--- Nodes, one after the other
-
--- nodes of which there is one more, at row r
-pub record MoreAt (s t : List ℕ) (r end : ℕ) (es : Nodes) : Type 0 where
-  pub head : Node
-  pub rest : Nodes
-  pub is : es ≡ cons head rest
-  pub node : NodeAt s t r head
-  pub nodes : NodesAt s t (next t r) end rest
-  pub forward : r < next t r
-  pub inside : next t r ≤ end
+-- Nodes one behind the other
 
 unfoldable pub append-nodes : Nodes → Nodes → Nodes
 append-nodes empty fs = fs
@@ -108,72 +106,191 @@ markers-append empty fs = refl
 markers-append (cons e es) fs =
     ap (λ (l : List ℕ). markers e ++ l) (markers-append es fs) ∙ sym (append-assoc (markers e) (markers-all es) (markers-all fs))
 
+-- Written nodes
+
+-- written nodes of which there is one more, at row r
+pub record MoreWritten (s t : List ℕ) (r end : ℕ) (es : Nodes) : Type 0 where
+  pub head : Node
+  pub rest : Nodes
+  pub is : es ≡ cons head rest
+  pub node : WrittenAt s t r head
+  pub nodes : WrittenAll s t (next t r) end rest
+  pub forward : r < next t r
+  pub inside : next t r ≤ end
+
 module _ (s t : List ℕ) where
-  nodes-order : (r end : ℕ) (es : Nodes) → NodesAt s t r end es → r ≤ end
+  pub written-order : (r end : ℕ) (es : Nodes) → WrittenAll s t r end es → r ≤ end
+  unfolding WrittenAt
+  written-order r end empty n = omega (arith, n)
+  written-order r end (cons e es) n = omega (arith, n .0, n .1)
+
+  pub written-done : (r end : ℕ) (es : Nodes) → WrittenAll s t r end es → end ≤ r → es ≡ empty
+  unfolding WrittenAt
+  written-done r end empty n h = refl
+  written-done r end (cons e es) n h = absurd (omega (arith, n .0, n .1))
+
+  pub written-more : (r end : ℕ) (es : Nodes) → WrittenAll s t r end es → r < end → MoreWritten s t r end es
+  unfolding WrittenAt
+  written-more r end empty n h = absurd (omega (arith, n))
+  written-more r end (cons e es) n h =
+      record { head = e; rest = es; is = refl; node = n .2; nodes = n .3; forward = n .0; inside = n .1 }
+
+  -- the same of nodes that are known to be more
+  pub written-first : (r end : ℕ) (e : Node) (es : Nodes) → WrittenAll s t r end (cons e es)
+      → (r < end) × WrittenAt s t r e × WrittenAll s t (next t r) end es
+  unfolding WrittenAt
+  written-first r end e es n = (omega (arith, n .0, n .1), n .2, n .3)
+
+  pub written-append : (a b c : ℕ) (es fs : Nodes) → WrittenAll s t a b es → WrittenAll s t b c fs → WrittenAll s t a c (append-nodes es fs)
+  unfolding WrittenAt append-nodes
+  written-append a b c empty fs n m = subst (λ (k : ℕ). WrittenAll s t k c fs) (sym n) m
+  written-append a b c (cons e es) fs n m =
+      (n .0, omega (arith, n .1, written-order b c fs m), n .2, written-append (next t a) b c es fs (n .3) m)
+
+module _ (s t : List ℕ) (r : ℕ) where
+  pub written-row : (e : Node) → WrittenAt s t r e → row e ≡ r
+  unfolding WrittenAt
+  written-row (leaf q a) n = n .0
+  written-row (branch q es) n = n .0
+  written-row (bytecode q es o) n = absurd n
+
+  pub written-whole : (e : Node) → WrittenAt s t r e → (row-width * r + row-width ≤ length t) × (r < 65536)
+  unfolding WrittenAt
+  written-whole (leaf q a) n = (n .1 .row .inside, n .1 .row .few)
+  written-whole (branch q es) n = (n .1 .inside, n .1 .few)
+  written-whole (bytecode q es o) n = absurd n
+
+  pub written-next : (e : Node) → WrittenAt s t r e → r < next t r
+  unfolding WrittenAt
+  written-next (leaf q a) n = omega (arith, n .1 .on)
+  written-next (branch q es) n = omega (arith, written-order s t (r + 1) (next t r) es (n .2))
+  written-next (bytecode q es o) n = absurd n
+
+  -- what a row's kind tells of the node
+  pub written-form : (e : Node) → WrittenAt s t r e → kind t r ≡ 1 → (es : Nodes) × (e ≡ branch r es) × WrittenAll s t (r + 1) (next t r) es
+  unfolding WrittenAt
+  written-form (leaf q a) n h = absurd (no-form a (leaf-kind (n .1) ∙ h))
+  written-form (branch q es) n h = (es, ap (λ (k : ℕ). branch k es) (n .0), n .2)
+  written-form (bytecode q es o) n h = absurd n
+
+  pub written-leaf : (e : Node) → WrittenAt s t r e → (kind t r ≡ 1 → ⊥) → (a : Atom) × (e ≡ leaf r a) × LeafAt s t r a
+  unfolding WrittenAt
+  written-leaf (leaf q a) n h = (a, ap (λ (k : ℕ). leaf k a) (n .0), n .1)
+  written-leaf (branch q es) n h = absurd (h (n .1 .kind-is))
+  written-leaf (bytecode q es o) n h = absurd n
+
+-- Transformed nodes
+
+-- nodes of which there is one more, at row r
+pub record MoreAt (s t : List ℕ) (flat : Bool) (r end : ℕ) (es : Nodes) : Type 0 where
+  pub head : Node
+  pub rest : Nodes
+  pub is : es ≡ cons head rest
+  pub node : NodeAt s t flat r head
+  pub nodes : NodesAt s t flat (behind t flat r) end rest
+  pub forward : r < behind t flat r
+  pub inside : behind t flat r ≤ end
+
+module _ (s t : List ℕ) (flat : Bool) where
+  pub nodes-order : (r end : ℕ) (es : Nodes) → NodesAt s t flat r end es → r ≤ end
   unfolding NodeAt
   nodes-order r end empty n = omega (arith, n)
   nodes-order r end (cons e es) n = omega (arith, n .0, n .1)
 
-  pub nodes-done : (r end : ℕ) (es : Nodes) → NodesAt s t r end es → end ≤ r → es ≡ empty
+  pub nodes-done : (r end : ℕ) (es : Nodes) → NodesAt s t flat r end es → end ≤ r → es ≡ empty
   unfolding NodeAt
   nodes-done r end empty n h = refl
   nodes-done r end (cons e es) n h = absurd (omega (arith, n .0, n .1))
 
-  pub nodes-more : (r end : ℕ) (es : Nodes) → NodesAt s t r end es → r < end → MoreAt s t r end es
+  pub nodes-more : (r end : ℕ) (es : Nodes) → NodesAt s t flat r end es → r < end → MoreAt s t flat r end es
   unfolding NodeAt
   nodes-more r end empty n h = absurd (omega (arith, n))
   nodes-more r end (cons e es) n h =
       record { head = e; rest = es; is = refl; node = n .2; nodes = n .3; forward = n .0; inside = n .1 }
 
   -- the same of nodes that are known to be more
-  pub nodes-first : (r end : ℕ) (e : Node) (es : Nodes) → NodesAt s t r end (cons e es)
-      → (r < end) × NodeAt s t r e × NodesAt s t (next t r) end es
+  pub nodes-first : (r end : ℕ) (e : Node) (es : Nodes) → NodesAt s t flat r end (cons e es)
+      → (r < end) × NodeAt s t flat r e × NodesAt s t flat (behind t flat r) end es
   unfolding NodeAt
   nodes-first r end e es n = (omega (arith, n .0, n .1), n .2, n .3)
 
-  pub nodes-append : (a b c : ℕ) (es fs : Nodes) → NodesAt s t a b es → NodesAt s t b c fs → NodesAt s t a c (append-nodes es fs)
+  pub nodes-append : (a b c : ℕ) (es fs : Nodes) → NodesAt s t flat a b es → NodesAt s t flat b c fs → NodesAt s t flat a c (append-nodes es fs)
   unfolding NodeAt append-nodes
-  nodes-append a b c empty fs n m = subst (λ (k : ℕ). NodesAt s t k c fs) (sym n) m
-  nodes-append a b c (cons e es) fs n m = (n .0, omega (arith, n .1, nodes-order b c fs m), n .2, nodes-append (next t a) b c es fs (n .3) m)
+  nodes-append a b c empty fs n m = subst (λ (k : ℕ). NodesAt s t flat k c fs) (sym n) m
+  nodes-append a b c (cons e es) fs n m =
+      (n .0, omega (arith, n .1, nodes-order b c fs m), n .2, nodes-append (behind t flat a) b c es fs (n .3) m)
 
 -- One node
 
-module _ (s t : List ℕ) (r : ℕ) where
-  pub node-row : (e : Node) → NodeAt s t r e → row-of e ≡ r
+module _ {s t : List ℕ} {flat : Bool} {r : ℕ} where
+  pub opens-whole : Opens s t flat r → (row-width * r + row-width ≤ length t) × (r < 65536)
+  opens-whole o = go (is-made t flat r) refl
+    where
+      go : (b : Bool) → is-made t flat r ≡ b → (row-width * r + row-width ≤ length t) × (r < 65536)
+      go true e = let l = o .by-operator e .leaf-at in (l .row .inside, l .row .few)
+      go false e = let l = o .by-row e in (l .inside, l .few)
+
+module _ (s t : List ℕ) (flat : Bool) (r : ℕ) where
+  pub node-row : (e : Node) → NodeAt s t flat r e → row e ≡ r
   unfolding NodeAt
   node-row (leaf q a) n = n .0
   node-row (branch q es) n = n .0
+  node-row (bytecode q es o) n = n .0
 
-  pub leaf-at : (q : ℕ) (a : Atom) → NodeAt s t r (leaf q a) → LeafAt s t r a
+  pub leaf-at : (q : ℕ) (a : Atom) → NodeAt s t flat r (leaf q a) → LeafAt s t r a
   unfolding NodeAt
-  leaf-at q a n = n .1
+  leaf-at q a n = n .2
 
-  pub form-row : (q : ℕ) (es : Nodes) → NodeAt s t r (branch q es) → RowAt s t r 1
+  pub node-whole : (e : Node) → NodeAt s t flat r e → (row-width * r + row-width ≤ length t) × (r < 65536)
   unfolding NodeAt
-  form-row q es n = n .1
+  node-whole (leaf q a) n = (n .2 .row .inside, n .2 .row .few)
+  node-whole (branch q es) n = opens-whole (n .1)
+  node-whole (bytecode q es o) n = opens-whole (n .1)
 
-  pub form-nodes : (q : ℕ) (es : Nodes) → NodeAt s t r (branch q es) → NodesAt s t (r + 1) (next t r) es
-  unfolding NodeAt
-  form-nodes q es n = n .2
-
-  pub node-whole : (e : Node) → NodeAt s t r e → (row-width * r + row-width ≤ length t) × (r < 65536)
-  node-whole (leaf q a) n = let l = leaf-at q a n in (l .row .inside, l .row .few)
-  node-whole (branch q es) n = let row = form-row q es n in (row .inside, row .few)
-
-  pub more-whole : {end : ℕ} {es : Nodes} → MoreAt s t r end es → (row-width * r + row-width ≤ length t) × (r < 65536)
+  pub more-whole : {end : ℕ} {es : Nodes} → MoreAt s t flat r end es → (row-width * r + row-width ≤ length t) × (r < 65536)
   more-whole f = node-whole (f .head) (f .node)
 
-  pub node-next-in : (e : Node) → NodeAt s t r e → r < next t r
-  node-next-in (leaf q a) n = omega (arith, leaf-at q a n .on)
-  node-next-in (branch q es) n = omega (arith, nodes-order s t (r + 1) (next t r) es (form-nodes q es n))
+  -- what stands behind a leaf is at the next row
+  pub leaf-skipped : (end q : ℕ) (a : Atom) (es : Nodes) → NodesAt s t flat r end (cons (leaf q a) es) → NodesAt s t flat (r + 1) end es
+  unfolding NodeAt
+  leaf-skipped end q a es n = rw (n .2 .1, n .2 .2 .on) at (n .3)
+
+-- in a list that is not flat
+
+module _ (s t : List ℕ) (r : ℕ) where
+  pub form-row : (q : ℕ) (es : Nodes) → NodeAt s t false r (branch q es) → RowAt s t r 1
+  unfolding NodeAt
+  form-row q es n = n .1 .by-row refl
+
+  pub form-nodes : (q : ℕ) (es : Nodes) → NodeAt s t false r (branch q es) → NodesAt s t false (r + 1) (next t r) es
+  unfolding NodeAt
+  form-nodes q es n = n .3
+
+  pub bytecode-row : (q : ℕ) (es : Nodes) (o : Outcome) → NodeAt s t false r (bytecode q es o) → RowAt s t r 1
+  unfolding NodeAt
+  bytecode-row q es o n = n .1 .by-row refl
+
+  pub bytecode-written : (q : ℕ) (es : Nodes) (o : Outcome) → NodeAt s t false r (bytecode q es o) → WrittenAll s t (r + 1) (next t r) es
+  unfolding NodeAt
+  bytecode-written q es o n = n .4
+
+  pub node-next-in : (e : Node) → NodeAt s t false r e → r < next t r
+  unfolding NodeAt
+  node-next-in (leaf q a) n = omega (arith, n .2 .on)
+  node-next-in (branch q es) n = omega (arith, nodes-order s t false (r + 1) (next t r) es (n .3))
+  node-next-in (bytecode q es o) n = omega (arith, written-order s t (r + 1) (next t r) es (n .4))
+
+  -- an expression that a function name heads is a form, and no bytecode form
+  pub node-worded : (e : Node) → NodeAt s t false r e → is (head-word (elements e)) plain ≡ false
+      → (e ≡ branch r (elements e)) × RowAt s t r 1 × NodesAt s t false (r + 1) (next t r) (elements e)
+  unfolding NodeAt
+  node-worded (leaf q a) n h = impossible (cc)
+  node-worded (branch q es) n h = (ap (λ (k : ℕ). branch k es) (n .0), n .1 .by-row refl, n .3)
+  node-worded (bytecode q es o) n h = impossible (cc (n .3))
 
   -- what is no form is an atom
-  pub kind-leaf : (e : Node) → NodeAt s t r e → (cell t r 0 ≡ 1 → ⊥) → (a : Atom) × (e ≡ leaf r a) × LeafAt s t r a
-  kind-leaf (leaf q a) n h = (a, ap (λ (k : ℕ). leaf k a) (node-row (leaf q a) n), leaf-at q a n)
-  kind-leaf (branch q es) n h = absurd (h (form-row q es n .kind-is))
-
-  -- what stands behind a leaf is at the next row
-  pub leaf-skipped : (end q : ℕ) (a : Atom) (es : Nodes) → NodesAt s t r end (cons (leaf q a) es) → NodesAt s t (r + 1) end es
-  leaf-skipped end q a es n =
-      let f = nodes-first s t r end (leaf q a) es n in
-      subst (λ (k : ℕ). NodesAt s t k end es) (leaf-at q a (f .1) .on) (f .2)
+  pub kind-leaf : (e : Node) → NodeAt s t false r e → (kind t r ≡ 1 → ⊥) → (a : Atom) × (e ≡ leaf r a) × LeafAt s t r a
+  unfolding NodeAt
+  kind-leaf (leaf q a) n h = (a, ap (λ (k : ℕ). leaf k a) (n .0), n .2)
+  kind-leaf (branch q es) n h = absurd (h (n .1 .by-row refl .kind-is))
+  kind-leaf (bytecode q es o) n h = absurd (h (n .1 .by-row refl .kind-is))

@@ -2,14 +2,15 @@
 use Prim.Native.Nat.{ℕ, suc, _+_, _≤_, _<_}
 use mathlib.Core.Path.{_≡_, refl, sym, ap}
 use mathlib.Core.List.{List, [], _∷_}
-use mathlib.Core.Bool.{true, false, _&&_, and-false}
+use mathlib.Core.Bool.{Bool, true, false, _&&_, and-false}
 use native.Mathlib.Omega.{arith}
 use native.Mathlib.Numerals.{add-one}
 use lib.ListN.{length, drop, getD, drop-of-length-le}
 use lib.Seq.{drop-cons}
 use lib.Dec.{eqb}
-use borrow.Author.Tests.{eq-eqb, ne-eqb}
+use borrow.Author.Tests.{eqb-true, eq-eqb, ne-eqb}
 use Rattle.spec.specs.Expr.{same}
+use Rattle.laws.proofs.Basics.{impossible}
 
 -- The same bytes
 
@@ -20,6 +21,17 @@ same-long [] [] h = absurd (h refl)
 same-long [] (b ∷ y) h = refl
 same-long (a ∷ x) [] h = refl
 same-long (a ∷ x) (b ∷ y) h = rw (← same-long x y (λ e. h (ap suc e))) (sym (and-false (eqb a b)))
+
+pub same-equal : (x y : List ℕ) → same x y ≡ true → x ≡ y
+unfolding same
+same-equal [] [] h = refl
+same-equal [] (b ∷ y) h = impossible (cc)
+same-equal (a ∷ x) [] h = impossible (cc)
+same-equal (a ∷ x) (b ∷ y) h = go (eqb a b) refl (same-equal x y) h
+  where
+    go : (c : Bool) → eqb a b ≡ c → (same x y ≡ true → x ≡ y) → c && same x y ≡ true → a ∷ x ≡ b ∷ y
+    go true e f q = rw (eqb-true a b e, f q)
+    go false e f q = impossible (cc)
 
 -- what is left of both, byte by byte
 module _ (x y : List ℕ) (i : ℕ) where

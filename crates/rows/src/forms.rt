@@ -5,25 +5,27 @@ use crate::words::Word;
 use atoms::Kind;
 ghost use mathlib.Core.Path.{_≡_};
 ghost use mathlib.Core.List.{List};
+ghost use mathlib.Core.Bool.{true, false};
 ghost use Prim.Native.Nat.{ℕ, _+_, _*_, _≤_, _<_};
 ghost use lib.ListN.{length};
 ghost use lib.Dec.{leb};
 ghost use Rattle.spec.specs.Reading.{row-width};
 ghost use Rattle.spec.specs.Nodes.{Node as Expression, Nodes, elements, head-word};
 ghost use Rattle.spec.specs.Evaluation.{one-value};
-ghost use Rattle.rows.specs.Rows.{next, NodeAt, NodesAt, parts-of};
-ghost use Rattle.rows.specs.Forms.{meant, written, starting-at, IsNode, row-named, led-by-reference, SomeNodes};
+ghost use Rattle.rows.specs.Rows.{is-made, behind, written, NodeAt, NodesAt, parts-of};
+ghost use Rattle.rows.specs.Forms.{meant, starting-at, flattened, element-at, past, result-at, is-named, HeadInside, HeadAt, SomeHead};
 
-// The elements of a form: those from row `first` up to row `end`; and the row whose place the form has.
+// The elements of a form: those from row `first` up to row `end`. In a flat list operators stand for the forms that are made of them and their
+// operands.
 pub struct Form {
-    pub row: usize,
     pub first: usize,
     pub end: usize,
+    pub flat: bool,
 }
 
-// An atom at a row, or a form.
+// An atom, or a form.
 pub enum Node {
-    Leaf { row: usize },
+    Leaf,
     Branch(Form),
 }
 
@@ -50,42 +52,83 @@ pub fn written(table: &[u32], row: usize) -> Form
     ensures { λ r. ⌜ r ≡ written (now (table .entry)) row ⌝ }
 {
     Form {
-        row,
         first: row + 1,
         end: table::next(table, row),
+        flat: false,
     }
 }
 
 // The expression that is written at a row.
 pub fn at(table: &[u32], row: usize) -> Node
     requires { ⌜ (row-width * row + row-width ≤ length (now table)) × (row < 65536) ⌝ }
-    ensures { λ r. ⌜ ((s : List ℕ) (e : Expression) → NodeAt s (now (table .entry)) row e → IsNode s (now (table .entry)) r e) ⌝ }
+    ensures { λ r. ⌜ r ≡ element-at (now (table .entry)) false row ⌝ }
 {
     if table::kind(table, row) == Kind::FORM {
         return Node::Branch(written(table, row));
     }
-    Node::Leaf { row }
+    Node::Leaf
+}
+
+// Whether an element of a list is a form that is made of an operator and its operands.
+fn is_made(table: &[u32], flat: bool, row: usize) -> bool
+    requires { ⌜ row-width * row + row-width ≤ length (now table) ⌝ }
+    ensures { λ r. ⌜ r ≡ is-made (now (table .entry)) flat row ⌝ }
+{
+    if table::link(table, row) == 0 {
+        return false;
+    }
+    flat
+}
+
+// The element at a row of a list: made of the operator there, or written.
+pub fn element(table: &[u32], flat: bool, row: usize) -> Node
+    requires { ⌜ (row-width * row + row-width ≤ length (now table)) × (row < 65536) ⌝ }
+    ensures { λ r. ⌜ r ≡ element-at (now (table .entry)) flat row ⌝ }
+{
+    if table::kind(table, row) == Kind::FORM {
+        return Node::Branch(written(table, row));
+    }
+    if is_made(table, flat, row) {
+        return Node::Branch(Form {
+            first: row,
+            end: table::link(table, row),
+            flat: false,
+        });
+    }
+    Node::Leaf
+}
+
+// The row behind the element at a row of a list.
+pub fn behind(table: &[u32], flat: bool, row: usize) -> usize
+    requires { ⌜ row-width * row + row-width ≤ length (now table) ⌝ }
+    ensures { λ r. ⌜ r ≡ behind (now (table .entry)) flat row ⌝ }
+{
+    if is_made(table, flat, row) {
+        return table::link(table, row);
+    }
+    table::next(table, row)
 }
 
 // The word that heads the expression written at a row; plain if it is no form.
 pub fn word_at(s: &[u8], table: &[u32], row: usize) -> Word
-    requires { ⌜ ((e : Expression) × NodeAt (now s) (now table) row e) ⌝ }
-    ensures { λ r. ⌜ ((e : Expression) → NodeAt (now (s .entry)) (now (table .entry)) row e → meant r ≡ head-word (elements e)) ⌝ }
+    requires { ⌜ ((e : Expression) × NodeAt (now s) (now table) false row e) ⌝ }
+    ensures { λ r. ⌜ ((e : Expression) → NodeAt (now (s .entry)) (now (table .entry)) false row e → meant r ≡ head-word (elements e)) ⌝ }
 {
     match at(table, row) {
-        Node::Leaf { row: _ } => Word::Plain,
+        Node::Leaf => Word::Plain,
         Node::Branch(form) => form.word(s, table),
     }
 }
 
 impl Node {
-    // The row whose place an expression has.
-    pub fn row(self) -> usize
-        ensures { λ r. ⌜ r ≡ row-named self ⌝ }
+    // The row behind an element of a list at a row.
+    pub fn behind(self, row: usize) -> usize
+        requires { ⌜ row < 65536 ⌝ }
+        ensures { λ r. ⌜ r ≡ past row self ⌝ }
     {
         match self {
-            Node::Leaf { row } => row,
-            Node::Branch(form) => form.row,
+            Node::Leaf => row + 1,
+            Node::Branch(form) => form.end,
         }
     }
 }
@@ -96,10 +139,35 @@ impl Form {
         ensures { λ r. ⌜ r ≡ starting-at first self ⌝ }
     {
         Self {
-            row: self.row,
             first,
             end: self.end,
+            flat: self.flat,
         }
+    }
+
+    // The same elements from a row on, as a flat list.
+    pub fn flat_from(self, first: usize) -> Self
+        ensures { λ r. ⌜ r ≡ flattened first self ⌝ }
+    {
+        Self {
+            first,
+            end: self.end,
+            flat: true,
+        }
+    }
+
+    // What the flat list is transformed to: its one expression, or the form of all.
+    pub fn result(self, table: &[u32]) -> Node
+        requires { ⌜ (self .flat ≡ true) × HeadInside (now table) self ⌝ }
+        ensures { λ r. ⌜ r ≡ result-at (now (table .entry)) self ⌝ }
+    {
+        if self.is_empty() {
+            return Node::Branch(self);
+        }
+        if behind(table, self.flat, self.first) < self.end {
+            return Node::Branch(self);
+        }
+        element(table, self.flat, self.first)
     }
 
     pub fn is_empty(self) -> bool
@@ -110,19 +178,22 @@ impl Form {
 
     // Whether the head is a reference.
     pub fn is_named(self, table: &[u32]) -> bool
-        requires { ⌜ ((s : List ℕ) × (es : Nodes) × NodesAt s (now table) (self .first) (self .end) es) ⌝ }
-        ensures { λ r. ⌜ ((s : List ℕ) (es : Nodes) → NodesAt s (now (table .entry)) (self .first) (self .end) es → r ≡ led-by-reference es) ⌝ }
+        requires { ⌜ HeadInside (now table) self ⌝ }
+        ensures { λ r. ⌜ r ≡ is-named (now (table .entry)) self ⌝ }
     {
         if self.is_empty() {
             return false;
         }
-        table::kind(table, self.first) == Kind::REFERENCE
+        if table::kind(table, self.first) != Kind::REFERENCE {
+            return false;
+        }
+        !is_made(table, self.flat, self.first)
     }
 
     // The word that heads the form; plain if no reference does.
     pub fn word(self, s: &[u8], table: &[u32]) -> Word
-        requires { ⌜ SomeNodes (now s) (now table) self ⌝ }
-        ensures { λ r. ⌜ ((es : Nodes) → NodesAt (now (s .entry)) (now (table .entry)) (self .first) (self .end) es → meant r ≡ head-word es) ⌝ }
+        requires { ⌜ SomeHead (now s) (now table) self ⌝ }
+        ensures { λ r. ⌜ ((es : Nodes) → HeadAt (now (s .entry)) (now (table .entry)) self es → meant r ≡ head-word es) ⌝ }
     {
         if self.is_named(table) {
             return Core::word(table::key(s, table, self.first));
@@ -133,14 +204,14 @@ impl Form {
     // The elements behind the head.
     pub fn rest(self, table: &[u32]) -> Self
         requires { ⌜ row-width * self .first + row-width ≤ length (now table) ⌝ }
-        ensures { λ r. ⌜ r ≡ starting-at (next (now (table .entry)) (self .first)) self ⌝ }
+        ensures { λ r. ⌜ r ≡ starting-at (behind (now (table .entry)) (self .flat) (self .first)) self ⌝ }
     {
-        self.starting_at(table::next(table, self.first))
+        self.starting_at(behind(table, self.flat, self.first))
     }
 
     pub fn parts(self, table: &[u32]) -> Parts
-        requires { ⌜ ((s : List ℕ) × (es : Nodes) × NodesAt s (now table) (self .first) (self .end) es) ⌝ }
-        ensures { λ r. ⌜ ((s : List ℕ) (es : Nodes) → NodesAt s (now (table .entry)) (self .first) (self .end) es → r ≡ parts-of es) ⌝ }
+        requires { ⌜ ((s : List ℕ) × (es : Nodes) × NodesAt s (now table) false (self .first) (self .end) es) ⌝ }
+        ensures { λ r. ⌜ ((s : List ℕ) (es : Nodes) → NodesAt s (now (table .entry)) false (self .first) (self .end) es → r ≡ parts-of es) ⌝ }
     {
         let end = self.end;
         if self.is_empty() {
@@ -162,8 +233,8 @@ impl Form {
 
     // Whether the elements, a code's, are one expression other than a `rest` form.
     pub fn is_single(self, s: &[u8], table: &[u32]) -> bool
-        requires { ⌜ SomeNodes (now s) (now table) self ⌝ }
-        ensures { λ r. ⌜ ((es : Nodes) → NodesAt (now (s .entry)) (now (table .entry)) (self .first) (self .end) es → r ≡ one-value es) ⌝ }
+        requires { ⌜ ((es : Nodes) × NodesAt (now s) (now table) false (self .first) (self .end) es) ⌝ }
+        ensures { λ r. ⌜ ((es : Nodes) → NodesAt (now (s .entry)) (now (table .entry)) false (self .first) (self .end) es → r ≡ one-value es) ⌝ }
     {
         if self.is_empty() {
             return false;

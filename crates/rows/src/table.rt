@@ -1,11 +1,12 @@
 // The numbers of a row, and what an atom's bytes tell. Document 01: "Table".
+use atoms::Kind;
 use reader::ROW_WIDTH;
 ghost use mathlib.Core.Path.{_≡_};
 ghost use Prim.Native.Nat.{ℕ, _+_, _*_, _≤_, _<_};
 ghost use lib.ListN.{length};
 ghost use Rattle.spec.specs.Expr.{int, ref};
 ghost use Rattle.spec.specs.Reading.{row-width};
-ghost use Rattle.rows.specs.Rows.{cell, LeafAt, key-of};
+ghost use Rattle.rows.specs.Rows.{cell, kind, start, mark, link, other, LeafAt, key-of};
 
 // Number j of a row.
 fn number(table: &[u32], row: usize, j: usize) -> u32
@@ -17,16 +18,16 @@ fn number(table: &[u32], row: usize, j: usize) -> u32
 
 pub fn kind(table: &[u32], row: usize) -> u32
     requires { ⌜ row-width * row + row-width ≤ length (now table) ⌝ }
-    ensures { λ r. ⌜ r ≡ cell (now (table .entry)) row 0 ⌝ }
+    ensures { λ r. ⌜ r ≡ kind (now (table .entry)) row ⌝ }
 {
-    number(table, row, 0)
+    number(table, row, 0) % 256
 }
 
 pub fn start(table: &[u32], row: usize) -> usize
     requires { ⌜ row-width * row + row-width ≤ length (now table) ⌝ }
-    ensures { λ r. ⌜ r ≡ cell (now (table .entry)) row 1 ⌝ }
+    ensures { λ r. ⌜ r ≡ start (now (table .entry)) row ⌝ }
 {
-    number(table, row, 1) as usize
+    (number(table, row, 1) % 65536) as usize
 }
 
 pub fn end(table: &[u32], row: usize) -> usize
@@ -41,6 +42,29 @@ pub fn next(table: &[u32], row: usize) -> usize
     ensures { λ r. ⌜ r ≡ cell (now (table .entry)) row 3 ⌝ }
 {
     number(table, row, 3) as usize
+}
+
+// Numbers of a row besides, while a stream is evaluated: a mark and a link above its kind, another above its start.
+
+pub fn mark(table: &[u32], row: usize) -> u32
+    requires { ⌜ row-width * row + row-width ≤ length (now table) ⌝ }
+    ensures { λ r. ⌜ r ≡ mark (now (table .entry)) row ⌝ }
+{
+    number(table, row, 0) / 256 % 128
+}
+
+pub fn link(table: &[u32], row: usize) -> usize
+    requires { ⌜ row-width * row + row-width ≤ length (now table) ⌝ }
+    ensures { λ r. ⌜ r ≡ link (now (table .entry)) row ⌝ }
+{
+    (number(table, row, 0) / 32768) as usize
+}
+
+pub fn other(table: &[u32], row: usize) -> usize
+    requires { ⌜ row-width * row + row-width ≤ length (now table) ⌝ }
+    ensures { λ r. ⌜ r ≡ other (now (table .entry)) row ⌝ }
+{
+    (number(table, row, 1) / 65536) as usize
 }
 
 // The number of a small integer.

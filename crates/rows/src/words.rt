@@ -3,7 +3,7 @@ ghost use mathlib.Core.Path.{_≡_};
 ghost use mathlib.Core.Bool.{not};
 ghost use Prim.Native.Nat.{_/_, _%_};
 ghost use Rattle.spec.specs.Nodes.{plain, is, word};
-ghost use Rattle.rows.specs.Forms.{meant};
+ghost use Rattle.rows.specs.Forms.{meant, reserved};
 
 // What a reference is as a head: one of the function names, or plain.
 pub enum Word {
@@ -42,6 +42,13 @@ impl Core {
 
     pub const REST: u32 = 0x200D;
 
+    // Bytecode names, from `prefix` to `arity`.
+    pub const PREFIX: u32 = 0x2030;
+
+    pub const PREFIX_STAR: u32 = 0x2031;
+
+    pub const ARITY: u32 = 0x2034;
+
     // The word of a key.
     pub fn word(key: u32) -> Word
         ensures { λ r. ⌜ meant r ≡ word (key / 256) (key % 256) ⌝ }
@@ -65,5 +72,18 @@ impl Core {
             Word::Plain => false,
             _ => true,
         }
+    }
+
+    // Whether a key is a function name's or a bytecode name's.
+    pub fn is_reserved(key: u32) -> bool
+        ensures { λ r. ⌜ r ≡ reserved key ⌝ }
+    {
+        if Core::is_function(key) {
+            return true;
+        }
+        if key < Core::PREFIX {
+            return false;
+        }
+        key <= Core::ARITY
     }
 }

@@ -3,24 +3,23 @@
 use Prim.Native.Nat.{ℕ, _+_, _-_, _/_, _≤_}
 use mathlib.Core.Path.{_≡_, refl, sym, _∙_}
 use mathlib.Core.List.{List}
-use mathlib.Core.Bool.{Bool, _||_}
+use mathlib.Core.Bool.{Bool, false, _||_}
 use native.Mathlib.Omega.{arith}
 use lib.ListN.{length}
 use lib.Seq.{slice}
 use lib.Dec.{ltb, leb, eqb}
 use borrow.Author.Tests.{ltb-false, leb-false, le-ltb}
 use Rattle.spec.specs.Expr.{if_then_else_, some, array, ref}
-use Rattle.spec.specs.Nodes.{ns, Node, leaf, branch, Nodes, empty, cons, head-word, markers-all}
+use Rattle.spec.specs.Nodes.{ns, Node, leaf, branch, bytecode, Nodes, empty, cons, head-word, markers-all}
 use Rattle.spec.specs.Plan.{Namespace, Within, top, Here, Plan, refuse, clash, plan-ns}
 use Rattle.laws.specs.Demands.{Bytes}
 use Rattle.laws.proofs.Basics.{impossible, by-test, both-false}
-use Rattle.rows.specs.Rows.{cell, LeafAt, NodesAt, parts-of, key-of}
+use Rattle.rows.specs.Rows.{cell, kind, LeafAt, NodesAt, parts-of, key-of}
 use Rattle.rows.specs.declared.forms.Form.{Form}
-use Rattle.rows.specs.declared.forms.Node.the-variants.{Branch}
 use Rattle.rows.specs.declared.forms.Parts.{Parts}
 use Rattle.rows.proofs.Nodes.{kind-array, leaf-array, leaf-fits}
 use Rattle.rows.proofs.Keys.{key-marker}
-use Rattle.rows.proofs.Parts.{node-named, reference-at, two-at}
+use Rattle.rows.proofs.Parts.{reference-at, two-at}
 use Rattle.workspace.specs.Completed.{Atoms}
 use Rattle.rules.specs.Entries.{stream, id, association}
 use Rattle.rules.specs.Scope.{latest, View, view}
@@ -42,7 +41,7 @@ record TopAt (s t : List ℕ) (row : ℕ) (q : Within) : Type 0 where
   earlier : List ℕ
   is : q ≡ top earlier
   before : Nodes
-  at : NodesAt s t 0 row before
+  at : NodesAt s t false 0 row before
   same-markers : (m : ℕ) → some (eqb m) earlier ≡ some (eqb m) (markers-all before)
 
 module _ {s t : List ℕ} {row : ℕ} where
@@ -68,8 +67,8 @@ pub record NsAt (s t : List ℕ) (p : Parts) (es : Nodes) : Type 0 where
   pub reference : LeafAt s t (p .second) (ref marker name)
   pub array-there : LeafAt s t (p .third) (array id)
 
-module _ (s t : List ℕ) (r end : ℕ) (es : Nodes) (p : Parts) (at : NodesAt s t r end es) (is : p ≡ parts-of es) where
-  pub ns-at : p .count ≡ 3 → cell t (p .second) 0 ≡ 4 → cell t (p .third) 0 ≡ 2 → NsAt s t p es
+module _ (s t : List ℕ) (r end : ℕ) (es : Nodes) (p : Parts) (at : NodesAt s t false r end es) (is : p ≡ parts-of es) where
+  pub ns-at : p .count ≡ 3 → kind t (p .second) ≡ 4 → kind t (p .third) ≡ 2 → NsAt s t p es
   ns-at n k l =
       let g = two-at s t r end es p at is n in
       let a = reference-at s t (p .second) (g .first) (g .one) k in
@@ -85,7 +84,7 @@ module _ (s t : List ℕ) (r end : ℕ) (es : Nodes) (p : Parts) (at : NodesAt s
       }
 
   ns-refused : (earlier : List ℕ) (h : Here)
-      → (p .count ≡ 3 → cell t (p .second) 0 ≡ 4 → (bs : List ℕ) → LeafAt s t (p .third) (array bs) → 1 ≤ length bs → length bs ≤ 64 → ⊥)
+      → (p .count ≡ 3 → kind t (p .second) ≡ 4 → (bs : List ℕ) → LeafAt s t (p .third) (array bs) → 1 ≤ length bs → length bs ≤ 64 → ⊥)
       → plan-ns (top earlier) es h ≡ refuse 11
   ns-refused earlier h right =
       refused-two s t r end es p at is _ (λ n g. refused-ref s t (p .second) (g .first) _ (g .one) (λ m i k. refused-array s t (p .third) (g .second) _ (g .two) (λ bs l.
@@ -94,9 +93,9 @@ module _ (s t : List ℕ) (r end : ℕ) (es : Nodes) (p : Parts) (at : NodesAt s
       absurd (right n (k .row .kind-is) bs l (ltb-false (length bs) 1 (sizes .0)) (ltb-false 64 (length bs) (sizes .1)))))))
 
   -- 11, unless they stand there, and the array has 1 to 64 bytes
-  pub ns-refuses : {args : List ℕ} {v : View} {here : Code} {row : ℕ} → here .within ≡ Top
-      → (p .count ≡ 3 → cell t (p .second) 0 ≡ 4 → (bs : List ℕ) → LeafAt s t (p .third) (array bs) → 1 ≤ length bs → length bs ≤ 64 → ⊥)
-      → Answers s t args v here (branch row es) (λ h. plan-ns (h .within) es h) (Refuse 11)
+  pub ns-refuses : {args : List ℕ} {v : View} {here : Code} {at row : ℕ} → here .within ≡ Top
+      → (p .count ≡ 3 → kind t (p .second) ≡ 4 → (bs : List ℕ) → LeafAt s t (p .third) (array bs) → 1 ≤ length bs → length bs ≤ 64 → ⊥)
+      → Answers s t args v here at (branch row es) (λ h. plan-ns (h .within) es h) (Refuse 11)
   ns-refuses there right = λ w st h set. let k = top-at (set .element-of) there in rw (k .is, ns-refused (k .earlier) h right) (refuses 11)
 
 -- the array's bytes are the last of its row's
@@ -107,8 +106,8 @@ array-part l begins ends = let a = leaf-array l in (omega arith, omega (arith, a
 -- What is known
 
 -- something is
-module _ {s t args : List ℕ} {here : Code} {f : Form} where
-  pub some-linked : (associations definitions : List ℕ) → Planning s t args (view associations definitions (here .scope)) here (Branch f)
+module _ {s t args : List ℕ} {here : Code} {row : ℕ} where
+  pub some-linked : (associations definitions : List ℕ) → Planning s t args (view associations definitions (here .scope)) here row
       → SomeLinked s associations (here .scope)
   some-linked associations definitions p = record {
     namespaces = p .here .namespaces;
@@ -116,13 +115,14 @@ module _ {s t args : List ℕ} {here : Code} {f : Form} where
     few = omega (arith, p .setting .sees .most, latest-length associations (here .scope .associated));
   }
 
-  pub some-earlier : {v : View} → Planning s t args v here (Branch f) → here .within ≡ Top → (es : Nodes) × NodesAt s t 0 (f .row) es
-  some-earlier p e = let k = top-at (p .setting .element-of) e in (k .before, rw (node-named (p .is)) (k .at))
+  pub some-earlier : {v : View} → Planning s t args v here row → here .within ≡ Top → (es : Nodes) × NodesAt s t false 0 row es
+  some-earlier p e = let k = top-at (p .setting .element-of) e in (k .before, k .at)
 
 -- the form stands for itself: it is of atoms
 ns-atoms : (h : Node) (es : Nodes) → head-word (cons h es) ≡ ns → Atoms es → Atoms (cons h es)
 ns-atoms (leaf q x) es e rest = rest
 ns-atoms (branch q fs) es e rest = impossible (cc)
+ns-atoms (bytecode q fs o) es e rest = impossible (cc)
 
 module _ {s t : List ℕ} {p : Parts} {es : Nodes} (g : NsAt s t p es) (bytes : Bytes s) (from to key : ℕ) (keyed : key ≡ key-of (g .marker) (g .name))
     (begins : from ≡ cell t (p .third) 2 - length (g .id)) (ends : to ≡ cell t (p .third) 2) (some-bytes : 1 ≤ to - from) (few-bytes : to - from ≤ 64) where
@@ -142,14 +142,14 @@ module _ {s t : List ℕ} {p : Parts} {es : Nodes} (g : NsAt s t p es) (bytes : 
       }
 
   -- 14 if they clash with what is known, 19 if no more can be, else they are associated
-  pub ns-answers : (f : Form) (associations definitions : List ℕ) {args : List ℕ} (here : Code) → here .within ≡ Top → NodesAt s t (f .first) (f .end) es → head-word es ≡ ns
+  pub ns-answers : (f : Form) (associations definitions : List ℕ) {args : List ℕ} (here : Code) {at row : ℕ} → here .within ≡ Top → NodesAt s t false (f .first) (f .end) es → head-word es ≡ ns
       → (clashing full : Bool)
-      → ((ks : List Namespace) (fs : Nodes) (earlier : List ℕ) → Linked s (latest associations (here .scope .associated)) ks → NodesAt s t 0 (f .row) fs
+      → ((ks : List Namespace) (fs : Nodes) (earlier : List ℕ) → Linked s (latest associations (here .scope .associated)) ks → NodesAt s t false 0 row fs
       → some (eqb (key / 256)) earlier ≡ some (eqb (key / 256)) (markers-all fs) → clash (key / 256) (slice from to s) earlier ks ≡ clashing)
       → leb 64 (here .scope .associated) ≡ full
-      → Answers s t args (view associations definitions (here .scope)) here (branch (f .row) es) (λ h. plan-ns (h .within) es h)
+      → Answers s t args (view associations definitions (here .scope)) here at (branch row es) (λ h. plan-ns (h .within) es h)
       (if clashing then Refuse 14 else if full then Refuse 19 else Ns f (key / 256) (id stream from (to - from)))
-  ns-answers f associations definitions here there at led clashing full known counted = λ w st h set.
+  ns-answers f associations definitions here there stand led clashing full known counted = λ w st h set.
       let part = array-part (g .array-there) begins ends in
       let marker : key / 256 ≡ g .marker = rw keyed (key-marker (g .marker) (g .name) (leaf-fits bytes (g .reference) .2)) in
       let top = top-at (set .element-of) there in
@@ -158,5 +158,5 @@ module _ {s t : List ℕ} {p : Parts} {es : Nodes} (g : NsAt s t p es) (bytes : 
       let count = latest-length associations (here .scope .associated) in
       let counts = rw (sym count ∙ linked-length s _ _ (set .sees .associations)) at counted in
       rw (top .is, g .is, le-ltb (length (g .id)) 1 (omega (arith, part .1)), le-ltb 64 (length (g .id)) (omega (arith, part .1)), clashes, counts, marker, part .1)
-      (refused-if clashing 14 (λ no. refused-if full 19 (λ room. associates f _ _ _ _ refl (rw (g .is) at at) (ns-atoms (g .head) behind (rw (g .is) at led) tt) ns-association
+      (refused-if clashing 14 (λ no. refused-if full 19 (λ room. associates f _ _ _ _ (rw (g .is) at stand) (ns-atoms (g .head) behind (rw (g .is) at led) tt) ns-association
       (omega (arith, leb-false 64 (here .scope .associated) (counted ∙ room))))))

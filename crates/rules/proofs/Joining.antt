@@ -22,8 +22,8 @@ use Rattle.rules.specs.declared.plan.Task.the-variants.{Inside}
 use Rattle.rules.proofs.Expecting.{refused-two}
 
 -- 11, unless there are two operands, and neither is a `rest` form
-pub concat-refused : (s t : List ℕ) (r end : ℕ) (es : Nodes) (p : Parts) → NodesAt s t r end es → p ≡ parts-of es
-    → (p .count ≡ 3 → (a b : Node) → NodeAt s t (p .second) a → NodeAt s t (p .third) b → headed-by rest a ≡ false → headed-by rest b ≡ false → ⊥)
+pub concat-refused : (s t : List ℕ) (r end : ℕ) (es : Nodes) (p : Parts) → NodesAt s t false r end es → p ≡ parts-of es
+    → (p .count ≡ 3 → (a b : Node) → NodeAt s t false (p .second) a → NodeAt s t false (p .third) b → headed-by rest a ≡ false → headed-by rest b ≡ false → ⊥)
     → plan-concat es ≡ refuse 11
 concat-refused s t r end es p at is right =
     refused-two s t r end es p at is _ (λ n g.
@@ -32,10 +32,10 @@ concat-refused s t r end es p at is right =
     absurd (right n (g .first) (g .second) (g .one) (g .two) (none .0) (none .1))))
 
 -- else the operands are evaluated
-pub concat-planned : {s t w : List ℕ} {floor q : ℕ} {v : View} {sc : Scope} {f : Form} {p : Parts} {es : Nodes} (g : TwoAt s t (f .first) (f .end) p es)
+pub concat-planned : {s t w : List ℕ} {floor r q : ℕ} {v : View} {sc : Scope} {f : Form} {p : Parts} {es : Nodes} → f .flat ≡ false → (g : TwoAt s t (f .first) (f .end) p es)
     → headed-by rest (g .first) ≡ false → headed-by rest (g .second) ≡ false
-    → Planned s t w floor v sc (branch q es) (Inside (starting-at (p .second) f) (Make Concat)) (plan-concat es)
+    → Planned s t w floor v sc r (branch q es) (Inside (starting-at (p .second) f) (Make Concat)) (plan-concat es)
 unfolding skip
-concat-planned {f = f} {p = p} g first second =
+concat-planned {f = f} {p = p} unflat g first second =
     rw (g .is, first, second)
-    (goes-inside (starting-at (p .second) f) 1 inner as-concat (Make Concat) (g .from-one) (concat-finishes (two-more (g .head) (g .first) (g .second) first second)))
+    (goes-inside (starting-at (p .second) f) 1 inner as-concat (Make Concat) (rw unflat (g .from-one)) (concat-finishes (two-more (g .head) (g .first) (g .second) first second)))

@@ -6,14 +6,11 @@ use mathlib.Core.List.{List}
 use mathlib.Core.Bool.{Bool, true, false, not}
 use native.Mathlib.Omega.{arith}
 use Rattle.spec.specs.Expr.{if_then_else_, Atom, nil, array, int, ref, atom, only}
-use Rattle.spec.specs.Nodes.{plain, is, word, Node, leaf}
+use Rattle.spec.specs.Nodes.{plain, is, word, Node}
 use Rattle.spec.specs.Plan.{Scope as Definitions, Found as Sought, look-up, refuse, leave, plan-reference, plan-atom}
 use Rattle.spec.specs.Reading.{atom-kind}
 use Rattle.laws.proofs.Fits.{Fits}
-use Rattle.rows.specs.Rows.{LeafAt, row-of, key-of}
-use Rattle.rows.specs.Forms.{IsNode, is-leaf}
-use Rattle.rows.specs.declared.forms.Node.{Node as Ranged}
-use Rattle.rows.specs.declared.forms.Node.the-variants.{Leaf}
+use Rattle.rows.specs.Rows.{LeafAt, key-of}
 use Rattle.rows.proofs.Keys.{word-of, word-again}
 use Rattle.rules.specs.Scope.{View, view}
 use Rattle.rules.specs.Planned.{Planned, refuses, owns, repeats, Planning}
@@ -26,14 +23,10 @@ use Rattle.rules.specs.declared.plan.Task.the-variants.{Refuse, Own, Aga
 use Rattle.rules.proofs.Latest.{latest-length}
 use Rattle.rules.proofs.Shown.{Answers, no-answer, value-answer, function-answer}
 
--- an atom that is evaluated, and how many definitions are visible there
-module _ {s t : List ℕ} where
-  pub leaf-is : {row : ℕ} {e : Node} → IsNode s t (Leaf row) e → (a : Atom) × (e ≡ leaf row a) × LeafAt s t row a
-  leaf-is (is-leaf row a l) = (a, refl, l)
-
-  pub some-defined : (associations definitions : List ℕ) {args : List ℕ} {here : Here} {node : Ranged}
-      → Planning s t args (view associations definitions (here .scope)) here node → here .scope .defined ≤ 256
-  some-defined associations definitions {here = here} p = omega (arith, p .setting .sees .few, latest-length definitions (here .scope .defined))
+-- how many definitions are visible where something is evaluated
+pub some-defined : {s t : List ℕ} (associations definitions : List ℕ) {args : List ℕ} {here : Here} {place : ℕ}
+    → Planning s t args (view associations definitions (here .scope)) here place → here .scope .defined ≤ 256
+some-defined associations definitions {here = here} p = omega (arith, p .setting .sees .few, latest-length definitions (here .scope .defined))
 
 -- no reference
 pub own-rule : (a : Atom) (ds : Definitions) → (atom-kind a ≡ 4 → ⊥) → plan-atom a ds ≡ leave (only (atom a))
@@ -59,8 +52,8 @@ reference-task (Value from to) = Again from to
 reference-task (Function code visible) = Refuse 12
 reference-task Nothing = Own
 
-pub reference-planned : {s t w : List ℕ} {floor : ℕ} {v : View} {sc : Scope} (e : Node) (a : Atom) {es : List ℕ} {f : Found} {g : Sought} → LeafAt s t (row-of e) a
-    → Answers s t w floor es f g → Planned s t w floor v sc e (reference-task f) (plan-reference g a)
+pub reference-planned : {s t w : List ℕ} {floor r : ℕ} {v : View} {sc : Scope} (e : Node) (a : Atom) {es : List ℕ} {f : Found} {g : Sought} → LeafAt s t r a
+    → Answers s t w floor es f g → Planned s t w floor v sc r e (reference-task f) (plan-reference g a)
 reference-planned e a l no-answer = owns a l
 reference-planned e a l (value-answer from to vs behind stand order low) = repeats from to vs stand
 reference-planned e a l (function-answer code visible body behind at h sh) = refuses 12

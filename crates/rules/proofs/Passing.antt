@@ -11,7 +11,7 @@ use borrow.Author.Tests.{ltb-true, ltb-false, leb-false, le-leb, lt-leb, eq-eqb,
 use Rattle.spec.specs.Expr.{if_then_else_, Exprs, none, more, size, without}
 use Rattle.spec.specs.Nodes.{Node, Nodes}
 use Rattle.spec.specs.Plan.{Arguments, outside, passed, Plan, refuse, expect-one, expect-int}
-use Rattle.rows.specs.Rows.{cell, NodesAt, parts-of}
+use Rattle.rows.specs.Rows.{kind, NodesAt, parts-of}
 use Rattle.rows.specs.declared.forms.Parts.{Parts}
 use Rattle.workspace.specs.Packed.{packed-from, packed-to}
 use Rattle.workspace.proofs.Areas.{stand-none}
@@ -28,8 +28,8 @@ use Rattle.rules.proofs.Expecting.{refused-one, refused-int, refused-if
 -- The elements
 
 -- 11, unless there is one more than the head, a small integer
-pub number-refused : (s t : List ℕ) (r end : ℕ) (es : Nodes) (p : Parts) → NodesAt s t r end es → p ≡ parts-of es → (rule : ℕ → Plan)
-    → (p .count ≡ 2 → cell t (p .second) 0 ≡ 3 → ⊥) → expect-one es (λ a. expect-int a rule) ≡ refuse 11
+pub number-refused : (s t : List ℕ) (r end : ℕ) (es : Nodes) (p : Parts) → NodesAt s t false r end es → p ≡ parts-of es → (rule : ℕ → Plan)
+    → (p .count ≡ 2 → kind t (p .second) ≡ 3 → ⊥) → expect-one es (λ a. expect-int a rule) ≡ refuse 11
 number-refused s t r end es p at is rule right =
     refused-one s t r end es p at is _ (λ n g. refused-int s t (p .second) (g .first) rule (g .at) (λ v l. absurd (right n (l .row .kind-is))))
 
@@ -53,11 +53,11 @@ counted-task part frame all fewer over =
     if over then Refuse 15 else
     if all then Again (frame .end) (frame .end) else Refuse 15
 
-module _ {s t w : List ℕ} {floor : ℕ} {v : View} {sc : Scope} {e : Node} (args : List ℕ) (frame : Frame) (n : ℕ) where
+module _ {s t w : List ℕ} {floor : ℕ} {v : View} {sc : Scope} {r : ℕ} {e : Node} (args : List ℕ) (frame : Frame) (n : ℕ) where
   -- by their number
   counted : (vs : Exprs) → frame .count ≡ size vs → (n < frame .count → ArgumentAt w (getD args n 0) (frame .end) (without n vs)) → frame .end ≤ length w
       → (all fewer over : Bool) → ltb n (frame .count) ≡ fewer → ltb (frame .count) n ≡ over
-      → Planned s t w floor v sc e (counted-task (getD args n 0) frame all fewer over) (passing all n (passed vs))
+      → Planned s t w floor v sc r e (counted-task (getD args n 0) frame all fewer over) (passing all n (passed vs))
   counted vs c at h true true over p q = let l = ltb-true n (frame .count) p in rw (le-leb n (size vs) (omega arith)) (repeats _ _ _ (at l .all))
   counted vs c at h false true over p q = rw (← c, p) (repeats _ _ _ (at (ltb-true n (frame .count) p) .own))
   counted vs c at h true false true p q = let l = ltb-true (frame .count) n q in rw (lt-leb n (size vs) (omega arith)) (refuses 15)
@@ -71,7 +71,7 @@ module _ {s t w : List ℕ} {floor : ℕ} {v : View} {sc : Scope} {e : Node} (ar
   -- 11 if n is no small integer, 15 outside code; then by how many arguments there are
   pub passing-planned : {above : ℕ} {xs : Arguments} → ArgumentsOf w args frame above xs → (rest all big out fewer over : Bool) → rest ≡ all → leb 64 n ≡ big → eqb (frame .depth) 0 ≡ out
       → ltb n (frame .count) ≡ fewer → ltb (frame .count) n ≡ over
-      → Planned s t w floor v sc e (if big then Refuse 11 else if out then Refuse 15 else counted-task (getD args n 0) frame all fewer over)
+      → Planned s t w floor v sc r e (if big then Refuse 11 else if out then Refuse 15 else counted-task (getD args n 0) frame all fewer over)
       (if leb 64 n then refuse 11 else passing rest n xs)
   passing-planned (no-code d) rest all big out fewer over is is-big is-out p q =
       rw is-big (refused-if big 11 (λ small. rw (sym is-out ∙ eq-eqb (frame .depth) 0 d, outside-code rest n) (refuses 15)))

@@ -3,6 +3,7 @@
 use Prim.Native.Nat.{ℕ, _+_, _≤_, _<_}
 use mathlib.Core.Path.{_≡_}
 use mathlib.Core.List.{List, [], _∷_}
+use mathlib.Core.Bool.{false}
 use lib.ListN.{length}
 use lib.Dec.{eqb}
 use Rattle.spec.specs.Expr.{some, ref, Exprs, size}
@@ -46,7 +47,7 @@ in-code-of scope count end at = record { scope = scope; within = Inner; frame = 
 pub record CodeAt (s t : List ℕ) (row : ℕ) (es : Nodes) : Type 0 where
   pub form : RowAt s t row 1
   pub head : Node
-  pub elements : NodesAt s t (row + 1) (next t row) (cons head es)
+  pub elements : NodesAt s t false (row + 1) (next t row) (cons head es)
 
 -- what the scope holds of a definition: the part of the workspace, from `floor` on, where its value stands; or the row of its code
 pub data EntryAt (s t w : List ℕ) (floor e m n : ℕ) : Defined → Type 0 where
@@ -76,7 +77,7 @@ pub data ArgumentsOf (w args : List ℕ) (frame : Frame) (top : ℕ) : Arguments
 
 -- what list the expression at a row belongs to; at the top level, what stands before it
 pub data ElementOf (s t : List ℕ) (row : ℕ) : Within → Among → Type 0 where
-  of-top : {earlier : List ℕ} (es : Nodes) → NodesAt s t 0 row es → ((m : ℕ) → some (eqb m) earlier ≡ some (eqb m) (markers-all es))
+  of-top : {earlier : List ℕ} (es : Nodes) → NodesAt s t false 0 row es → ((m : ℕ) → some (eqb m) earlier ≡ some (eqb m) (markers-all es))
       → ElementOf s t row Top (top earlier)
   of-data : ElementOf s t row Element element
   of-other : ElementOf s t row Inner inner

@@ -15,7 +15,7 @@ ghost use lib.Dec.{eqb};
 ghost use Rattle.spec.specs.Expr.{same, some, Atom};
 ghost use Rattle.spec.specs.Nodes.{Node, leaf, Nodes, markers, markers-all};
 ghost use Rattle.spec.specs.Plan.{Namespace, clash, undefinable};
-ghost use Rattle.rows.specs.Rows.{cell, LeafAt, NodeAt, NodesAt};
+ghost use Rattle.rows.specs.Rows.{kind, LeafAt, WrittenAt, NodesAt};
 ghost use Rattle.rules.specs.Scope.{latest};
 ghost use Rattle.rules.specs.Associations.{Linked, SomeLinked};
 
@@ -40,8 +40,8 @@ fn used(s: &[u8], associations: &[u64; 64], scope: Scope, from: usize, to: usize
 
 // Whether the reference at a row bears a marker.
 fn bears(s: &[u8], table: &[u32], row: usize, marker: u32) -> bool
-    requires { ⌜ ((e : Node) × NodeAt (now s) (now table) row e) ⌝ }
-    ensures { λ r. ⌜ ((q : ℕ) (a : Atom) → LeafAt (now (s .entry)) (now (table .entry)) row a → r ≡ some (eqb marker) (markers (leaf q a))) × (cell (now (table .entry)) row 0 ≡ 1 → r ≡ false) ⌝ }
+    requires { ⌜ ((e : Node) × WrittenAt (now s) (now table) row e) ⌝ }
+    ensures { λ r. ⌜ ((q : ℕ) (a : Atom) → LeafAt (now (s .entry)) (now (table .entry)) row a → r ≡ some (eqb marker) (markers (leaf q a))) × (kind (now (table .entry)) row ≡ 1 → r ≡ false) ⌝ }
 {
     if table::kind(table, row) != Kind::REFERENCE {
         return false;
@@ -51,8 +51,8 @@ fn bears(s: &[u8], table: &[u32], row: usize, marker: u32) -> bool
 
 // Whether a reference before a row of the top level bears a marker.
 fn borne(s: &[u8], table: &[u32], row: usize, marker: u32) -> bool
-    requires { ⌜ ((es : Nodes) × NodesAt (now s) (now table) 0 row es) ⌝ }
-    ensures { λ r. ⌜ ((es : Nodes) → NodesAt (now (s .entry)) (now (table .entry)) 0 row es → r ≡ some (eqb marker) (markers-all es)) ⌝ }
+    requires { ⌜ ((es : Nodes) × NodesAt (now s) (now table) false 0 row es) ⌝ }
+    ensures { λ r. ⌜ ((es : Nodes) → NodesAt (now (s .entry)) (now (table .entry)) false 0 row es → r ≡ some (eqb marker) (markers-all es)) ⌝ }
 {
     let mut r: usize = 0;
     while r < row {
@@ -76,10 +76,10 @@ pub fn clash(
     to: usize,
 ) -> bool
     requires { ⌜ SomeLinked (now s) (now associations) scope ⌝ }
-    requires { ⌜ ((es : Nodes) × NodesAt (now s) (now table) 0 row es) ⌝ }
+    requires { ⌜ ((es : Nodes) × NodesAt (now s) (now table) false 0 row es) ⌝ }
     requires { ⌜ (from ≤ to) × (to ≤ length (now s)) ⌝ }
     ensures { λ r. ⌜ ((ks : List Namespace) (es : Nodes) (earlier : List ℕ) → Linked (now (s .entry)) (latest (now (associations .entry)) (scope .associated)) ks
-        → NodesAt (now (s .entry)) (now (table .entry)) 0 row es → some (eqb marker) earlier ≡ some (eqb marker) (markers-all es)
+        → NodesAt (now (s .entry)) (now (table .entry)) false 0 row es → some (eqb marker) earlier ≡ some (eqb marker) (markers-all es)
         → r ≡ clash marker (slice from to (now (s .entry))) earlier ks) ⌝ }
 {
     if marker == Core::MARKER {

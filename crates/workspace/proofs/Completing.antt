@@ -4,16 +4,17 @@
 use Prim.Native.Nat.{ℕ, _+_, _-_, _≤_, _<_}
 use mathlib.Core.Path.{_≡_, refl, sym, ap, _∙_}
 use mathlib.Core.List.{List, [], _∷_, _++_, append-assoc, append-nil}
+use mathlib.Core.Bool.{false}
 use lib.ListN.{length, set, take, drop, length-append, length-take, length-drop}
 use lib.Seq.{slice, length-slice}
 use borrow.Author.Tests.{ne-eqb}
 use native.Mathlib.Omega.{arith}
 use Rattle.spec.specs.Expr.{Atom, nil, array, int, ref, atom, form, Exprs, only, depth, deepest, atom-bytes, bytes, canonical}
-use Rattle.spec.specs.Nodes.{leaf, branch, Nodes, empty, cons, unnumbered, unnumbered-all}
+use Rattle.spec.specs.Nodes.{leaf, branch, bytecode, Nodes, empty, cons, unnumbered, unnumbered-all}
 use Rattle.atoms.specs.Tokens.{atom-head}
 use Rattle.writer.specs.Bytes.{put-at, Put, with-head}
 use Rattle.writer.proofs.Puts.{length-put-at, put-at-more, stored, written-on}
-use Rattle.rows.specs.Rows.{cell, LeafAt, NodeAt, NodesAt}
+use Rattle.rows.specs.Rows.{cell, kind, start, LeafAt, NodeAt, NodesAt}
 use Rattle.workspace.specs.Completed.{Fitting, Stand, with-top, Complete, Incomplete, too-deep, too-long, BodyOf, Atoms, Stored}
 use Rattle.workspace.specs.declared.values.State.{State}
 use Rattle.workspace.specs.declared.values.Body.{Body}
@@ -108,21 +109,21 @@ module _ (vs : Exprs) (n : ℕ) (size : length (canonical vs) + 2 ≡ n) where
 
 -- An atom of the stream
 
-module _ {s t : List ℕ} {r : ℕ} {b : Body} (kind : b .kind ≡ cell t r 0) (to : b .to ≡ cell t r 2) where
+module _ {s t : List ℕ} {r : ℕ} {b : Body} (kinded : b .kind ≡ kind t r) (to : b .to ≡ cell t r 2) where
   body-of : (a : Atom) → LeafAt s t r a → b .from ≤ b .to → with-head (b .kind) (slice (b .from) (b .to) s) ≡ atom-bytes a → BodyOf s a b
   body-of a l order is =
       record { order = order; inside = omega (arith, l .row .ends); short = l .row .short; is = rw (← slice-take (b .from) (b .to) s) is }
 
   pub body-array : {bs : List ℕ} → LeafAt s t r (array bs) → b .from ≡ cell t r 2 - length bs → BodyOf s (array bs) b
   unfolding atom-bytes
-  body-array {bs} l from = body-of (array bs) l (omega arith) (rw (kind ∙ l .row .kind-is, from, to) (ap (with-head 2) (leaf-array l .0)))
+  body-array {bs} l from = body-of (array bs) l (omega arith) (rw (kinded ∙ l .row .kind-is, from, to) (ap (with-head 2) (leaf-array l .0)))
 
-  pub body-other : (a : Atom) → LeafAt s t r a → (b .kind ≡ 2 → ⊥) → b .from ≡ cell t r 1 → BodyOf s a b
+  pub body-other : (a : Atom) → LeafAt s t r a → (b .kind ≡ 2 → ⊥) → b .from ≡ start t r → BodyOf s a b
   body-other a l h from = body-of a l (omega (arith, l .row .starts)) (rw (ne-eqb (b .kind) 2 h, from, to) (go a l))
     where
-      go : (a : Atom) → LeafAt s t r a → slice (cell t r 1) (cell t r 2) s ≡ atom-bytes a
+      go : (a : Atom) → LeafAt s t r a → slice (start t r) (cell t r 2) s ≡ atom-bytes a
       go nil l = leaf-nil l
-      go (array bs) l = absurd (h (kind ∙ l .row .kind-is))
+      go (array bs) l = absurd (h (kinded ∙ l .row .kind-is))
       go (int v) l = leaf-int l
       go (ref m n) l = leaf-ref l
 
@@ -147,6 +148,7 @@ unfolding unnumbered depth
 atoms-flat empty atoms = refl
 atoms-flat (cons (leaf q a) es) atoms = omega (arith, atoms-flat es atoms)
 atoms-flat (cons (branch q fs) es) atoms = absurd atoms
+atoms-flat (cons (bytecode q fs o) es) atoms = absurd atoms
 
 -- the value of a form of atoms
 pub flat-sized : (es : Nodes) → Atoms es → {n : ℕ} → length (canonical (unnumbered-all es)) + 2 ≡ n → Sized (only (form (unnumbered-all es))) n
@@ -157,11 +159,11 @@ pub record Upto (s t w₀ w : List ℕ) (top n row end : ℕ) (es : Nodes) : Typ
   pub done : List ℕ
   pub put : Put w₀ (top + 1) done w (top + n - 1)
   pub left : Nodes
-  pub at : NodesAt s t row end left
+  pub at : NodesAt s t false row end left
   pub atoms : Atoms left
   pub is : canonical (unnumbered-all es) ≡ done ++ canonical (unnumbered-all left)
 
-pub atoms-start : {s t : List ℕ} {first end : ℕ} (w : List ℕ) (top : ℕ) (es : Nodes) → NodesAt s t first end es → Atoms es → Upto s t w w top 2 first end es
+pub atoms-start : {s t : List ℕ} {first end : ℕ} (w : List ℕ) (top : ℕ) (es : Nodes) → NodesAt s t false first end es → Atoms es → Upto s t w w top 2 first end es
 atoms-start w top es at atoms =
     record { done = []; put = record { place = omega arith; is = put-none w (top + 1) }; left = es; at = at; atoms = atoms; is = refl }
 
@@ -175,26 +177,27 @@ pub record AtomNext (s t w₀ w : List ℕ) (top n row end : ℕ) (es : Nodes) :
 module _ {s t w₀ w : List ℕ} {top n row end : ℕ} {es : Nodes} (u : Upto s t w₀ w top n row end es) where
   pub atoms-end : end ≤ row → Put w₀ (top + 1) (canonical (unnumbered-all es)) w (top + n - 1)
   unfolding unnumbered bytes
-  atoms-end h = rw (rw (nodes-done s t row end (u .left) (u .at) h, append-nil (u .done)) at (u .is)) (u .put)
+  atoms-end h = rw (rw (nodes-done s t false row end (u .left) (u .at) h, append-nil (u .done)) at (u .is)) (u .put)
 
   pub atoms-next : top + n ≤ length w₀ → row < end → AtomNext s t w₀ w top n row end es
   unfolding NodeAt unnumbered bytes
   atoms-next room h = go (u .left) (u .at) (u .atoms) (u .is)
     where
-      go : (left : Nodes) → NodesAt s t row end left → Atoms left → canonical (unnumbered-all es) ≡ u .done ++ canonical (unnumbered-all left)
+      go : (left : Nodes) → NodesAt s t false row end left → Atoms left → canonical (unnumbered-all es) ≡ u .done ++ canonical (unnumbered-all left)
           → AtomNext s t w₀ w top n row end es
       go empty at atoms is = absurd (omega (arith, at))
       go (cons (leaf q a) left) at atoms is = record {
         own = a;
-        leaf = leaf-at s t row q a (nodes-first s t row end (leaf q a) left at .1);
+        leaf = leaf-at s t false row q a (nodes-first s t false row end (leaf q a) left at .1);
         fits = rw is (simp length-append (omega (arith, u .put .place)));
         next = λ {w′} {size} sized put. record {
           done = u .done ++ atom-bytes a;
           put = written-on {bs = u .done} (omega (arith, u .put .place)) (u .put) (record { place = omega (arith, u .put .place); is = put });
           left = left;
-          at = leaf-skipped s t row end q a left at;
+          at = leaf-skipped s t false row end q a left at;
           atoms = atoms;
           is = is ∙ sym (append-assoc (u .done) (atom-bytes a) (canonical (unnumbered-all left)));
         };
       }
       go (cons (branch q fs) left) at atoms is = absurd atoms
+      go (cons (bytecode q fs o) left) at atoms is = absurd atoms

@@ -4,10 +4,11 @@
 use Prim.Native.Nat.{ℕ, _+_, _-_, _≤_, _<_}
 use mathlib.Core.Path.{_≡_}
 use mathlib.Core.List.{List, _++_}
+use mathlib.Core.Bool.{false}
 use lib.ListN.{length, take, drop, getD}
 use lib.Seq.{slice}
 use Rattle.spec.specs.Expr.{Atom, array, Expr, atom, Exprs, none, more, only, deepest, atom-bytes, bytes, canonical}
-use Rattle.spec.specs.Nodes.{leaf, branch, Nodes, empty, cons}
+use Rattle.spec.specs.Nodes.{leaf, branch, bytecode, Nodes, empty, cons}
 use Rattle.writer.specs.Bytes.{with-head}
 use Rattle.rows.specs.Rows.{NodesAt}
 use Rattle.rows.specs.declared.forms.Form.{Form}
@@ -37,9 +38,13 @@ with-top st room top = record { steps = st .steps; room = room; top = top; floor
 abbrev pub with-floor : State → ℕ → State
 with-floor st floor = record { steps = st .steps; room = st .room; top = st .top; floor = floor }
 
+-- so many steps are left
+abbrev pub with-steps : State → ℕ → State
+with-steps st steps = record { steps = steps; room = st .room; top = st .top; floor = st .floor }
+
 -- one step less
 abbrev pub stepped : State → State
-stepped st = record { steps = st .steps - 1; room = st .room; top = st .top; floor = st .floor }
+stepped st = with-steps st (st .steps - 1)
 
 -- what is below one byte and from another on is as it was
 pub record Untouched (w w′ : List ℕ) (below from : ℕ) : Type 0 where
@@ -72,11 +77,12 @@ abbrev pub Atoms : Nodes → Type 0
 Atoms empty = Unit {0}
 Atoms (cons (leaf r a) es) = Atoms es
 Atoms (cons (branch r fs) es) = ⊥
+Atoms (cons (bytecode r fs o) es) = ⊥
 
 -- some atoms are a form's elements
 pub record SomeAtoms (s t : List ℕ) (f : Form) : Type 0 where
   pub nodes : Nodes
-  pub at : NodesAt s t (f .first) (f .end) nodes
+  pub at : NodesAt s t false (f .first) (f .end) nodes
   pub atoms : Atoms nodes
 
 -- completing the values of the expression at a row

@@ -5,15 +5,17 @@ use rows::arrays;
 use rows::forms::Form;
 use rows::table;
 ghost use mathlib.Core.Path.{_≡_};
-ghost use Prim.Native.Nat.{_+_, _-_, _≤_};
+ghost use mathlib.Core.Bool.{false};
+ghost use mathlib.Core.List.{List};
+ghost use Prim.Native.Nat.{ℕ, _+_, _-_, _≤_};
 ghost use lib.ListN.{length};
 ghost use lib.Dec.{eqb};
-ghost use Rattle.spec.specs.Expr.{if_then_else_, Atom, atom, form, Exprs, only, deepest, atom-bytes};
+ghost use Rattle.spec.specs.Expr.{if_then_else_, Atom, array, atom, form, Exprs, only, deepest, atom-bytes};
 ghost use Rattle.spec.specs.Nodes.{Nodes, unnumbered-all};
-ghost use Rattle.rows.specs.Rows.{LeafAt, NodesAt};
+ghost use Rattle.rows.specs.Rows.{cell, LeafAt, NodesAt};
 ghost use Rattle.writer.specs.Bytes.{put-at};
 ghost use Rattle.workspace.specs.declared.values.Out.the-variants.{Done, Refused};
-ghost use Rattle.workspace.specs.Completed.{Fitting, Stand, with-top, with-floor, stepped, BodyOf, Atoms, SomeAtoms, Completed, Stored};
+ghost use Rattle.workspace.specs.Completed.{Fitting, Stand, with-top, with-floor, with-steps, stepped, BodyOf, Atoms, SomeAtoms, Completed, Stored};
 
 // Steps and workspace that are left, where the finished values end, and where the definitions' begin.
 pub struct State {
@@ -44,6 +46,19 @@ impl State {
             top: self.top,
             floor: self.floor,
         })
+    }
+
+    // So many steps are taken.
+    pub fn less(self, n: u64) -> Self
+        requires { ⌜ n ≤ self .steps ⌝ }
+        ensures { λ r. ⌜ r ≡ with-steps self (self .steps - n) ⌝ }
+    {
+        Self {
+            steps: self.steps - n,
+            room: self.room,
+            top: self.top,
+            floor: self.floor,
+        }
     }
 
     // The definitions' values begin at `floor`.
@@ -79,6 +94,14 @@ struct Body {
     to: usize,
 }
 
+// Where the bytes of the array at a row begin. Kept apart, so that other atoms need no slices in memory.
+fn array_body(s: &[u8], table: &[u32], row: usize) -> usize
+    requires { ⌜ ((bs : List ℕ) × LeafAt (now s) (now table) row (array bs)) ⌝ }
+    ensures { λ r. ⌜ ((bs : List ℕ) → LeafAt (now (s .entry)) (now (table .entry)) row (array bs) → r ≡ cell (now (table .entry)) row 2 - length bs) ⌝ }
+{
+    arrays::body(s, table, row)
+}
+
 // The body of the atom at a row.
 fn body_at(s: &[u8], table: &[u32], row: usize) -> Body
     requires { ⌜ ((a : Atom) × LeafAt (now s) (now table) row a) ⌝ }
@@ -89,7 +112,7 @@ fn body_at(s: &[u8], table: &[u32], row: usize) -> Body
     if kind == Kind::ARRAY {
         return Body {
             kind,
-            from: arrays::body(s, table, row),
+            from: array_body(s, table, row),
             to,
         };
     }
@@ -116,30 +139,30 @@ fn put_leaf(s: &[u8], table: &[u32], w: &mut [u8], at: usize, room: usize, row: 
     n
 }
 
-// The value of an atom that stands for itself.
-pub fn own(s: &[u8], table: &[u32], w: &mut [u8], state: State, row: usize) -> Out
+// The value of the atom at a row, with another row's place, that stands for itself.
+pub fn own(s: &[u8], table: &[u32], w: &mut [u8], state: State, row: usize, place: usize) -> Out
     requires { ⌜ Fitting (now w) state ⌝ }
     requires { ⌜ ((a : Atom) × LeafAt (now s) (now table) row a) ⌝ }
-    ensures { λ r. ⌜ ((a : Atom) → LeafAt (now (s .entry)) (now (table .entry)) row a → Completed (now (w .entry)) (now (w .exit)) state (state .top) row (only (atom a)) r) ⌝ }
+    ensures { λ r. ⌜ ((a : Atom) → LeafAt (now (s .entry)) (now (table .entry)) row a → Completed (now (w .entry)) (now (w .exit)) state (state .top) place (only (atom a)) r) ⌝ }
 {
     let top = state.top;
     let n = put_leaf(s, table, w, top, state.room, row);
     if state.room < n {
-        return Out::Refused(17, row);
+        return Out::Refused(17, place);
     }
     charged(state, n, top + n)
 }
 
 // The value of a form of atoms that stands for itself; n counts its bytes so far, with its 01 and 02.
-pub fn itself(s: &[u8], table: &[u32], w: &mut [u8], state: State, range: Form) -> Out
+pub fn itself(s: &[u8], table: &[u32], w: &mut [u8], state: State, range: Form, place: usize) -> Out
     requires { ⌜ Fitting (now w) state ⌝ }
     requires { ⌜ SomeAtoms (now s) (now table) range ⌝ }
-    ensures { λ r. ⌜ ((es : Nodes) → NodesAt (now (s .entry)) (now (table .entry)) (range .first) (range .end) es → Atoms es → Completed (now (w .entry)) (now (w .exit)) state (state .top) (range .row) (only (form (unnumbered-all es))) r) ⌝ }
+    ensures { λ r. ⌜ ((es : Nodes) → NodesAt (now (s .entry)) (now (table .entry)) false (range .first) (range .end) es → Atoms es → Completed (now (w .entry)) (now (w .exit)) state (state .top) place (only (form (unnumbered-all es))) r) ⌝ }
 {
     let top = state.top;
     let room = state.room;
     if room < 2 {
-        return Out::Refused(17, range.row);
+        return Out::Refused(17, place);
     }
     let end = range.end;
     let mut row = range.first;
@@ -147,7 +170,7 @@ pub fn itself(s: &[u8], table: &[u32], w: &mut [u8], state: State, range: Form) 
     while row < end {
         let size = put_leaf(s, table, w, top + n - 1, room - n, row);
         if room - n < size {
-            return Out::Refused(17, range.row);
+            return Out::Refused(17, place);
         }
         n += size;
         row += 1;

@@ -2,8 +2,8 @@
 use mathlib.Core.Path.{refl, sym, _∙_}
 use native.Mathlib.Omega.{arith}
 use Rattle.laws.proofs.Steps.{all-bytes}
-use Rattle.rows.proofs.Nodes.{node-whole}
-use Rattle.rows.proofs.Parts.{reference-at}
+use Rattle.rows.proofs.Nodes.{written-whole}
+use Rattle.rows.proofs.Parts.{written-reference}
 use Rattle.rules.proofs.Borne.{other-bears, reference-bears}
 use Rattle.rules.proofs.namespaces.bears.Statement.{statement}
 use Rattle.rules.proofs.namespaces.bears.Tie as tie
@@ -13,7 +13,7 @@ returns c = (λ q a l. other-bears _ q a (λ h. c .if1 .taken (c .before .kind .
 
 key-requires : tie.Need-key-requires
 key-requires c κs =
-    let r = reference-at _ _ _ _ (c .before .before .before .before .pre .1) (sym (c .before .kind .ensures) ∙ c .if1 .left) in
+    let r = written-reference _ _ _ _ (c .before .before .before .before .pre .1) (sym (c .before .kind .ensures) ∙ c .if1 .left) in
     (r .marker, r .name, r .here)
 
 returns-2 : tie.Need-returns-2
@@ -25,4 +25,4 @@ returns-2 c =
     (λ q a l. reference-bears _ _ q a b l is (c .key .ensures), λ e. absurd (omega (arith, is, e)))
 
 pub bears-spec : {M : Type 1} → statement M
-bears-spec = tie.close (tie.spec (λ c κs. node-whole _ _ _ _ (c .before .before .pre .1) .0) returns key-requires returns-2)
+bears-spec = tie.close (tie.spec (λ c κs. written-whole _ _ _ _ (c .before .before .pre .1) .0) returns key-requires returns-2)

@@ -1,7 +1,7 @@
 -- `rules::plan::leaf` meets its contract. Assumes nothing.
 use borrow.Author.Needs.{needs}
 use Prim.Native.Nat.{ℕ}
-use mathlib.Core.Path.{_≡_, sym, _∙_}
+use mathlib.Core.Path.{_≡_, sym, _∙_, subst as transport}
 use mathlib.Core.List.{List}
 use mathlib.Core.Bool.{true, false}
 use Rattle.spec.specs.Expr.{Atom, ref}
@@ -16,12 +16,12 @@ use Rattle.rules.specs.Scope.{view}
 use Rattle.rules.specs.Planned.{refuses, owns, Answers}
 use Rattle.rules.specs.declared.scope.Found.{Found}
 use Rattle.rules.proofs.Shown.{answers}
-use Rattle.rules.proofs.Naming.{leaf-is, some-defined, own-rule, name-rule, reference-task, reference-planned}
+use Rattle.rules.proofs.Naming.{own-rule, name-rule, reference-task, reference-planned}
 use Rattle.rules.proofs.plan.leaf.Statement.{statement}
 use Rattle.rules.proofs.plan.leaf.Tie as tie
 
 returns : tie.Need-returns
-returns c associations args a l w st h set = rw (own-rule a (h .scope) (λ k. c .if1 .taken (c .before .kind .ensures ∙ sym (leaf-kind l) ∙ k))) (owns a l)
+returns c associations args place a l w st h set = rw (own-rule a (h .scope) (λ k. c .if1 .taken (c .before .kind .ensures ∙ sym (leaf-kind l) ∙ k))) (owns a l)
 
 -- a reference
 module _ (c : tie.Else1) where
@@ -39,12 +39,12 @@ module _ (c : tie.Else1) where
 
   some-reference : (m : ℕ) × (n : ℕ) × At (ref m n)
   some-reference =
-      let l = leaf-is (start .pre .2 .is) in
-      let r = reference (l .0) (l .2) in
-      (r .0, r .1, rw (r .2) at (l .2))
+      let l = start .pre .1 in
+      let r = reference (l .0) (l .1) in
+      (r .0, r .1, transport At (r .2) (l .1))
 
 returns-2 : tie.Need-returns-2
-returns-2 c associations args a l w st h set =
+returns-2 c associations args place a l w st h set =
     let o = c .before .before .before in
     let r = reference o a l in
     let k = rw (r .2) at l in
@@ -53,9 +53,9 @@ returns-2 c associations args a l w st h set =
 -- what is done with what was found
 done : (c : tie.After-look-up) (f : Found) → c .look-up .result ≡ f → let o = c .before .before .before .before in
     let i = start o .args in
-    (associations args : List ℕ) (a : Atom) → At o a
-    → Answers (i .s .now) (i .table .now) args (view associations (i .definitions .now) (i .here .scope)) (i .here) (leaf (i .row) a) (plan (leaf (i .row) a)) (reference-task f)
-done c f is associations args a l w st h set =
+    (associations args : List ℕ) (place : ℕ) (a : Atom) → At o a
+    → Answers (i .s .now) (i .table .now) args (view associations (i .definitions .now) (i .here .scope)) (i .here) (i .row) (leaf place a) (plan (leaf place a)) (reference-task f)
+done c f is associations args place a l w st h set =
     let o = c .before .before .before .before in
     let r = reference o a l in
     let k = rw (r .2) at l in
@@ -68,13 +68,13 @@ look-up-requires c κs =
     let o = c .before .before .before in
     let r = some-reference o in
     let f = fits o (r .2) in
-    (some-defined _ _ (start o .pre .2), rw (c .before .before .key .ensures _ _ (r .2)) (key-small (r .0) (r .1) (f .1) (f .2)))
+    (start o .pre .0, rw (c .before .before .key .ensures _ _ (r .2)) (key-small (r .0) (r .1) (f .1) (f .2)))
 
 pub leaf-spec : {M : Type 1} → statement M
 leaf-spec =
     tie.close
     (tie.spec
-    (λ c κs. leaf-is (c .before .before .pre .2 .is) .2 .row .inside)
+    (λ c κs. c .before .before .pre .1 .1 .row .inside)
     returns
     (λ c κs. some-reference c)
     (λ c κs. search needs)

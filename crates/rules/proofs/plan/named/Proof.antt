@@ -1,21 +1,22 @@
 -- `rules::plan::named` meets its contract. Assumes nothing.
 use borrow.Author.Needs.{needs}
 use Prim.Native.Nat.{ℕ}
-use mathlib.Core.Path.{refl, sym}
+use mathlib.Core.Path.{sym}
 use mathlib.Core.List.{List}
 use mathlib.Core.Logic.{⊎-elim}
 use native.Mathlib.Omega.{arith}
 use Rattle.spec.specs.Expr.{ref}
-use Rattle.spec.specs.Nodes.{Nodes, elements}
+use Rattle.spec.specs.Nodes.{Nodes}
 use Rattle.spec.specs.Plan.{Scope as Definitions, look-up}
 use Rattle.laws.proofs.Fits.{Fits}
 use Rattle.laws.proofs.Steps.{all-bytes}
 use Rattle.rows.specs.Rows.{NodesAt}
 use Rattle.rows.proofs.Nodes.{leaf-fits}
 use Rattle.rows.proofs.Keys.{key-small}
-use Rattle.rows.proofs.Parts.{LedAt, node-elements, led-at}
+use Rattle.rows.proofs.Parts.{LedAt, led-at}
 use Rattle.rules.specs.Scope.{latest}
 use Rattle.rules.specs.Settings.{Shows}
+use Rattle.rules.specs.Planned.{calls-function}
 use Rattle.rules.proofs.Latest.{latest-length}
 use Rattle.rules.proofs.Shown.{Answers, answers}
 use Rattle.rules.proofs.Naming.{some-defined}
@@ -29,13 +30,13 @@ module _ (c : tie.After-shared-slice-known) where
   start = c .before
 
   abbrev Led : Nodes → Type 0
-  Led es = let a = start .args in LedAt (a .s .now) (a .table .now) (a .form .first) (a .form .end) es
+  Led es = let a = start .args in LedAt (a .s .now) (a .table .now) (a .form .flat) (a .form .first) (a .form .end) es
 
-  led : (es : Nodes) → (let a = start .args in NodesAt (a .s .now) (a .table .now) (a .form .first) (a .form .end) es) → Led es
-  led es at = led-at _ _ _ _ es at (sym (start .pre .1 es at))
+  led : (es : Nodes) → (let a = start .args in NodesAt (a .s .now) (a .table .now) (a .form .flat) (a .form .first) (a .form .end) es) → Led es
+  led es at = led-at _ _ _ _ _ es at (sym (start .pre .1 .1 es at))
 
-  some-led : Led (elements (start .pre .0 .2 .expression))
-  some-led = led _ (node-elements (start .pre .0 .2 .is))
+  some-led : Led (start .pre .1 .0 .nodes)
+  some-led = led _ (start .pre .1 .0 .at)
 
   fits : {es : Nodes} (l : Led es) → Fits (ref (l .marker) (l .name))
   fits l = leaf-fits (all-bytes (start .args .s .now) (λ i. c .shared-slice-known .given i .fits)) (l .here)
@@ -54,27 +55,20 @@ look-up-requires c κs =
     let k = c .before .before in
     let l = some-led k in
     let f = fits k l in
-    (some-defined _ _ (start k .pre .0 .2), rw (c .key .ensures _ _ (l .here)) (key-small (l .marker) (l .name) (f .1) (f .2)))
-
-code-at-requires : tie.Need-code-at-requires
-code-at-requires c κs =
-    let k = c .before .before .before .before in
-    let p = start (k .before .before .before) .pre .0 .2 in
-    let f = found-code (found k (some-led (k .before .before .before)) _ _ _ (p .setting .sees .definitions)) _ _ (c .before .before .code .given .1) in
-    (_, f .body, f .at)
+    (some-defined _ _ (start k .pre .0 .3), rw (c .key .ensures _ _ (l .here)) (key-small (l .marker) (l .name) (f .1) (f .2)))
 
 returns : tie.Need-returns
-returns c associations args es at w st h set =
-    let k = c .before .before .before .before .before .before .before in
+returns c associations args r q es at w st h set =
+    let k = c .before .before .before .before in
     let a = start (k .before .before .before) .args in
     let l = led (k .before .before .before) es at in
-    let f = found-code (found k l w (st .floor) (h .scope) (set .sees .definitions)) _ _ (c .before .before .before .before .before .code .given .1) in
+    let f = found-code (found k l w (st .floor) (h .scope) (set .sees .definitions)) _ _ (c .before .before .code .given .1) in
     let all = latest-length (a .definitions .now) (a .here .scope .defined) in
-    rw (l .is, f .plans, c .call .ensures, c .before .before .before .rest .ensures, c .before .up-to .ensures)
-    (call-planned (a .form) _ (l .rest) (rw (l .is) at at) record { at = c .before .before .code-at .ensures _ (f .body) (f .at); fewer = omega (arith, f .fewer); same = refl; shows = rw all at (f .shows) })
+    rw (l .is, f .plans, c .rest .ensures)
+    (call-planned (a .form) _ (l .rest) (rw (l .is) at at) (calls-function _ _ (f .body) (f .behind) (f .at) (omega (arith, f .fewer)) (rw all at (f .shows))))
 
 returns-2 : tie.Need-returns-2
-returns-2 c associations args es at w st h set =
+returns-2 c associations args r q es at w st h set =
     let k = c .before .before in
     let l = led (k .before .before .before) es at in
     let none = found-no-code (found k l w (st .floor) (h .scope) (set .sees .definitions)) (λ code visible e. ⊎-elim (λ z. omega arith) (λ z. omega arith) (rw e at (c .before .match .keys2))) in
@@ -88,9 +82,6 @@ named-spec =
     look-up-requires
     (λ c. search needs)
     (λ c κs. let l = some-led (c .before .before .before .before .before .before) in l .here .row .inside)
-    code-at-requires
-    (λ c κs. search needs)
-    (λ c κs. search needs)
     (λ c κs. search needs)
     returns
     returns-2)

@@ -2,6 +2,7 @@
 use mathlib.Core.Path.{sym, _∙_}
 use native.Mathlib.Omega.{arith}
 use borrow.Author.Tests.{lt-leb}
+use mathlib.Core.Bool.{false}
 use Rattle.spec.specs.Expr.{int}
 use Rattle.spec.specs.Nodes.{Nodes}
 use Rattle.rows.specs.Rows.{NodesAt}
@@ -14,14 +15,14 @@ use Rattle.rules.proofs.plan.number.Tie as tie
 
 -- a head and one more
 one : (c : tie.Else1) → let a = c .before .before .before .before .before .args in
-    (es : Nodes) → NodesAt (a .s .now) (a .table .now) (a .form .first) (a .form .end) es → OneAt (a .s .now) (a .table .now) (c .before .before .parts .result) es
+    (es : Nodes) → NodesAt (a .s .now) (a .table .now) false (a .form .first) (a .form .end) es → OneAt (a .s .now) (a .table .now) (c .before .before .parts .result) es
 one c es at = one-at _ _ _ _ es _ at (c .before .before .parts .ensures _ es at) (c .if1 .left)
 
 small-requires : tie.Need-small-requires
 small-requires c κs =
     let o = c .before .before in
     let pre = o .before .before .before .before .before .pre in
-    let i = of-kind _ _ _ 3 int kind-int (λ z. omega arith) _ (one o (pre .nodes) (pre .at) .at) (sym (c .before .kind .ensures) ∙ c .if2 .left) in
+    let i = of-kind _ _ _ 3 int kind-int (λ z. omega arith) _ (one o (pre .0) (pre .1) .at) (sym (c .before .kind .ensures) ∙ c .if2 .left) in
     (i .0, i .2)
 
 returns-3 : tie.Need-returns-3
@@ -34,9 +35,9 @@ pub number-spec : {M : Type 1} → statement M
 number-spec =
     tie.close
     (tie.spec
-    (λ c κs. let pre = c .before .before .pre in (_, pre .nodes, pre .at))
+    (λ c κs. let pre = c .before .before .pre in (_, pre .0, pre .1))
     (λ c es rule at. number-refused _ _ _ _ es _ at (c .before .before .parts .ensures _ es at) rule (λ n k. c .if1 .taken n))
-    (λ c κs. let pre = c .before .before .before .before .before .pre in node-whole _ _ _ _ (one c (pre .nodes) (pre .at) .at) .0)
+    (λ c κs. let pre = c .before .before .before .before .before .pre in node-whole _ _ _ _ _ (one c (pre .0) (pre .1) .at) .0)
     (λ c es rule at. number-refused _ _ _ _ es _ at (c .before .before .before .before .parts .ensures _ es at) rule (λ n k. c .if2 .taken (c .before .kind .ensures ∙ k)))
     small-requires
     returns-3)

@@ -17,8 +17,8 @@ is-array c a leaf two =
     let is = kind-array a (leaf-kind leaf ∙ sym (c .before .kind .ensures) ∙ two) in
     (is .0, is .1, subst (LeafAt _ _ _) (is .1) leaf)
 
-body-requires : tie.Need-body-requires
-body-requires c κs =
+array-body-requires : tie.Need-array-body-requires
+array-body-requires c κs =
     let k = c .before in
     let pre = k .before .before .before .before .pre in
     let is = is-array k (pre .0) (pre .1) (c .if1 .taken) in
@@ -28,7 +28,7 @@ returns : tie.Need-returns
 returns c a leaf =
     let k = c .before .before in
     let is = is-array k a leaf (c .before .if1 .taken) in
-    rw (is .1) (body-array (k .before .kind .ensures) (k .end .ensures) (is .2) (c .body .ensures (is .0) (is .2)))
+    rw (is .1) (body-array (k .before .kind .ensures) (k .end .ensures) (is .2) (c .array-body .ensures (is .0) (is .2)))
 
 returns-2 : tie.Need-returns-2
 returns-2 c a leaf =
@@ -38,4 +38,4 @@ returns-2 c a leaf =
 pub body-at-spec : {M : Type 1} → statement M
 body-at-spec =
     tie.close
-    (tie.spec (λ c κs. search needs) (λ c κs. search needs) body-requires returns (λ c κs. search needs) returns-2)
+    (tie.spec (λ c κs. search needs) (λ c κs. search needs) array-body-requires returns (λ c κs. search needs) returns-2)

@@ -3,6 +3,7 @@
 use borrow.Author.Needs.{needs}
 use Prim.Native.Nat.{_+_, _-_, _≤_}
 use mathlib.Core.Path.{_≡_, refl}
+use mathlib.Core.Bool.{false}
 use native.Mathlib.Omega.{arith}
 use lib.ListN.{length, length-set}
 use Rattle.spec.specs.Expr.{Atom, canonical}
@@ -14,18 +15,18 @@ use Rattle.workspace.proofs.values.itself.Statement.{statement}
 use Rattle.workspace.proofs.values.itself.Tie as tie
 
 abbrev Inv-loop : tie.InvT-loop
-Inv-loop s table w₀ state range top room end row₀ n₀ w row n =
-    (2 ≤ n) × (n ≤ room) × (length w ≡ length w₀) × ((es : Nodes) → NodesAt s table row₀ end es → Atoms es → Upto s table w₀ w top n row end es)
+Inv-loop s table w₀ state place top room end row₀ n₀ w row n =
+    (2 ≤ n) × (n ≤ room) × (length w ≡ length w₀) × ((es : Nodes) → NodesAt s table false row₀ end es → Atoms es → Upto s table w₀ w top n row end es)
 
 abbrev μ-loop : tie.MeasureT-loop
-μ-loop s table w₀ state range top room end row₀ n₀ w row n = end - row
+μ-loop s table w₀ state place top room end row₀ n₀ w row n = end - row
 
 -- the next of the atoms, if they are these
 module _ (c : tie.In-loop Inv-loop μ-loop) where
   abbrev start : tie.Start Inv-loop μ-loop
   start = c .before .before .before .before .before .before
 
-  next : (es : Nodes) → let a = start .args in let l = c .before .loop in NodesAt (a .s .now) (a .table .now) (a .range .first) (a .range .end) es → Atoms es
+  next : (es : Nodes) → let a = start .args in let l = c .before .loop in NodesAt (a .s .now) (a .table .now) false (a .range .first) (a .range .end) es → Atoms es
       → AtomNext (a .s .now) (a .table .now) (a .w .now) (l .w) (a .state .top) (l .n) (l .row) (a .range .end) es
   next es at atoms =
       let inv = c .before .loop .inv in
