@@ -1,0 +1,29 @@
+-- How a table changes while numbers besides are put in it: its rows stay. Assumes nothing.
+use Prim.Native.Nat.{ℕ, _≤_, _<_}
+use mathlib.Core.Path.{_≡_}
+use mathlib.Core.List.{List}
+use lib.ListN.{length}
+use Rattle.rows.specs.Rows.{cell, kind, start, link, other}
+
+-- the row itself, without the numbers besides
+pub record SameRow (t t' : List ℕ) (r : ℕ) : Type 0 where
+  pub same-kind : kind t' r ≡ kind t r
+  pub same-start : start t' r ≡ start t r
+  pub same-end : cell t' r 2 ≡ cell t r 2
+  pub same-next : cell t' r 3 ≡ cell t r 3
+
+-- the numbers besides too
+pub record Same (t t' : List ℕ) (r : ℕ) : Type 0 where
+  pub first : cell t' r 0 ≡ cell t r 0
+  pub second : cell t' r 1 ≡ cell t r 1
+
+-- only numbers besides, at rows from one up to another
+pub record Changed (t t' : List ℕ) (from to : ℕ) : Type 0 where
+  pub same-length : length t' ≡ length t
+  pub same-rows : (r : ℕ) → SameRow t t' r
+  pub before : (r : ℕ) → r < from → Same t t' r
+  pub behind : (r : ℕ) → to ≤ r → Same t t' r
+
+-- no links, nor other numbers, at rows from one up to another
+abbrev pub Unlinked : List ℕ → ℕ → ℕ → Type 0
+Unlinked t from to = (r : ℕ) → from ≤ r → r < to → (link t r ≡ 0) × (other t r ≡ 0)
