@@ -17,6 +17,7 @@ use Rattle.workspace.specs.Packed.{pack}
 use Rattle.workspace.specs.Completed.{Stand, with-top, Completed, Joined, joined, no-arrays, Stored}
 use Rattle.workspace.specs.declared.values.State.{State}
 use Rattle.workspace.specs.declared.values.Out.{Out}
+use Rattle.workspace.specs.declared.values.Out.the-variants.{Done}
 use Rattle.workspace.proofs.Areas.{stand-size}
 use Rattle.rules.specs.Entries.{definition}
 use Rattle.rules.specs.Scope.{view}
@@ -27,7 +28,6 @@ use Rattle.rules.specs.declared.plan.Making.the-variants.{Form, Define, Concat}
 use Rattle.rules.proofs.Shown.{value-entry}
 use Rattle.evaluator.specs.Listed.{LeftBy, as-left, FinishedBy, by-form, by-define, by-concat, Finishing}
 use Rattle.evaluator.specs.declared.element.Left.{Left}
-use Rattle.evaluator.specs.declared.element.Left.the-variants.{Done}
 use Rattle.evaluator.proofs.Begins.{completed-left, extends-none, defined-left}
 
 -- Values that stand
@@ -104,7 +104,7 @@ module _ (w w′ definitions : List ℕ) (sc : Scope) (st : State) (start row : 
 
   pub define-finished : (key : ℕ) (st′ : State) → length definitions ≡ 256 → Stored w w′ st start st′
       → let e = definition key (pack (st′ .floor) (st .floor)) in
-      Finished (set definitions (sc .defined) e) (Define key) (Done st′ (record { defined = sc .defined + 1; associated = sc .associated }))
+      Finished (set definitions (sc .defined) e) (Define key) (as-left (record { defined = sc .defined + 1; associated = sc .associated }) (Done st′))
   define-finished key st′ size stored s t numbers run h f vs (by-define m n fits few) ready sees =
       let e = definition key (pack (st′ .floor) (st .floor)) in
       let fit = ready .fitting in

@@ -2,15 +2,21 @@
 use Prim.Native.Nat.{ℕ, _-_, _≤_, _<_}
 use mathlib.Core.Path.{_≡_}
 use mathlib.Core.List.{List}
+use mathlib.Core.Bool.{Bool, false}
 use lib.ListN.{length, take}
-use Rattle.spec.specs.Expr.{Exprs, canonical}
+use Rattle.spec.specs.Expr.{Exprs, rows-all, canonical}
 use Rattle.spec.specs.Reading.{Row, readable}
+use Rattle.spec.specs.Nodes.{number-all}
+use Rattle.spec.specs.Bytecode.{transform-all}
 use Rattle.spec.specs.Runs.{done, stopped, cut, steps-in}
 use Rattle.spec.specs.Evaluation.{run, result}
 use Rattle.spec.specs.Calls.{refusal, filled, put-out, reading, Evaluate}
+use Rattle.laws.proofs.Fits.{FitsAll}
+use Rattle.rows.specs.Rows.{NodesAt}
 use Rattle.workspace.specs.declared.values.State.{State}
-use Rattle.evaluator.specs.declared.element.Left.{Left}
-use Rattle.evaluator.specs.declared.element.Left.the-variants.{Done, Refused as Stopped}
+use Rattle.workspace.specs.declared.values.Out.{Out}
+use Rattle.workspace.specs.declared.values.Out.the-variants.{Done, Refused as Stopped}
+use Rattle.bytecode.specs.Numbers.{Changed}
 use Rattle.evaluator.specs.declared.Result.{Result}
 use Rattle.evaluator.specs.declared.Result.the-variants.{Is, Refused}
 
@@ -23,6 +29,17 @@ pub record HasRead (s table : List ℕ) (count : ℕ) : Type 0 where
   pub filled-in : table ≡ filled rows before
   pub counted : count ≡ length rows
 
+-- the expressions of a stream stand in the table, in so many rows, as they are evaluated
+pub record Arranged (s table : List ℕ) (count : ℕ) (es : Exprs) : Type 0 where
+  pub nodes : NodesAt s table false 0 count (transform-all (number-all 0 es))
+  pub counted : count ≡ rows-all es
+  pub fits : FitsAll es
+
+-- only numbers besides its rows' own are put in a table; none where there is no bytecode
+pub record Put (t t′ : List ℕ) (count : ℕ) (arranged : Bool) : Type 0 where
+  pub changed : Changed t t′ 0 count
+  pub same : arranged ≡ false → t′ ≡ t
+
 -- the run of expressions is done, within the steps and the workspace, and its result stands at the workspace's start
 pub record ResultStands (steps : ℕ) (w w′ : List ℕ) (es : Exprs) (st : State) : Type 0 where
   pub left : List Exprs
@@ -32,10 +49,10 @@ pub record ResultStands (steps : ℕ) (w w′ : List ℕ) (es : Exprs) (st : Sta
   pub fewer : st .steps ≤ steps
   pub taken : steps - st .steps ≡ steps-in (run es .events)
 
--- or it is refused, at one of the rows
-abbrev pub Ended : ℕ → List ℕ → List ℕ → List Row → Exprs → Left → Type 0
-Ended steps w w′ rs es (Done st sc) = ResultStands steps w w′ es st
-Ended steps w w′ rs es (Stopped n r) = (1 ≤ n) × (r < length rs) × (cut steps (length w) (run es .events) (run es .end) ≡ stopped n r)
+-- or it is refused, at one of so many rows
+abbrev pub Ended : ℕ → List ℕ → List ℕ → ℕ → Exprs → Out → Type 0
+Ended steps w w′ count es (Done st) = ResultStands steps w w′ es st
+Ended steps w w′ count es (Stopped n r) = (1 ≤ n) × (r < count) × (cut steps (length w) (run es .events) (run es .end) ≡ stopped n r)
 
 -- a refusal; or the bytes that are to be put out stand at the workspace's start
 abbrev pub Evaluated : List ℕ → List ℕ → List ℕ → List ℕ → List ℕ → ℕ → List Row → Result → Type 0

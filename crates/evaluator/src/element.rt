@@ -1,6 +1,7 @@
 // One expression: its step, its rule, and what it leaves. Nothing here evaluates what is inside it. Document 01: "Steps", refusal 16.
 use rows::forms::Form;
 use rows::forms::Node;
+use rows::table;
 use rules::here::Here;
 use rules::plan;
 use rules::plan::After;
@@ -14,29 +15,34 @@ use workspace::values::Out;
 use workspace::values::State;
 ghost use mathlib.Core.Path.{_≡_};
 ghost use mathlib.Core.List.{List};
-ghost use Prim.Native.Nat.{ℕ};
+ghost use mathlib.Core.Bool.{false};
+ghost use Prim.Native.Nat.{ℕ, _<_};
+ghost use lib.ListN.{length, getD};
 ghost use Rattle.spec.specs.Expr.{if_then_else_, form, Exprs, only};
-ghost use Rattle.spec.specs.Nodes.{Node as Expression, Nodes};
+ghost use Rattle.spec.specs.Nodes.{Node as Expression, bytecode, Nodes, becomes};
 ghost use Rattle.spec.specs.Runs.{hold};
 ghost use Rattle.spec.specs.Plan.{Here as Known, Finish};
 ghost use Rattle.spec.specs.Evaluation.{Call, one-value, finish as finished, eval};
-ghost use Rattle.rows.specs.Rows.{NodesAt};
-ghost use Rattle.rows.specs.Forms.{SomeNodes};
-ghost use Rattle.workspace.specs.Completed.{stepped, with-top, Completed};
+ghost use Rattle.rows.specs.Rows.{RowsAt, NodesAt};
+ghost use Rattle.workspace.specs.Completed.{with-steps, stepped, with-top, Completed};
 ghost use Rattle.rules.specs.Scope.{view};
 ghost use Rattle.rules.specs.Settings.{Sees};
-ghost use Rattle.evaluator.specs.Listed.{as-left, LeftBy, Begun, Beginning, SomeBeginning, FinishedBy, Finishing, SomeFinishing, Ran};
-ghost use Rattle.evaluator.specs.Performed.{Performing};
+ghost use Rattle.evaluator.specs.Listed.{as-left, as-step, LeftBy, Begun, Beginning, SomeBeginning, FinishedBy, Finishing, SomeFinishing, Ran};
+ghost use Rattle.evaluator.specs.Performed.{Performs, SomePerforming, Unfolding, SomeUnfolding, Decided};
 
-// What an expression or a list leaves: the state, and what is visible to what follows. Or a refusal's number and row.
-pub enum Left {
-    Done { state: State, scope: Scope },
-    Refused(u32, usize),
+// What an expression leaves: the state or a refusal, and what is visible to what follows.
+pub struct Left {
+    pub out: Out,
+    pub scope: Scope,
 }
 
-// After an expression's step: it is done, or a list is to be evaluated first.
+// After an expression's step: a refusal's number and row, or it is done, or a list is to be evaluated first.
 pub enum Step {
-    Leaves(Left),
+    Refused(u32, usize),
+    Leaves {
+        state: State,
+        scope: Scope,
+    },
     Inside {
         state: State,
         list: Form,
@@ -48,9 +54,16 @@ pub enum Step {
 pub fn leaves(out: Out, scope: Scope) -> Left
     ensures { λ r. ⌜ r ≡ as-left scope out ⌝ }
 {
+    Left { out, scope }
+}
+
+// The step of an expression that is completed.
+fn done(out: Out, scope: Scope) -> Step
+    ensures { λ r. ⌜ r ≡ as-step scope out ⌝ }
+{
     match out {
-        Out::Done(state) => Left::Done { state, scope },
-        Out::Refused(number, row) => Left::Refused(number, row),
+        Out::Done(state) => Step::Leaves { state, scope },
+        Out::Refused(number, row) => Step::Refused(number, row),
     }
 }
 
@@ -64,35 +77,127 @@ fn perform(
     scope: Scope,
     state: State,
     task: Task,
+    atom: usize,
     row: usize,
 ) -> Step
-    requires { ⌜ ((st : State) × (e : Expression) × (h : Known) × (state ≡ stepped st) × Performing (now s) (now table) (now w) (view (now associations) (now definitions) scope) scope st task row e h) ⌝ }
-    ensures { λ r. ⌜ ((st : State) (run : Call) (e : Expression) (h : Known) → state ≡ stepped st
-        → Performing (now (s .entry)) (now (table .entry)) (now (w .entry)) (view (now (associations .entry)) (now (definitions .entry)) scope) scope st task row e h
-        → Begun (now (s .entry)) (now (table .entry)) (now (w .entry)) (now (w .exit)) (view (now (associations .entry)) (now (definitions .entry)) scope)
+    requires { ⌜ SomePerforming (now s) (now table) (now w) (view (now associations) (now definitions) scope) scope state task atom row ⌝ }
+    ensures { λ r. ⌜ ((bound : ℕ) (st : State) (left : ℕ) (run : Call) (e : Expression) (h : Known) → state ≡ with-steps st left
+        → Performs (now (s .entry)) (now (table .entry)) bound (now (w .entry)) (view (now (associations .entry)) (now (definitions .entry)) scope) scope st left task atom row e h
+        → Begun (now (s .entry)) (now (table .entry)) bound (now (w .entry)) (now (w .exit)) (view (now (associations .entry)) (now (definitions .entry)) scope)
         (view (now (associations .exit)) (now (definitions .exit))) scope st e h (hold (st .steps) (st .room) (eval run e h)) r)
         × (view (now (associations .exit)) (now (definitions .exit)) scope ≡ view (now (associations .entry)) (now (definitions .entry)) scope) ⌝ }
 {
-    let left = match task {
-        Task::Inside { list, after } => {
-            return Step::Inside { state, list, after };
-        }
-        Task::Refuse(number) => Left::Refused(number, row),
-        Task::Own => leaves(values::own(s, table, w, state, row), scope),
+    match task {
+        Task::Inside { list, after } => Step::Inside { state, list, after },
+        Task::Refuse(number) => Step::Refused(number, row),
+        Task::Unfold(_) => Step::Refused(22, row),
+        Task::Own => done(values::own(s, table, w, state, atom, row), scope),
         Task::Again { from, to } => {
             let top = state.top;
-            leaves(values::copied(w, state, from, to, top, row), scope)
+            done(values::copied(w, state, from, to, top, row), scope)
         }
         Task::Ns { form, marker, id } => {
             let more = scope.associate(associations, marker, id);
-            leaves(values::itself(s, table, w, state, form), more)
+            done(values::itself(s, table, w, state, form, row), more)
         }
-        Task::Function { key, code } => Left::Done {
+        Task::Function { key, code } => Step::Leaves {
             state,
-            scope: scope.add(definitions, key, code),
+            scope: scope.add(definitions, key, code as u32),
         },
-    };
-    Step::Leaves(left)
+    }
+}
+
+// How many expressions a flat list has.
+fn count(table: &[u32], first: usize, end: usize) -> u64
+    requires { ⌜ ((rows : List ℕ) × RowsAt (now table) first end rows) ⌝ }
+    ensures { λ r. ⌜ ((rows : List ℕ) → RowsAt (now (table .entry)) first end rows → r ≡ length rows) ⌝ }
+{
+    let mut row = first;
+    let mut n: u64 = 0;
+    while row < end {
+        row = table::next(table, row);
+        n += 1;
+    }
+    n
+}
+
+// The row of the expression behind so many of a flat list.
+fn row_of(table: &[u32], first: usize, steps: u64) -> usize
+    requires { ⌜ ((end : ℕ) × (rows : List ℕ) × RowsAt (now table) first end rows × (steps < length rows)) ⌝ }
+    ensures { λ r. ⌜ ((end : ℕ) (rows : List ℕ) → RowsAt (now (table .entry)) first end rows → steps < length rows → r ≡ getD rows steps 0) ⌝ }
+{
+    let mut row = first;
+    let mut left = steps;
+    while 0 < left {
+        row = table::next(table, row);
+        left -= 1;
+    }
+    row
+}
+
+// What is to be done, and the state it is done in; `atom` is the row of the expression if it is one. Or a refusal's number and row.
+enum Decision {
+    Task {
+        state: State,
+        task: Task,
+        atom: usize,
+    },
+    Refused(u32, usize),
+}
+
+// What is to be done with the result of a bytecode form, after a step for each expression of its flat list.
+fn unfolded(
+    s: &[u8],
+    table: &[u32],
+    definitions: &[u64; 256],
+    here: Here,
+    state: State,
+    flat: Form,
+) -> Decision
+    requires { ⌜ ((associations : List ℕ) × SomeUnfolding (now s) (now table) (view associations (now definitions) (here .scope)) state here flat) ⌝ }
+    ensures { λ r. ⌜ ((associations args : List ℕ) (bound : ℕ) (w : List ℕ) (st : State) (node : Node) (place : ℕ) (es : Nodes) (rows : List ℕ) (e : Expression) (h : Known) → state ≡ stepped st → 0 < st .steps
+        → Unfolding (now (s .entry)) (now (table .entry)) place flat rows e
+        → Beginning (now (s .entry)) (now (table .entry)) bound w args (view associations (now (definitions .entry)) (here .scope)) st here node place (bytecode place es (becomes rows e)) h
+        → Decided (now (s .entry)) (now (table .entry)) bound w (view associations (now (definitions .entry)) (here .scope)) (here .scope) st place (bytecode place es (becomes rows e)) h r) ⌝ }
+{
+    let steps = state.steps;
+    let n = count(table, flat.first, flat.end);
+    if steps < n {
+        return Decision::Refused(16, row_of(table, flat.first, steps));
+    }
+    Decision::Task {
+        state: state.less(n),
+        task: plan::result(s, table, definitions, here, flat),
+        atom: flat.first,
+    }
+}
+
+// What is to be done with the expression at a row, whose step is taken.
+fn decided(
+    s: &[u8],
+    table: &[u32],
+    associations: &[u64; 64],
+    args: &[u32; 64],
+    definitions: &[u64; 256],
+    here: Here,
+    state: State,
+    node: Node,
+    row: usize,
+) -> Decision
+    requires { ⌜ ((w : List ℕ) × (st : State) × (state ≡ stepped st) × (0 < st .steps) × SomeBeginning (now s) (now table) w (now args) (view (now associations) (now definitions) (here .scope)) st here node row) ⌝ }
+    ensures { λ r. ⌜ ((bound : ℕ) (w : List ℕ) (st : State) (e : Expression) (h : Known) → state ≡ stepped st → 0 < st .steps
+        → Beginning (now (s .entry)) (now (table .entry)) bound w (now (args .entry)) (view (now (associations .entry)) (now (definitions .entry)) (here .scope)) st here node row e h
+        → Decided (now (s .entry)) (now (table .entry)) bound w (view (now (associations .entry)) (now (definitions .entry)) (here .scope)) (here .scope) st row e h r) ⌝ }
+{
+    let task = plan::plan(s, table, associations, args, definitions, here, node, row);
+    match task {
+        Task::Unfold(flat) => unfolded(s, table, definitions, here, state, flat),
+        _ => Decision::Task {
+            state,
+            task,
+            atom: row,
+        },
+    }
 }
 
 // The step of an expression.
@@ -106,32 +211,47 @@ pub fn begin(
     here: Here,
     state: State,
     node: Node,
+    row: usize,
 ) -> Step
-    requires { ⌜ SomeBeginning (now s) (now table) (now w) (now args) (view (now associations) (now definitions) (here .scope)) state here node ⌝ }
+    requires { ⌜ SomeBeginning (now s) (now table) (now w) (now args) (view (now associations) (now definitions) (here .scope)) state here node row ⌝ }
     ensures { λ r. ⌜ ((bound : ℕ) (run : Call) (e : Expression) (h : Known)
-        → Beginning (now (s .entry)) (now (table .entry)) bound (now (w .entry)) (now (args .entry)) (view (now (associations .entry)) (now (definitions .entry)) (here .scope)) state here node e h
-        → Begun (now (s .entry)) (now (table .entry)) (now (w .entry)) (now (w .exit)) (view (now (associations .entry)) (now (definitions .entry)) (here .scope))
+        → Beginning (now (s .entry)) (now (table .entry)) bound (now (w .entry)) (now (args .entry)) (view (now (associations .entry)) (now (definitions .entry)) (here .scope)) state here node row e h
+        → Begun (now (s .entry)) (now (table .entry)) bound (now (w .entry)) (now (w .exit)) (view (now (associations .entry)) (now (definitions .entry)) (here .scope))
         (view (now (associations .exit)) (now (definitions .exit))) (here .scope) state e h (hold (state .steps) (state .room) (eval run e h)) r)
         × (view (now (associations .exit)) (now (definitions .exit)) (here .scope) ≡ view (now (associations .entry)) (now (definitions .entry)) (here .scope)) ⌝ }
 {
-    let row = node.row();
     let scope = here.scope;
     match state.step(row) {
-        Out::Refused(number, at) => Step::Leaves(Left::Refused(number, at)),
-        Out::Done(stepped) => {
-            let task = plan::plan(s, table, associations, args, definitions, here, node);
-            perform(
+        Out::Refused(number, at) => Step::Refused(number, at),
+        Out::Done(stepped) => match decided(
+            s,
+            table,
+            associations,
+            args,
+            definitions,
+            here,
+            stepped,
+            node,
+            row,
+        ) {
+            Decision::Refused(number, at) => Step::Refused(number, at),
+            Decision::Task {
+                state: left,
+                task,
+                atom,
+            } => perform(
                 s,
                 table,
                 w,
                 associations,
                 definitions,
                 scope,
-                stepped,
+                left,
                 task,
+                atom,
                 row,
-            )
-        }
+            ),
+        },
     }
 }
 
@@ -158,10 +278,7 @@ pub fn finish(
         Making::Define { key } => {
             let stored = values::stored(w, state, start);
             let part = packed::pack(stored.floor, state.floor);
-            Left::Done {
-                state: stored,
-                scope: scope.add(definitions, key, part),
-            }
+            leaves(Out::Done(stored), scope.add(definitions, key, part))
         }
     }
 }
@@ -177,9 +294,9 @@ pub fn returned(
     from: usize,
     row: usize,
 ) -> Out
-    requires { ⌜ SomeNodes (now s) (now table) body ⌝ }
+    requires { ⌜ ((es : Nodes) × NodesAt (now s) (now table) false (body .first) (body .end) es) ⌝ }
     requires { ⌜ ((vs : Exprs) × Ran (now w) state start from vs) ⌝ }
-    ensures { λ r. ⌜ ((vs : Exprs) (es : Nodes) → Ran (now (w .entry)) state start from vs → NodesAt (now (s .entry)) (now (table .entry)) (body .first) (body .end) es
+    ensures { λ r. ⌜ ((vs : Exprs) (es : Nodes) → Ran (now (w .entry)) state start from vs → NodesAt (now (s .entry)) (now (table .entry)) false (body .first) (body .end) es
         → Completed (now (w .entry)) (now (w .exit)) state start row (if one-value es then vs else only (form vs)) r) ⌝ }
 {
     if body.is_single(s, table) {

@@ -2,7 +2,6 @@
 mod element;
 mod run;
 
-use crate::element::Left;
 use rows::compare;
 use rows::forms;
 use rows::forms::Form;
@@ -10,19 +9,25 @@ use rows::forms::Node;
 use rows::table;
 use rows::words::Core;
 use rules::here::Here;
+use workspace::values::Out;
 use workspace::values::State;
 ghost use mathlib.Core.Path.{_≡_};
 ghost use mathlib.Core.List.{List};
-ghost use Prim.Native.Nat.{ℕ, min, _≤_};
+ghost use mathlib.Core.Bool.{true};
+ghost use Prim.Native.Nat.{ℕ, _*_, min, _≤_, _<_};
 ghost use lib.ListN.{length, take};
-ghost use Rattle.spec.specs.Expr.{same, Exprs};
-ghost use Rattle.spec.specs.Reading.{Row, readable};
+ghost use Rattle.spec.specs.Expr.{if_then_else_, same, Exprs};
+ghost use Rattle.spec.specs.Reading.{Row, row-width, readable};
 ghost use Rattle.spec.specs.Calls.{filled, reading, is-versioned, version-bytes};
-ghost use Rattle.evaluator.specs.Evaluated.{HasRead, Ended, Evaluated};
+ghost use Rattle.rows.specs.Rows.{cell};
+ghost use Rattle.evaluator.specs.Evaluated.{HasRead, Arranged, Put, Ended, Evaluated};
 ghost use Rattle.evaluator.specs.declared.Result.the-variants.{Refused};
 
 // The bytes that count of a workspace: no result is longer.
 pub const WORKSPACE_LIMIT: usize = 65536;
+
+// The rows of the version form.
+const VERSION_ROWS: usize = 4;
 
 // The result's length and the steps taken, or a refusal.
 pub enum Result {
@@ -39,13 +44,13 @@ fn refused(number: u32, place: usize) -> Result
 // Whether the first expression is headed by `version`.
 fn is_versioned(s: &[u8], table: &[u32], rows: usize) -> bool
     requires { ⌜ HasRead (now s) (now table) rows ⌝ }
-    ensures { λ r. ⌜ ((t : List ℕ) (rs : List Row) (es : Exprs) → reading (now (s .entry)) t ≡ readable rs es → now (table .entry) ≡ filled rs t → r ≡ is-versioned es) ⌝ }
+    ensures { λ r. ⌜ ((t : List ℕ) (rs : List Row) (es : Exprs) → reading (now (s .entry)) t ≡ readable rs es → r ≡ is-versioned es) ⌝ }
 {
     if rows == 0 {
         return false;
     }
     match forms::at(table, 0) {
-        Node::Leaf { row: _ } => false,
+        Node::Leaf => false,
         Node::Branch(form) => {
             if !form.is_named(table) {
                 return false;
@@ -65,6 +70,17 @@ fn has_version(s: &[u8]) -> bool
     compare::same_bytes(&s[..6], b"\x01\x20\x00\x81\x80\x02")
 }
 
+// The refusal of a stream that doesn't begin with version 1.0.
+fn wrong_version(s: &[u8], table: &[u32], rows: usize) -> u32
+    requires { ⌜ HasRead (now s) (now table) rows ⌝ }
+    ensures { λ r. ⌜ ((t : List ℕ) (rs : List Row) (es : Exprs) → reading (now (s .entry)) t ≡ readable rs es → r ≡ (if is-versioned es then 10 else 9)) ⌝ }
+{
+    if is_versioned(s, table, rows) {
+        return 10;
+    }
+    9
+}
+
 // How much of the workspace counts.
 fn work_size(work: usize) -> usize
     ensures { λ r. ⌜ r ≡ min work 65536 ⌝ }
@@ -75,12 +91,34 @@ fn work_size(work: usize) -> usize
     WORKSPACE_LIMIT
 }
 
+// Makes of a stream's bytecode what is evaluated. Tells whether there is any.
+fn arrange(s: &[u8], table: &mut [u32], rows: usize) -> bool
+    requires { ⌜ HasRead (now s) (now table) rows × (same (take 6 (now s)) version-bytes ≡ true) ⌝ }
+    ensures { λ r. ⌜ Put (now (table .entry)) (now (table .exit)) rows r
+        × ((t : List ℕ) (rs : List Row) (es : Exprs) → reading (now (s .entry)) t ≡ readable rs es → Arranged (now (s .entry)) (now (table .exit)) rows es) ⌝ }
+{
+    if !bytecode::is_present(s, table, VERSION_ROWS, rows) {
+        return false;
+    }
+    bytecode::transform(s, table, rows);
+    true
+}
+
+// Leaves the rows as they were read.
+fn restore(table: &mut [u32], rows: usize, arranged: bool)
+    requires { ⌜ row-width * rows ≤ length (now table) ⌝ }
+    ensures { λ _. ⌜ ((t : List ℕ) → Put t (now (table .entry)) rows arranged → ((r : ℕ) → r < rows → (cell t r 0 < 256) × (cell t r 1 < 65536)) → now (table .exit) ≡ t) ⌝ }
+{
+    if arranged {
+        bytecode::clear(table, rows);
+    }
+}
+
 // Evaluates the whole stream in a workspace.
-fn evaluate_all(s: &[u8], table: &[u32], rows: usize, w: &mut [u8], steps: u64) -> Left
-    requires { ⌜ HasRead (now s) (now table) rows ⌝ }
+fn evaluate_all(s: &[u8], table: &[u32], rows: usize, w: &mut [u8], steps: u64) -> Out
+    requires { ⌜ ((es : Exprs) × Arranged (now s) (now table) rows es) ⌝ }
     requires { ⌜ length (now w) ≤ 65536 ⌝ }
-    ensures { λ r. ⌜ ((t : List ℕ) (rs : List Row) (es : Exprs) → reading (now (s .entry)) t ≡ readable rs es → now (table .entry) ≡ filled rs t
-        → Ended steps (now (w .entry)) (now (w .exit)) rs es r) ⌝ }
+    ensures { λ r. ⌜ ((es : Exprs) → Arranged (now (s .entry)) (now (table .entry)) rows es → Ended steps (now (w .entry)) (now (w .exit)) rows es r) ⌝ }
 {
     let mut associations = [0u64; 64];
     let args = [0u32; 64];
@@ -93,9 +131,9 @@ fn evaluate_all(s: &[u8], table: &[u32], rows: usize, w: &mut [u8], steps: u64) 
         floor: room,
     };
     let all = Form {
-        row: 0,
         first: 0,
         end: rows,
+        flat: false,
     };
     run::list(
         s,
@@ -111,21 +149,21 @@ fn evaluate_all(s: &[u8], table: &[u32], rows: usize, w: &mut [u8], steps: u64) 
 }
 
 // Evaluates a stream whose rows are in the table; they are so many. The result then stands at the workspace's start.
-pub fn evaluate(s: &[u8], table: &[u32], rows: usize, work: &mut [u8], steps: u64) -> Result
+pub fn evaluate(s: &[u8], table: &mut [u32], rows: usize, work: &mut [u8], steps: u64) -> Result
     requires { ⌜ HasRead (now s) (now table) rows ⌝ }
-    ensures { λ r. ⌜ ((t out : List ℕ) (rs : List Row) (es : Exprs) → reading (now (s .entry)) t ≡ readable rs es → now (table .entry) ≡ filled rs t
-        → Evaluated (now (s .entry)) t (now (work .entry)) (now (work .exit)) out steps rs r) ⌝ }
+    ensures { λ r. ⌜ (now (table .exit) ≡ now (table .entry)) × ((t out : List ℕ) (rs : List Row) (es : Exprs) → reading (now (s .entry)) t ≡ readable rs es
+        → now (table .entry) ≡ filled rs t → Evaluated (now (s .entry)) t (now (work .entry)) (now (work .exit)) out steps rs r) ⌝ }
 {
-    if !is_versioned(s, table, rows) {
-        return refused(9, 0);
-    }
     if !has_version(s) {
-        return refused(10, 0);
+        return refused(wrong_version(s, table, rows), 0);
     }
+    let arranged = arrange(s, table, rows);
     let size = work_size(work.len());
-    match evaluate_all(s, table, rows, &mut work[..size], steps) {
-        Left::Refused(number, row) => refused(number, table::start(table, row)),
-        Left::Done { state, scope: _ } => Result::Is {
+    let left = evaluate_all(s, table, rows, &mut work[..size], steps);
+    restore(table, rows, arranged);
+    match left {
+        Out::Refused(number, row) => refused(number, table::start(table, row)),
+        Out::Done(state) => Result::Is {
             length: state.top,
             steps: steps - state.steps,
         },

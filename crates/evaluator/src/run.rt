@@ -5,23 +5,19 @@ use crate::element::Left;
 use crate::element::Step;
 use rows::forms;
 use rows::forms::Form;
-use rows::table;
 use rules::here::Here;
+use rules::here::Within;
+use rules::plan;
 use rules::plan::After;
-use rules::plan::Callee;
 use workspace::made;
+use workspace::values::Out;
 use workspace::values::State;
 ghost use mathlib.Core.Path.{_≡_};
-ghost use Prim.Native.Nat.{ℕ};
-ghost use Rattle.spec.specs.Expr.{Exprs};
-ghost use Rattle.spec.specs.Nodes.{Nodes};
-ghost use Rattle.spec.specs.Runs.{hold};
-ghost use Rattle.spec.specs.Plan.{Scope as Definitions, Here as Known, as-call};
-ghost use Rattle.spec.specs.Evaluation.{finish as finished, run-code};
-ghost use Rattle.laws.specs.Holding.{in-list};
-ghost use Rattle.workspace.specs.Completed.{with-top};
+ghost use Rattle.workspace.specs.declared.values.Out.the-variants.{Done};
 ghost use Rattle.rules.specs.Scope.{view};
-ghost use Rattle.evaluator.specs.Listed.{Ready, SomeReady, Met, LeftBy, Calling, SomeCalling, CanEnd, EndedBy};
+ghost use Rattle.rules.specs.Settings.{in-list-of};
+ghost use Rattle.rules.specs.declared.plan.After.the-variants.{Function, Code};
+ghost use Rattle.evaluator.specs.Listed.{SomeReady, Answered, SomeCalling, CalledBy, SomeEnding, CanEnd, EndedBy};
 
 // A form whose elements are evaluated: its row, where their values start, and what becomes of them.
 struct Open {
@@ -41,21 +37,18 @@ pub fn list(
     mut here: Here,
     mut state: State,
     form: Form,
-) -> Left
-    requires { ⌜ SomeReady (now s) (now table) (now w) (now args) (view (now associations) (now definitions) (here .scope)) state here (form .first) (form .end) ⌝ }
-    ensures { λ r. ⌜ ((bound codes : ℕ) (es : Nodes) (h : Known)
-        → Ready (now (s .entry)) (now (table .entry)) bound codes (now (w .entry)) (now (args .entry)) (view (now (associations .entry)) (now (definitions .entry)) (here .scope)) state here (form .first) (form .end) es h
-        → Met (now (w .entry)) (now (w .exit)) (here .scope) state (hold (state .steps) (state .room) (in-list (run-code codes) es h)) r)
+) -> Out
+    requires { ⌜ SomeReady (now s) (now table) (now w) (now args) (view (now associations) (now definitions) (here .scope)) state here (form .flat) (form .first) (form .end) ⌝ }
+    ensures { λ r. ⌜ Answered (now (s .entry)) (now (table .entry)) (now (w .entry)) (now (w .exit)) (now (args .entry)) (view (now (associations .entry)) (now (definitions .entry)) (here .scope)) state here form r
         × (view (now (associations .exit)) (now (definitions .exit)) (here .scope) ≡ view (now (associations .entry)) (now (definitions .entry)) (here .scope)) ⌝ }
 {
-    let outer = here.scope;
     let floor = state.floor;
-    let end = form.end;
     let mut row = form.first;
-    while row < end {
+    while row < form.end {
         let start = state.top;
-        let e = forms::at(table, row);
-        let left = match element::begin(
+        let e = forms::element(table, form.flat, row);
+        let behind = e.behind(row);
+        match element::begin(
             s,
             table,
             w,
@@ -65,34 +58,49 @@ pub fn list(
             here,
             state,
             e,
+            row,
         ) {
-            Step::Leaves(done) => done,
+            Step::Refused(number, at) => {
+                return Out::Refused(number, at);
+            }
+            Step::Leaves { state: done, scope } => {
+                state = done;
+                here = here.showing(scope);
+            }
             Step::Inside {
                 state: inner,
                 list: sub,
                 after,
             } => {
-                let at = here.entering(after.within());
-                let ended = list(s, table, w, associations, args, definitions, at, inner, sub);
+                let ended = entered(
+                    s,
+                    table,
+                    w,
+                    associations,
+                    args,
+                    definitions,
+                    here,
+                    inner,
+                    sub,
+                    after.within(),
+                );
                 let opened = Open { row, start, after };
-                finish(s, table, w, associations, definitions, here, ended, opened)
-            }
-        };
-        match left {
-            Left::Refused(number, at) => {
-                return Left::Refused(number, at);
-            }
-            Left::Done { state: done, scope } => {
-                state = done;
-                here = here.showing(scope);
+                let left = finish(s, table, w, associations, definitions, here, ended, opened);
+                let out = left.out;
+                match out {
+                    Out::Refused(number, at) => {
+                        return Out::Refused(number, at);
+                    }
+                    Out::Done(done) => {
+                        state = done;
+                        here = here.showing(left.scope);
+                    }
+                }
             }
         }
-        row = table::next(table, row);
+        row = behind;
     }
-    Left::Done {
-        state: state.down_to(floor),
-        scope: here.scope.back_to(outer),
-    }
+    Out::Done(state.down_to(floor))
 }
 
 // What a form leaves whose elements were evaluated.
@@ -103,47 +111,157 @@ fn finish(
     associations: &mut [u64; 64],
     definitions: &mut [u64; 256],
     here: Here,
-    ended: Left,
+    ended: Out,
     opened: Open,
 ) -> Left
-    requires { ⌜ CanEnd (now s) (now table) (now w) (view (now associations) (now definitions) (here .scope)) here opened ended ⌝ }
+    requires { ⌜ CanEnd (now s) (now table) (now w) (view (now associations) (now definitions) (here .scope)) here (opened .start) (opened .after) ended ⌝ }
     ensures { λ r. ⌜ EndedBy (now (s .entry)) (now (table .entry)) (now (w .entry)) (now (w .exit)) (view (now (associations .entry)) (now (definitions .entry)) (here .scope))
-        (view (now (associations .exit)) (now (definitions .exit))) here opened r ended
+        (view (now (associations .exit)) (now (definitions .exit))) here (opened .start) (opened .row) (opened .after) ended r
         × (view (now (associations .exit)) (now (definitions .exit)) (here .scope) ≡ view (now (associations .entry)) (now (definitions .entry)) (here .scope)) ⌝ }
 {
+    let after = opened.after;
     match ended {
-        Left::Refused(number, row) => Left::Refused(number, row),
-        Left::Done { state, scope } => {
-            let after = opened.after;
-            match after {
-                After::Make(making) => {
-                    element::finish(
-                        w,
-                        definitions,
-                        scope,
-                        state,
-                        making,
-                        opened.start,
-                        opened.row,
-                    )
-                }
-                After::Call(callee) => {
-                    let at = here.showing(scope);
-                    call(
-                        s,
-                        table,
-                        w,
-                        associations,
-                        definitions,
-                        at,
-                        state,
-                        callee,
-                        opened,
-                    )
-                }
-            }
-        }
+        Out::Refused(_, _) => element::leaves(ended, here.scope),
+        Out::Done(state) => match after {
+            After::Make(making) => element::finish(
+                w,
+                definitions,
+                here.scope,
+                state,
+                making,
+                opened.start,
+                opened.row,
+            ),
+            After::Function { code, visible } => function(
+                s,
+                table,
+                w,
+                associations,
+                definitions,
+                here,
+                state,
+                code,
+                visible,
+                opened,
+            ),
+            After::Code { first, end } => code(
+                s,
+                table,
+                w,
+                associations,
+                definitions,
+                here,
+                state,
+                first,
+                end,
+                opened,
+            ),
+        },
     }
+}
+
+// Calls the function whose code is the form at a row.
+fn function(
+    s: &[u8],
+    table: &[u32],
+    w: &mut [u8],
+    associations: &mut [u64; 64],
+    definitions: &[u64; 256],
+    here: Here,
+    state: State,
+    code: usize,
+    visible: usize,
+    opened: Open,
+) -> Left
+    requires { ⌜ SomeEnding (now s) (now table) (now w) (view (now associations) (now definitions) (here .scope)) state here (opened .start) (Function code visible) ⌝ }
+    ensures { λ r. ⌜ EndedBy (now (s .entry)) (now (table .entry)) (now (w .entry)) (now (w .exit)) (view (now (associations .entry)) (now (definitions .entry)) (here .scope))
+        (view (now (associations .exit)) (now (definitions .entry))) here (opened .start) (opened .row) (Function code visible) (Done state) r
+        × (view (now (associations .exit)) (now (definitions .entry)) (here .scope) ≡ view (now (associations .entry)) (now (definitions .entry)) (here .scope)) ⌝ }
+{
+    let at = here.showing(here.scope.up_to(visible));
+    let body = plan::code_at(table, code);
+    let out = call(
+        s,
+        table,
+        w,
+        associations,
+        definitions,
+        at,
+        state,
+        body,
+        opened.start,
+        opened.row,
+    );
+    element::leaves(out, here.scope)
+}
+
+// Calls the code of a `subst` form.
+fn code(
+    s: &[u8],
+    table: &[u32],
+    w: &mut [u8],
+    associations: &mut [u64; 64],
+    definitions: &[u64; 256],
+    here: Here,
+    state: State,
+    first: usize,
+    end: usize,
+    opened: Open,
+) -> Left
+    requires { ⌜ SomeEnding (now s) (now table) (now w) (view (now associations) (now definitions) (here .scope)) state here (opened .start) (Code first end) ⌝ }
+    ensures { λ r. ⌜ EndedBy (now (s .entry)) (now (table .entry)) (now (w .entry)) (now (w .exit)) (view (now (associations .entry)) (now (definitions .entry)) (here .scope))
+        (view (now (associations .exit)) (now (definitions .entry))) here (opened .start) (opened .row) (Code first end) (Done state) r
+        × (view (now (associations .exit)) (now (definitions .entry)) (here .scope) ≡ view (now (associations .entry)) (now (definitions .entry)) (here .scope)) ⌝ }
+{
+    let body = Form {
+        first,
+        end,
+        flat: false,
+    };
+    let out = call(
+        s,
+        table,
+        w,
+        associations,
+        definitions,
+        here,
+        state,
+        body,
+        opened.start,
+        opened.row,
+    );
+    element::leaves(out, here.scope)
+}
+
+// Evaluates the elements of a form in a list of its kind.
+fn entered(
+    s: &[u8],
+    table: &[u32],
+    w: &mut [u8],
+    associations: &mut [u64; 64],
+    args: &[u32; 64],
+    definitions: &mut [u64; 256],
+    here: Here,
+    state: State,
+    form: Form,
+    within: Within,
+) -> Out
+    requires { ⌜ SomeReady (now s) (now table) (now w) (now args) (view (now associations) (now definitions) (here .scope)) state (in-list-of within here) (form .flat) (form .first) (form .end) ⌝ }
+    ensures { λ r. ⌜ Answered (now (s .entry)) (now (table .entry)) (now (w .entry)) (now (w .exit)) (now (args .entry)) (view (now (associations .entry)) (now (definitions .entry)) (here .scope)) state (in-list-of within here) form r
+        × (view (now (associations .exit)) (now (definitions .exit)) (here .scope) ≡ view (now (associations .entry)) (now (definitions .entry)) (here .scope)) ⌝ }
+{
+    let at = here.entering(within);
+    list(
+        s,
+        table,
+        w,
+        associations,
+        args,
+        definitions,
+        at,
+        state,
+        form,
+    )
 }
 
 // Runs a code whose arguments stand from the open form's start up to the top. Its definitions are written over those that it doesn't see.
@@ -155,26 +273,22 @@ fn call(
     definitions: &[u64; 256],
     here: Here,
     state: State,
-    callee: Callee,
-    opened: Open,
-) -> Left
-    requires { ⌜ SomeCalling (now s) (now table) (now w) (view (now associations) (now definitions) (here .scope)) state here callee (opened .start) ⌝ }
-    ensures { λ r. ⌜ ((bound codes : ℕ) (body : Nodes) (behind : Definitions) (h : Known) (vs : Exprs)
-        → Calling (now (s .entry)) (now (table .entry)) bound codes (now (w .entry)) (view (now (associations .entry)) (now (definitions .entry)) (here .scope)) state here callee (opened .start) body behind h vs
-        → LeftBy (now (s .entry)) (now (table .entry)) (now (w .entry)) (now (w .exit)) (view (now (associations .exit)) (now (definitions .entry))) (here .scope)
-        (with-top state (state .room) (opened .start)) (hold (state .steps) (state .room) (finished (run-code codes) (opened .row) h (as-call body behind) vs)) r)
+    body: Form,
+    start: usize,
+    row: usize,
+) -> Out
+    requires { ⌜ SomeCalling (now s) (now table) (now w) (view (now associations) (now definitions) (here .scope)) state here body start ⌝ }
+    ensures { λ r. ⌜ CalledBy (now (s .entry)) (now (table .entry)) (now (w .entry)) (now (w .exit)) (view (now (associations .entry)) (now (definitions .entry)) (here .scope)) state here body start row r
         × (view (now (associations .exit)) (now (definitions .entry)) (here .scope) ≡ view (now (associations .entry)) (now (definitions .entry)) (here .scope)) ⌝ }
 {
     if 32 <= here.frame.depth {
-        return Left::Refused(19, opened.row);
+        return Out::Refused(19, row);
     }
     let mut args = [0u32; 64];
     let mut inner = *definitions;
-    let start = opened.start;
     let top = state.top;
     let count = made::spread(&w[start..top], start, &mut args);
-    let inside = here.called(callee.scope, count, top);
-    let body = callee.body;
+    let inside = here.called(here.scope, count, top);
     match list(
         s,
         table,
@@ -186,13 +300,7 @@ fn call(
         state,
         body,
     ) {
-        Left::Refused(number, row) => Left::Refused(number, row),
-        Left::Done {
-            state: ran,
-            scope: _,
-        } => {
-            let out = element::returned(s, table, w, ran, body, start, top, opened.row);
-            element::leaves(out, here.scope)
-        }
+        Out::Refused(number, at) => Out::Refused(number, at),
+        Out::Done(ran) => element::returned(s, table, w, ran, body, start, top, row),
     }
 }

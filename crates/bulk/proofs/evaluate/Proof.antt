@@ -38,26 +38,37 @@ read-in c = was-read _ (at-check (reading c) _ (c .before .before .before .rows 
 evaluate-requires : tie.Need-evaluate-requires
 evaluate-requires c κs = has-read (read-in (c .before .before .before .before))
 
+-- the rows are still in the table
+after : (c : tie.After-evaluate) → let fill = c .before .before .before .before .before in let a = start fill .args in
+    let given = fill .before .before .before .rows .given .0 in
+    WasRead (a .stream .now) (a .table .now) (c .evaluate .last .1 .0) (given .0) (given .1 .0)
+after c =
+    let r = read-in (c .before .before .before .before .before) in
+    record { right = r .right; filled-in = c .evaluate .ensures .0 ∙ r .filled-in }
+
 -- what the evaluation told, where it is this
 ran : (c : tie.After-evaluate) (r : Result) → c .evaluate .result ≡ r → let a = start (c .before .before .before .before .before) .args in
     let rows = rows-of (tokens 0 0 (a .stream .now)) in
     Evaluated (a .stream .now) (a .table .now) (a .workspace .now) (c .evaluate .last .1 .1 .1 .0) (a .output .now) (a .steps) rows r
 ran c r e =
     let fill = c .before .before .before .before .before in
-    rw e at (c .evaluate .ensures _ (start fill .args .output .now) _ _ (read-in fill .right .is) (read-in fill .filled-in))
+    rw e at (c .evaluate .ensures .1 _ (start fill .args .output .now) _ _ (read-in fill .right .is) (read-in fill .filled-in))
+
+abbrev evaluated : tie.After-size → tie.After-evaluate
+evaluated c = c .before .before .before .before .before .before
 
 -- the workspace afterwards
 abbrev work : tie.After-size → List ℕ
-work c = c .before .before .before .before .evaluate .last .1 .1 .1 .0
+work c = evaluated c .evaluate .last .1 .1 .1 .0
 
 -- a result is in it
 inside : (c : tie.After-size) → c .size .given .0 .0 ≤ length (work c)
-inside c = ran (c .before .before .before .before) _ (c .size .given .1) .0
+inside c = ran (evaluated c) _ (c .size .given .1) .0
 
 returns : tie.Need-returns
 returns c =
-    let v = c .before .before .before .before .before .before in
-    rows-short (read-in (v .before .before .before .before .before)) _ _ _ _ _ (ran v _ (c .before .before .size .given .1)) (c .if1 .taken)
+    let v = evaluated (c .before .before) in
+    rows-short (after v) _ _ _ _ _ (ran v _ (c .before .before .size .given .1)) (c .if1 .taken)
 
 slice-reshare-prefix-copy : tie.Need-slice-reshare-prefix-copy
 slice-reshare-prefix-copy c = omega (arith, inside (c .before .before))
@@ -75,14 +86,14 @@ returns-2 c = let a = c .before .before .before .before .before .before .before 
 
 returns-3 : tie.Need-returns-3
 returns-3 c =
-    let v = c .before .before .before .before .before in
-    rows-refusal (read-in (v .before .before .before .before .before)) _ _ _ _ (ran v _ (c .before .number2 .given .1))
+    let v = c .before .before .before .before .before .before .before in
+    rows-refusal (after v) _ _ _ _ (ran v _ (c .before .number2 .given .1))
 
 returns-4 : tie.Need-returns-4
 returns-4 c =
     let size = c .before .before .before .before .before .before .before in
-    let v = size .before .before .before .before in
-    rows-result (read-in (v .before .before .before .before .before)) _ _ (work size) _ _ (ran v _ (size .size .given .1)) _ (c .before .before .before .before .before .if1 .left)
+    let v = evaluated size in
+    rows-result (after v) _ _ (work size) _ _ (ran v _ (size .size .given .1)) _ (c .before .before .before .before .before .if1 .left)
     (c .before .before .copy .ensures .1 ∙ copied-over (take (size .size .given .0 .0) (work size)) _)
 
 pub evaluate-spec : {M : Type 1} → statement M

@@ -9,11 +9,11 @@ use Rattle.evaluator.proofs.element.finish.Tie as tie
 
 returns-3 : tie.Need-returns-3
 returns-3 c =
-    let stored = c .before .before .before .before .before .stored .ensures in
-    let told = c .before .before .before .before .before .before .before .before .making .given .1 in
-    let more = c .add .ensures in
+    let stored = c .before .before .before .before .before .before .stored .ensures in
+    let told = c .before .before .before .before .before .before .before .before .before .making .given .1 in
+    let more = c .before .add .ensures in
     let finished = define-finished _ _ _ _ _ _ _ _ _ (more .2) stored in
-    (rw (more .0, more .1, c .before .before .pack .ensures, told) finished, λ numbers. rw (more .0) (view-before-added numbers _ _ _))
+    (rw (c .leaves3 .ensures, more .0, more .1, c .before .before .before .pack .ensures, told) finished, λ numbers. rw (more .0) (view-before-added numbers _ _ _))
 
 pub finish-spec : {M : Type 1} → statement M
 finish-spec =
@@ -44,6 +44,7 @@ finish-spec =
     let told = c .before .before .before .before .before .before .before in
     let some = told .before .before .before .pre in
     can-define (rw (told .making .given .1) at (some .by)) (some .finishing) .1)
+    (λ c κs. search needs)
     (λ c. search needs)
     -- a data form
     (λ c.

@@ -1,7 +1,0 @@
--- `evaluator::element::leaves` meets its contract, by cases. Assumes nothing.
-use borrow.Author.Needs.{needs}
-use Rattle.evaluator.proofs.element.leaves.Statement.{statement}
-use Rattle.evaluator.proofs.element.leaves.Tie as tie
-
-pub leaves-spec : {M : Type 1} → statement M
-leaves-spec = tie.close (tie.spec (λ c. search needs) (λ c. search needs) (λ c. rw (c .before .out .given .1)) (λ c. rw (c .before .out2 .given .1)))
