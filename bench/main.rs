@@ -1,12 +1,16 @@
 //! The benchmark: what the library's calls take, beside the second program, a plain copy and,
 //! where they are installed, msgpack-c, libcbor, msgpuck and libmpack.
 
+#[path = "../second/bytecode.rs"]
+mod bytecode;
 mod documents;
 #[path = "../second/evaluate.rs"]
 #[allow(dead_code)]
 mod evaluate;
 mod goals;
 mod library;
+#[path = "../second/names.rs"]
+mod names;
 mod peers;
 #[path = "../compare/pieces.rs"]
 #[allow(dead_code)]

@@ -1,9 +1,14 @@
 //! Random streams to evaluate, by a grammar of their own: definitions, functions, calls,
-//! namespaces and scopes one inside another, and now and then anything in a wrong place.
+//! namespaces, bytecode and scopes one inside another, and now and then anything in a wrong
+//! place.
+
+mod bytecode;
+mod bytecode_limits;
 
 use crate::pieces::{self, ARG, CONCAT, DEFINE, NS, REST, SUBST, VERSION};
 use crate::random::Random;
 use crate::streams::{damage, random_stream, ARRAY_SIZES};
+use bytecode::Arities;
 
 /// First expressions that are not the six bytes, or not headed by `version` at all.
 const OTHER_BEGINNINGS: [&[u8]; 9] = [
@@ -19,8 +24,10 @@ const OTHER_BEGINNINGS: [&[u8]; 9] = [
 ];
 
 const FUNCTION_NAMES: [u8; 6] = [NS, DEFINE, CONCAT, SUBST, ARG, REST];
-/// Core names that stand for themselves.
-const PLAIN_NAMES: [u8; 7] = [0x00, 0x01, 0x02, 0x05, 0x07, 0x08, 0x0E];
+/// Core names that stand for themselves, bytecode names but prefix* among them.
+const PLAIN_NAMES: [u8; 11] = [
+    0x00, 0x01, 0x02, 0x05, 0x07, 0x08, 0x0E, 0x30, 0x32, 0x33, 0x34,
+];
 
 /// The markers that streams associate, as they are written.
 const MARKERS: [&[u8]; 7] = [
@@ -88,6 +95,7 @@ fn at_a_limit(random: &mut Random) -> Vec<u8> {
     let mut maker = Maker::new(random, None);
     maker.ns();
     match maker.random.below(9) {
+        _ if maker.bytecode.is_some() => maker.bytecode_at_a_limit(),
         0 => maker.many_definitions(),
         1 => maker.many_namespaces(),
         2 => maker.many_codes(),
@@ -136,10 +144,15 @@ struct Maker<'r> {
     visible: Vec<(Reference, Meaning)>,
     /// How many arguments the nearest enclosing code counts on.
     arguments: Option<usize>,
+    /// One expression in so many is a bytecode form.
+    bytecode: Option<usize>,
+    /// Those of the prefix* forms around, the nearest last.
+    arities: Vec<Arities>,
 }
 
 impl<'r> Maker<'r> {
     fn new(random: &'r mut Random, wrong: Option<usize>) -> Maker<'r> {
+        let bytecode = random.one_in(3).then(|| random.between(2, 9));
         Maker {
             random,
             bytes: VERSION.to_vec(),
@@ -148,6 +161,8 @@ impl<'r> Maker<'r> {
             ids: 0,
             visible: Vec::new(),
             arguments: None,
+            bytecode,
+            arities: Vec::new(),
         }
     }
 
@@ -186,12 +201,15 @@ impl<'r> Maker<'r> {
     }
 
     fn expression(&mut self, place: Place, depth: usize) {
-        if self.wrong.is_some_and(|rate| self.random.one_in(rate)) {
+        if self.errs() {
             return self.wrong_expression(place, depth);
         }
         let Some(inside) = depth.checked_sub(1) else {
             return self.atom();
         };
+        if self.bytecode.is_some_and(|rate| self.random.one_in(rate)) {
+            return self.bytecode_form(inside);
+        }
         match self.random.below(20) {
             0 | 1 => self.atom(),
             2..=5 => self.visible_value(),
@@ -203,6 +221,10 @@ impl<'r> Maker<'r> {
             _ if place == Place::Top => self.ns(),
             _ => self.data_form(inside),
         }
+    }
+
+    fn errs(&mut self) -> bool {
+        self.wrong.is_some_and(|rate| self.random.one_in(rate))
     }
 
     fn data_form(&mut self, depth: usize) {
@@ -344,13 +366,23 @@ impl<'r> Maker<'r> {
         if !allowed || self.associated.is_empty() {
             return self.data_form(depth);
         }
-        let associated = self.associated.clone();
-        let reference = (self.random.pick(&associated), self.name());
+        let reference = self.associated_reference();
         self.define(reference, depth);
+    }
+
+    fn associated_reference(&mut self) -> Reference {
+        let associated = self.associated.clone();
+        (self.random.pick(&associated), self.name())
     }
 
     fn define(&mut self, reference: Reference, depth: usize) {
         self.open_core(DEFINE);
+        self.definition(reference, depth);
+        self.close();
+    }
+
+    /// The reference and its value.
+    fn definition(&mut self, reference: Reference, depth: usize) {
         self.reference(reference);
         let meaning = match self.random.below(5) {
             0 | 1 => Meaning::Function(self.substitution(depth)),
@@ -363,7 +395,6 @@ impl<'r> Maker<'r> {
                 Meaning::Other
             }
         };
-        self.close();
         self.visible.push((reference, meaning));
     }
 
@@ -371,12 +402,17 @@ impl<'r> Maker<'r> {
     fn substitution(&mut self, depth: usize) -> usize {
         let arguments = self.random.pick(&[0, 1, 1, 2, 3]);
         let count = self.random.pick(&[0, 1, 1, 1, 2, 3]);
-        let outer = self.arguments.replace(arguments);
         self.open_core(SUBST);
-        self.list(count, Place::Inner, depth);
+        self.code(count, arguments, depth);
         self.close();
-        self.arguments = outer;
         arguments
+    }
+
+    /// So many expressions that count on so many arguments.
+    fn code(&mut self, count: usize, arguments: usize, depth: usize) {
+        let outer = self.arguments.replace(arguments);
+        self.list(count, Place::Inner, depth);
+        self.arguments = outer;
     }
 
     // Concat, calls and arguments.
@@ -541,6 +577,7 @@ impl<'r> Maker<'r> {
             0 => self.function_as_value(),
             1 => drop(self.substitution(depth)),
             2 => self.wrong_number(),
+            3 if self.bytecode.is_some() => self.bytecode_as_head(),
             _ => self.visible_value(),
         }
         let count = self.random.below(3);

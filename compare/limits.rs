@@ -1,19 +1,22 @@
 //! Evaluations at the limits, each with the answer that document 01 gives. Of a result that
 //! is accepted, its length and the steps are stated.
 
+mod bytecode;
+
 use crate::bounds::{self, Bounds};
 use crate::pieces::{
     arg, array, beginning, call, concat, define, form, function, long_length, name, nested, ns,
     rest, subst, MARKER, VERSION,
 };
 use crate::requests::{evaluate_line, Request};
+use std::borrow::Cow;
 
-const STREAM_LIMIT: usize = 65_536;
+pub const STREAM_LIMIT: usize = 65_536;
 
 pub struct Limit {
     pub stream: Vec<u8>,
     bounds: Bounds,
-    expected: &'static str,
+    expected: Cow<'static, str>,
 }
 
 pub fn requests() -> Vec<Request> {
@@ -33,19 +36,20 @@ pub fn limits() -> Vec<Limit> {
     all.extend(workspaces());
     all.extend(exponential_calls());
     all.extend(full_streams());
+    all.extend(bytecode::limits());
     all
 }
 
-fn limit(stream: Vec<u8>, bounds: Bounds, expected: &'static str) -> Limit {
+fn limit(stream: Vec<u8>, bounds: Bounds, expected: impl Into<Cow<'static, str>>) -> Limit {
     Limit {
         stream,
         bounds,
-        expected,
+        expected: expected.into(),
     }
 }
 
 /// With large bounds.
-fn large(stream: Vec<u8>, expected: &'static str) -> Limit {
+fn large(stream: Vec<u8>, expected: impl Into<Cow<'static, str>>) -> Limit {
     limit(stream, bounds::LARGE, expected)
 }
 

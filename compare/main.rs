@@ -6,9 +6,11 @@
 
 mod arguments;
 mod bounds;
+mod bytecode_times;
 mod evaluations;
 mod known;
 mod limits;
+mod notation;
 mod options;
 mod pieces;
 mod programs;
@@ -19,6 +21,7 @@ mod single;
 mod streams;
 mod tally;
 mod times;
+mod unchanged;
 
 use options::{Mode, Options, USAGE};
 use programs::{named, start};
@@ -43,6 +46,7 @@ fn main() -> ExitCode {
     let done = match options.mode {
         Mode::Print => return print_requests(&options),
         Mode::Times => times::measure(&options.paths[0], &options.paths[1], &mut report),
+        Mode::Unchanged => compare_unchanged(&options, &mut report),
         Mode::Compare => compare(&options, &mut report),
     };
     if let Err(error) = done {
@@ -91,10 +95,29 @@ fn compare(options: &Options, report: &mut Report) -> io::Result<()> {
 
 fn compare_requests(options: &Options, report: &mut Report) -> io::Result<()> {
     let requests = Arc::new(all_requests(options)?);
+    compare_answers(options, [&requests, &requests], report)
+}
+
+/// Only streams with a form headed by prefix* are evaluated otherwise than by document 01.
+fn compare_unchanged(options: &Options, report: &mut Report) -> io::Result<()> {
+    let drafts = unchanged::drafts(options.seed, options.count);
+    let requests = Arc::new(with_bounds(drafts, options)?);
+    let for_base = Arc::new(unchanged::for_base(&requests));
+    compare_answers(options, [&requests, &for_base], report)?;
+    report.tally.print();
+    Ok(())
+}
+
+/// What the two programs answer, each to its own requests.
+fn compare_answers(
+    options: &Options,
+    [first_requests, second_requests]: [&Arc<Vec<Request>>; 2],
+    report: &mut Report,
+) -> io::Result<()> {
     let (first_path, second_path) = (&options.paths[0], &options.paths[1]);
-    let mut first = start(first_path, &requests)?;
-    let mut second = start(second_path, &requests)?;
-    let mut asked = requests.iter();
+    let mut first = start(first_path, first_requests)?;
+    let mut second = start(second_path, second_requests)?;
+    let mut asked = first_requests.iter();
     loop {
         match (first.next_answer(), second.next_answer()) {
             (None, None) => break,
@@ -107,9 +130,9 @@ fn compare_requests(options: &Options, report: &mut Report) -> io::Result<()> {
             _ => {}
         }
     }
-    println!("{} requests", requests.len());
-    report.check_end(first_path, first, requests.len());
-    report.check_end(second_path, second, requests.len());
+    println!("{} requests", first_requests.len());
+    report.check_end(first_path, first, first_requests.len());
+    report.check_end(second_path, second, second_requests.len());
     Ok(())
 }
 
@@ -154,14 +177,14 @@ fn all_requests(options: &Options) -> io::Result<Vec<Request>> {
         add_file(path, &mut all).map_err(|error| named(path, error))?;
     }
     all.extend(requests::huge_requests());
-    all.extend(random_requests(options)?);
+    let random = requests::random_drafts(options.seed, options.count);
+    all.extend(with_bounds(random, options)?);
     all.push(Request::new(LAST_REQUEST.to_vec()));
     Ok(all)
 }
 
 /// The second program is asked what each stream to evaluate needs.
-fn random_requests(options: &Options) -> io::Result<Vec<Request>> {
-    let drafts = requests::random_drafts(options.seed, options.count);
+fn with_bounds(drafts: Vec<Draft>, options: &Options) -> io::Result<Vec<Request>> {
     let asked = drafts.iter().filter_map(|draft| match draft {
         Draft::Request(_) => None,
         Draft::Evaluation(stream) => Some(bounds::needs_request(stream)),

@@ -3,6 +3,7 @@
 pub const USAGE: &str = "usage: compare FIRST SECOND [FILE-OR-FOLDER ..] [--single LIST WRITE EVAL]
                [--seed N] [--count N]
        compare --times FIRST SECOND
+       compare --unchanged FIRST SECOND [--seed N] [--count N]
        compare --print-known
        compare --print-random [--seed N] [--count N]
 FIRST and SECOND are the programs to compare. Each line of a file is a request; of a
@@ -14,12 +15,15 @@ LIST, WRITE and EVAL are three more programs, each run on one stream at a time: 
 bytes and EVAL the result that SECOND answers to `read`, `write` and `evaluate` for that
 stream, or its refusal.
 With --times, nothing is compared: FIRST evaluates streams of three sizes, and its time
-must be linear.";
+must be linear; some other streams have a time of their own.
+With --unchanged, COUNT streams in which no form is headed by prefix* are evaluated, and
+SECOND answers `base`, which keeps all bytecode as data.";
 
 #[derive(PartialEq)]
 pub enum Mode {
     Compare,
     Times,
+    Unchanged,
     Print,
 }
 
@@ -52,6 +56,7 @@ pub fn options(mut arguments: impl Iterator<Item = String>) -> Option<Options> {
             "--seed" => options.seed = next()?.parse().ok()?,
             "--count" => options.count = next()?.parse().ok()?,
             "--times" => options.mode = Mode::Times,
+            "--unchanged" => options.mode = Mode::Unchanged,
             "--print-known" => options.print_known = true,
             "--print-random" => options.print_random = true,
             option if option.starts_with("--") => return None,
@@ -68,7 +73,7 @@ fn fits(options: &Options) -> bool {
     let paths = options.paths.len();
     match options.mode {
         Mode::Compare => paths >= 2,
-        Mode::Times => paths == 2 && options.single.is_none(),
+        Mode::Times | Mode::Unchanged => paths == 2 && options.single.is_none(),
         Mode::Print => paths == 0 && options.single.is_none(),
     }
 }

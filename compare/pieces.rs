@@ -12,6 +12,12 @@ pub const SUBST: u8 = 0x0B;
 pub const ARG: u8 = 0x0C;
 pub const REST: u8 = 0x0D;
 
+pub const PREFIX: u8 = 0x30;
+pub const PREFIX_STAR: u8 = 0x31;
+pub const POSTFIX: u8 = 0x32;
+pub const POSTFIX_STAR: u8 = 0x33;
+pub const ARITY: u8 = 0x34;
+
 pub fn name(name: u8) -> Vec<u8> {
     vec![MARKER, name]
 }
@@ -25,7 +31,11 @@ pub fn nested(count: usize, inside: &[u8]) -> Vec<u8> {
     [&vec![0x01; count], inside, &vec![0x02; count]].concat()
 }
 
-fn core_form(core: u8, elements: &[&[u8]]) -> Vec<u8> {
+pub fn core(name: u8) -> Vec<u8> {
+    vec![0x20, name]
+}
+
+pub fn core_form(core: u8, elements: &[&[u8]]) -> Vec<u8> {
     form(&[&[0x20, core], &elements.concat()])
 }
 
@@ -64,6 +74,20 @@ pub fn arg(n: u8) -> Vec<u8> {
 
 pub fn rest(n: u8) -> Vec<u8> {
     core_form(REST, &[&[0x80 | n]])
+}
+
+/// A form of an arity list: the references take so many operands.
+pub fn arity(operands: u8, references: &[&[u8]]) -> Vec<u8> {
+    form(&[&[0x80 | operands], &references.concat()])
+}
+
+/// With the forms of its arity list, and its flat list.
+pub fn prefix_star(arities: &[&[u8]], flat_list: &[&[u8]]) -> Vec<u8> {
+    core_form(PREFIX_STAR, &[&form(arities), &flat_list.concat()])
+}
+
+pub fn prefix(flat_list: &[&[u8]]) -> Vec<u8> {
+    core_form(PREFIX, flat_list)
 }
 
 /// Canonically.

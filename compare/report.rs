@@ -30,7 +30,7 @@ impl Report {
         if first != second {
             self.differ(&request.line, first, second);
         } else if !request.allows(first) {
-            let expected = request.expected.unwrap_or_default();
+            let expected = request.expected.clone().unwrap_or_default();
             self.differ(&request.line, first, expected.as_bytes());
         } else {
             self.passed += 1;

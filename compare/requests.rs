@@ -4,6 +4,7 @@ use crate::bounds::{self, Bounds};
 use crate::evaluations::{random_evaluation, with_version};
 use crate::random::Random;
 use crate::streams::{huge_stream, huge_streams, random_stream, Stream};
+use std::borrow::Cow;
 
 pub const LARGE_NUMBERS: [u64; 7] = [
     16_384,
@@ -33,7 +34,7 @@ const MALFORMED_WORDS: [&str; 24] = [
 /// answers.
 pub struct Request {
     pub line: Vec<u8>,
-    pub expected: Option<&'static str>,
+    pub expected: Option<Cow<'static, str>>,
 }
 
 impl Request {
@@ -44,15 +45,15 @@ impl Request {
         }
     }
 
-    pub fn expecting(line: Vec<u8>, expected: &'static str) -> Request {
+    pub fn expecting(line: Vec<u8>, expected: impl Into<Cow<'static, str>>) -> Request {
         Request {
             line,
-            expected: Some(expected),
+            expected: Some(expected.into()),
         }
     }
 
     pub fn allows(&self, answer: &[u8]) -> bool {
-        let Some(expected) = self.expected else {
+        let Some(expected) = &self.expected else {
             return true;
         };
         let rest = answer.strip_prefix(expected.as_bytes());

@@ -2,6 +2,7 @@
 //! work in streams of three sizes takes as much time.
 
 use crate::bounds::{self, Needs};
+use crate::bytecode_times;
 use crate::pieces::{
     arg, array, beginning, call, define, form, function, long_length, nested, ns, rest, subst,
 };
@@ -22,9 +23,13 @@ const MOST: u32 = 3;
 const ROUNDS: usize = 3;
 const MOST_ROUNDS: usize = 12;
 
-struct Kind {
-    name: &'static str,
-    stream: fn(usize) -> Vec<u8>,
+/// Of each stream whose time is not linear.
+const EXCEPTION_RUNS: u32 = 5;
+const EXCEPTION_MOST: Duration = Duration::from_millis(1000);
+
+pub struct Kind {
+    pub name: &'static str,
+    pub stream: fn(usize) -> Vec<u8>,
 }
 
 /// The worst stream of each kind that was thought of, for a multiple of its smallest size.
@@ -105,22 +110,37 @@ const KINDS: [Kind; 12] = [
     },
 ];
 
-fn after_beginning(rest: &[u8]) -> Vec<u8> {
+pub fn after_beginning(rest: &[u8]) -> Vec<u8> {
     [&beginning()[..], rest].concat()
 }
 
 /// Measures every kind with the first program; the second tells how much work a stream is.
 pub fn measure(first: &str, second: &str, report: &mut Report) -> io::Result<()> {
-    for kind in KINDS {
-        let Some(sizes) = sizes(&kind, second)? else {
+    for kind in KINDS.iter().chain(&bytecode_times::KINDS) {
+        let Some(sizes) = sizes(kind, second)? else {
             report.fail(&format!("{}: not accepted", kind.name));
             continue;
         };
-        let times = least_times(first, &sizes, report)?;
+        let times = least_times(first, &sizes, is_linear, report)?;
         println!("{:<40}{times:>12.1?}", kind.name);
         match is_linear(&times) {
             true => report.pass(),
             false => report.fail(&format!("{}: not linear", kind.name)),
+        }
+    }
+    measure_exceptions(first, report)
+}
+
+/// What is not linear has a bound of its own.
+fn measure_exceptions(path: &str, report: &mut Report) -> io::Result<()> {
+    for (name, stream) in bytecode_times::exceptions() {
+        let request = || Request::expecting(evaluate_line(&stream, bounds::LARGE), "refused 17");
+        let requests = Arc::new((0..EXCEPTION_RUNS).map(|_| request()).collect());
+        let times = least_times(path, &[requests], is_short, report)?;
+        println!("{name:<40}{:>12.1?}", times[0] / EXCEPTION_RUNS);
+        match is_short(&times) {
+            true => report.pass(),
+            false => report.fail(&format!("{name}: above {EXCEPTION_MOST:?}")),
         }
     }
     Ok(())
@@ -144,10 +164,11 @@ fn requests(stream: &[u8], needs: &Needs) -> Option<Vec<Request>> {
     Some((0..WORK.div_ceil(work)).map(|_| request()).collect())
 }
 
-/// Some rounds, and more as long as noise may be what makes them differ.
+/// Some rounds, and more as long as noise may be what makes them bad.
 fn least_times(
     path: &str,
     sizes: &[Arc<Vec<Request>>],
+    good: fn(&[Duration]) -> bool,
     report: &mut Report,
 ) -> io::Result<Vec<Duration>> {
     let mut times = vec![Duration::MAX; sizes.len()];
@@ -155,7 +176,7 @@ fn least_times(
         for (time, requests) in times.iter_mut().zip(sizes) {
             *time = run(path, requests, report)?.min(*time);
         }
-        if round >= ROUNDS && is_linear(&times) {
+        if round >= ROUNDS && good(&times) {
             break;
         }
     }
@@ -179,4 +200,11 @@ fn run(path: &str, requests: &Arc<Vec<Request>>, report: &mut Report) -> io::Res
 /// Larger streams took no longer than the smallest, but for noise.
 fn is_linear(times: &[Duration]) -> bool {
     times.iter().all(|time| *time <= MOST * times[0])
+}
+
+/// Of all runs of an exception.
+fn is_short(times: &[Duration]) -> bool {
+    times
+        .iter()
+        .all(|time| *time < EXCEPTION_MOST * EXCEPTION_RUNS)
 }

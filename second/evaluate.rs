@@ -1,6 +1,10 @@
 //! Evaluation (document 01, "Evaluation" and "Numbers given instead").
 
-use crate::tree::{self, refuse, Content, Expression, Refusal};
+use crate::bytecode::{self, Bytecode};
+use crate::names::{
+    core_head, is_function_name, ARG, CONCAT, CORE, DEFINE, NS, REST, SUBST, VERSION,
+};
+use crate::tree::{self, refuse, Content, Expression, Refusal, FORMS_LIMIT};
 use crate::write;
 use std::collections::HashMap;
 use std::rc::Rc;
@@ -8,17 +12,7 @@ use std::slice;
 
 const VERSION_FORM: [u8; 6] = [0x01, 0x20, 0x00, 0x81, 0x80, 0x02];
 
-const CORE: u16 = 0x20;
-const VERSION: u8 = 0x00;
-const NS: u8 = 0x06;
-const DEFINE: u8 = 0x09;
-const CONCAT: u8 = 0x0A;
-const SUBST: u8 = 0x0B;
-const ARG: u8 = 0x0C;
-const REST: u8 = 0x0D;
-
 const WORKSPACE_LIMIT: u64 = 65_536;
-const DEPTH_LIMIT: usize = 64;
 const DEFINITIONS_LIMIT: usize = 256;
 const NAMESPACES_LIMIT: usize = 64;
 const CODES_LIMIT: usize = 32;
@@ -31,13 +25,22 @@ pub fn evaluate(
     output: u64,
     steps: u64,
 ) -> Result<(Vec<u8>, u64), Refusal> {
+    let mut list = tree::read(stream, rows)?;
+    let evaluator = Evaluator::new(&list, steps, workspace);
+    bytecode::transform(&mut list);
+    evaluator.run(stream, &list, output)
+}
+
+/// As document 01 alone has it: bytecode is "kept as data".
+pub fn evaluate_base(
+    stream: &[u8],
+    rows: u64,
+    workspace: u64,
+    output: u64,
+    steps: u64,
+) -> Result<(Vec<u8>, u64), Refusal> {
     let list = tree::read(stream, rows)?;
-    let mut evaluator = Evaluator::new(&list, steps, workspace);
-    let result = evaluator.result(stream, &list)?;
-    if result.len() as u64 > output {
-        return refuse(18, 0);
-    }
-    Ok((result, evaluator.steps_taken))
+    Evaluator::new(&list, steps, workspace).run(stream, &list, output)
 }
 
 /// What an evaluation takes that no bound stops but the workspace's, up to its end or to
@@ -51,11 +54,13 @@ pub struct Needs {
 }
 
 pub fn needs(stream: &[u8]) -> Result<Needs, Refusal> {
-    let list = tree::read(stream, u64::MAX)?;
+    let mut list = tree::read(stream, u64::MAX)?;
+    let rows = tree::rows(&list).len();
     let mut evaluator = Evaluator::new(&list, u64::MAX, u64::MAX);
+    bytecode::transform(&mut list);
     let result = evaluator.result(stream, &list);
     Ok(Needs {
-        rows: tree::rows(&list).len(),
+        rows,
         steps: evaluator.steps_taken,
         charged: WORKSPACE_LIMIT - evaluator.workspace_left,
         length: result.ok().map(|bytes| bytes.len()),
@@ -87,19 +92,6 @@ fn add_borne(list: &[Expression], places: &mut HashMap<u16, usize>) {
         }
         add_borne(expression.elements(), places);
     }
-}
-
-/// The core name that a form is headed by, as written.
-fn core_head(expression: &Expression) -> Option<u8> {
-    match expression.elements().first()?.content {
-        Content::Reference { marker: CORE, name } => Some(name),
-        _ => None,
-    }
-}
-
-/// "The last six from ns on are function names."
-fn is_function_name(marker: u16, name: u8) -> bool {
-    marker == CORE && matches!(name, NS | DEFINE | CONCAT | SUBST | ARG | REST)
 }
 
 /// A value as its canonical bytes.
@@ -238,6 +230,19 @@ impl<'t> Evaluator<'t> {
         }
     }
 
+    fn run(
+        mut self,
+        stream: &[u8],
+        list: &'t [Expression<'t>],
+        output: u64,
+    ) -> Result<(Vec<u8>, u64), Refusal> {
+        let result = self.result(stream, list)?;
+        if result.len() as u64 > output {
+            return refuse(18, 0);
+        }
+        Ok((result, self.steps_taken))
+    }
+
     /// "The top-level values in order."
     fn result(&mut self, stream: &[u8], list: &'t [Expression<'t>]) -> Result<Vec<u8>, Refusal> {
         check_version(stream, list)?;
@@ -257,7 +262,7 @@ impl<'t> Evaluator<'t> {
         let mut context = context.clone();
         let mut values = Vec::new();
         for expression in list {
-            self.take_step(expression)?;
+            self.take_step(expression.start)?;
             match core_head(expression) {
                 Some(NS) => values.push(self.ns(expression, position)?),
                 Some(DEFINE) => context.scope = self.define(expression, &context, position)?,
@@ -285,6 +290,9 @@ impl<'t> Evaluator<'t> {
         expression: &'t Expression<'t>,
         context: &Context<'t>,
     ) -> Result<Value, Refusal> {
+        if let Some(bytecode) = &expression.bytecode {
+            return self.bytecode(expression.start, bytecode, context);
+        }
         let value = match (&expression.content, core_head(expression)) {
             (Content::Reference { marker, name }, _) => {
                 self.reference(expression, *marker, *name, context)?
@@ -299,6 +307,23 @@ impl<'t> Evaluator<'t> {
             _ => Value::atom(expression),
         };
         self.complete(expression, value)
+    }
+
+    /// 22 and 6 "before its list's first step"; the result "costs no second step or charge".
+    fn bytecode(
+        &mut self,
+        place: usize,
+        bytecode: &'t Bytecode<'t>,
+        context: &Context<'t>,
+    ) -> Result<Value, Refusal> {
+        let result = match &bytecode.result {
+            Ok(result) => result,
+            Err(number) => return refuse(*number, place),
+        };
+        for start in &bytecode.flat_list {
+            self.take_step(*start)?;
+        }
+        self.expression(result, context)
     }
 
     /// The value of the latest definition, not evaluated again; "with none, itself".
@@ -434,9 +459,9 @@ impl<'t> Evaluator<'t> {
     }
 
     /// "Steps: one for each expression evaluated, at its start."
-    fn take_step(&mut self, expression: &Expression) -> Result<(), Refusal> {
+    fn take_step(&mut self, place: usize) -> Result<(), Refusal> {
         if self.steps_taken == self.steps {
-            return refuse(16, expression.start);
+            return refuse(16, place);
         }
         self.steps_taken += 1;
         Ok(())
@@ -444,7 +469,7 @@ impl<'t> Evaluator<'t> {
 
     /// "Then 6, 17."
     fn complete(&mut self, expression: &Expression, value: Value) -> Result<Value, Refusal> {
-        if value.depth > DEPTH_LIMIT {
+        if value.depth > FORMS_LIMIT {
             return refuse(6, expression.start);
         }
         self.charge(expression, value.written.len())?;

@@ -1,8 +1,10 @@
-//! The second program: BULK read, written and evaluated from document 01 alone,
+//! The second program: BULK read, written and evaluated from documents 01 and 02 alone,
 //! to be compared with the library. Requests come on standard input, one a line,
 //! and each is answered by one line.
 
+mod bytecode;
 mod evaluate;
+mod names;
 mod requests;
 mod tree;
 mod write;
@@ -11,7 +13,7 @@ use std::io;
 use std::process::ExitCode;
 use std::thread;
 
-/// Room for 32 codes in progress, each with up to 64 forms open.
+/// Room for 32 codes in progress, each with forms open that are written and made.
 const STACK_BYTES: usize = 256 << 20;
 
 fn answer_standard_input() -> io::Result<()> {

@@ -45,13 +45,16 @@ fn request(line: &[u8]) -> Option<Result<String, Refusal>> {
                 _ => None,
             }
         }
-        [b"evaluate", stream, table, workspace, output, steps] => Some(evaluate(
-            &bytes(stream)?,
-            number(table)?,
-            number(workspace)?,
-            number(output)?,
-            number(steps)?,
-        )),
+        [call @ (b"evaluate" | b"base"), stream, table, workspace, output, steps] => {
+            let evaluate = match call {
+                b"base" => evaluate::evaluate_base,
+                _ => evaluate::evaluate,
+            };
+            let rows = number(table)? / NUMBERS_IN_A_ROW;
+            let (workspace, output) = (number(workspace)?, number(output)?);
+            let (stream, steps) = (bytes(stream)?, number(steps)?);
+            Some(evaluate(&stream, rows, workspace, output, steps).map(evaluated))
+        }
         [b"needs", stream] => Some(needs(&bytes(stream)?)),
         _ => None,
     }
@@ -85,19 +88,11 @@ fn item(buffer: &[u8], k: u64) -> String {
     }
 }
 
-fn evaluate(
-    stream: &[u8],
-    table: u64,
-    workspace: u64,
-    output: u64,
-    steps: u64,
-) -> Result<String, Refusal> {
-    let rows = table / NUMBERS_IN_A_ROW;
-    let (result, taken) = evaluate::evaluate(stream, rows, workspace, output, steps)?;
-    Ok(format!("ok {} {taken} {}", result.len(), hex(&result)))
+fn evaluated((result, taken): (Vec<u8>, u64)) -> String {
+    format!("ok {} {taken} {}", result.len(), hex(&result))
 }
 
-/// What the comparison takes exact bounds from; the library has no such call.
+/// What the comparison takes exact bounds from. The library has no such call, nor `base`.
 fn needs(stream: &[u8]) -> Result<String, Refusal> {
     let needs = evaluate::needs(stream)?;
     let (rows, steps, charged) = (needs.rows, needs.steps, needs.charged);

@@ -1,7 +1,11 @@
 //! Expressions as a tree, and how they are read (document 01, "Bytes to expressions").
 
+use crate::bytecode::Bytecode;
+use std::mem;
+
 const STREAM_LIMIT: usize = 65_536;
-const OPEN_FORMS_LIMIT: usize = 64;
+/// So many may be open, or one inside another.
+pub const FORMS_LIMIT: usize = 64;
 const ARRAY_MARKS_LIMIT: usize = 8;
 
 /// "A refusal gives number and place."
@@ -27,7 +31,11 @@ pub enum Content<'a> {
 pub struct Expression<'a> {
     pub start: usize,
     pub end: usize,
+    /// Forms one inside another.
+    pub depth: usize,
     pub content: Content<'a>,
+    /// Of a form that has been transformed; its elements have gone into the result.
+    pub bytecode: Option<Box<Bytecode<'a>>>,
 }
 
 impl<'a> Expression<'a> {
@@ -48,6 +56,43 @@ impl<'a> Expression<'a> {
             _ => &[],
         }
     }
+
+    pub fn elements_mut(&mut self) -> &mut [Expression<'a>] {
+        match &mut self.content {
+            Content::Form(elements) => elements,
+            _ => &mut [],
+        }
+    }
+
+    /// Leaves a form without elements.
+    pub fn take_elements(&mut self) -> Vec<Expression<'a>> {
+        match &mut self.content {
+            Content::Form(elements) => mem::take(elements),
+            _ => Vec::new(),
+        }
+    }
+
+    /// A form that stands nowhere in the stream, with the place that it is to have.
+    pub fn form(place: usize, elements: Vec<Expression<'a>>) -> Expression<'a> {
+        Expression {
+            start: place,
+            end: elements.last().map_or(place, |last| last.end),
+            depth: 1 + deepest(&elements),
+            content: Content::Form(elements),
+            bytecode: None,
+        }
+    }
+
+    pub fn moved_to(self, place: usize) -> Expression<'a> {
+        Expression {
+            start: place,
+            ..self
+        }
+    }
+}
+
+fn deepest(list: &[Expression]) -> usize {
+    list.iter().map(|each| each.depth).max().unwrap_or(0)
 }
 
 /// Reads a whole stream, with so many rows available.
@@ -96,10 +141,16 @@ impl<'a> Reader<'a> {
     fn expression(&mut self) -> Result<Expression<'a>, Refusal> {
         let start = self.at;
         let content = self.content(start)?;
+        let depth = match &content {
+            Content::Form(elements) => 1 + deepest(elements),
+            _ => 0,
+        };
         Ok(Expression {
             start,
             end: self.at,
+            depth,
             content,
+            bytecode: None,
         })
     }
 
@@ -122,7 +173,7 @@ impl<'a> Reader<'a> {
 
     /// "A form's opening: 6, 8."
     fn form(&mut self, start: usize) -> Result<Content<'a>, Refusal> {
-        if self.open == OPEN_FORMS_LIMIT {
+        if self.open == FORMS_LIMIT {
             return refuse(6, start);
         }
         self.take_row(start)?;
