@@ -120,15 +120,4 @@ impl Scope {
             associated: self.associated,
         }
     }
-
-    // What is visible where a list has ended: what was visible before it, in the list around it.
-    pub fn back_to(self, outer: Scope) -> Self
-        requires { ⌜ (outer .defined ≤ self .defined) × (outer .associated ≤ self .associated) ⌝ }
-        ensures { λ r. ⌜ r ≡ outer ⌝ }
-    {
-        Self {
-            defined: outer.defined,
-            associated: outer.associated,
-        }
-    }
 }
