@@ -349,12 +349,6 @@ module _ (bound k : ℕ) where
       → SingleScope bound (left .here .scope)
   eval-scope e h left f s t = eval-scope-if bound (run-code k) (run-code-single bound k) e h left f s t
 
-  -- a bytecode form leaves one value, wherever it stands
-  pub eval-bytecode : (r : ℕ) (es : Nodes) (o : Outcome) (h : Here) (left : Left) → FitsNode bound (bytecode r es o) → SingleScope bound (h .scope)
-      → eval (run-code k) (bytecode r es o) h .end ≡ done left → LeavesOne h left
-  unfolding rule
-  eval-bytecode r es o h left f s t = bytecode-single bound (run-code k) (run-code-single bound k) r o h left (f .3) s t
-
   pub in-list-single : (e : Node) (h : Here) (left : Left) → FitsNode bound e → headed-by rest e ≡ false → h .within ≡ inner → SingleScope bound (h .scope)
       → in-list (run-code k) (cons e empty) h .end ≡ done left → Single (left .values)
   in-list-single e h left f q i s t =

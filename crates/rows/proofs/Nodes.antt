@@ -9,12 +9,11 @@ use lib.Seq.{slice, length-slice, drop-drop, drop-at}
 use native.Mathlib.Omega.{arith}
 use Rattle.spec.specs.Expr.{Atom, nil, array, int, ref, atom-bytes}
 use Rattle.spec.specs.Reading.{atom-kind, row-width}
-use Rattle.spec.specs.Nodes.{plain, is, Node, leaf, branch, bytecode, Nodes, empty, cons, Outcome, row, elements, head-word, markers, markers-all}
+use Rattle.spec.specs.Nodes.{is, Node, leaf, branch, bytecode, Nodes, empty, cons, row, markers, markers-all}
 use Rattle.laws.specs.Demands.{Bytes}
 use Rattle.laws.specs.Grammar.{SpellsArray, small, generic}
 use Rattle.laws.proofs.Fits.{bytes-take, bytes-drop, Fits}
 use Rattle.laws.proofs.Shortest.{spelled-fits}
-use Rattle.laws.proofs.Basics.{impossible}
 use Rattle.rows.specs.Rows.{cell, kind, start, next, RowAt, LeafAt, WrittenAt, WrittenAll, is-made, behind, Opens, NodeAt, NodesAt}
 
 -- Atoms
@@ -134,12 +133,6 @@ module _ (s t : List ℕ) where
   written-more r end empty n h = absurd (omega (arith, n))
   written-more r end (cons e es) n h =
       record { head = e; rest = es; is = refl; node = n .2; nodes = n .3; forward = n .0; inside = n .1 }
-
-  -- the same of nodes that are known to be more
-  pub written-first : (r end : ℕ) (e : Node) (es : Nodes) → WrittenAll s t r end (cons e es)
-      → (r < end) × WrittenAt s t r e × WrittenAll s t (next t r) end es
-  unfolding WrittenAt
-  written-first r end e es n = (omega (arith, n .0, n .1), n .2, n .3)
 
   pub written-append : (a b c : ℕ) (es fs : Nodes) → WrittenAll s t a b es → WrittenAll s t b c fs → WrittenAll s t a c (append-nodes es fs)
   unfolding WrittenAt append-nodes
@@ -266,27 +259,11 @@ module _ (s t : List ℕ) (r : ℕ) where
   unfolding NodeAt
   form-nodes q es n = n .3
 
-  pub bytecode-row : (q : ℕ) (es : Nodes) (o : Outcome) → NodeAt s t false r (bytecode q es o) → RowAt s t r 1
-  unfolding NodeAt
-  bytecode-row q es o n = n .1 .by-row refl
-
-  pub bytecode-written : (q : ℕ) (es : Nodes) (o : Outcome) → NodeAt s t false r (bytecode q es o) → WrittenAll s t (r + 1) (next t r) es
-  unfolding NodeAt
-  bytecode-written q es o n = n .4
-
   pub node-next-in : (e : Node) → NodeAt s t false r e → r < next t r
   unfolding NodeAt
   node-next-in (leaf q a) n = omega (arith, n .2 .on)
   node-next-in (branch q es) n = omega (arith, nodes-order s t false (r + 1) (next t r) es (n .3))
   node-next-in (bytecode q es o) n = omega (arith, written-order s t (r + 1) (next t r) es (n .4))
-
-  -- an expression that a function name heads is a form, and no bytecode form
-  pub node-worded : (e : Node) → NodeAt s t false r e → is (head-word (elements e)) plain ≡ false
-      → (e ≡ branch r (elements e)) × RowAt s t r 1 × NodesAt s t false (r + 1) (next t r) (elements e)
-  unfolding NodeAt
-  node-worded (leaf q a) n h = impossible (cc)
-  node-worded (branch q es) n h = (ap (λ (k : ℕ). branch k es) (n .0), n .1 .by-row refl, n .3)
-  node-worded (bytecode q es o) n h = impossible (cc (n .3))
 
   -- what is no form is an atom
   pub kind-leaf : (e : Node) → NodeAt s t false r e → (kind t r ≡ 1 → ⊥) → (a : Atom) × (e ≡ leaf r a) × LeafAt s t r a

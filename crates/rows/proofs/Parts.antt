@@ -12,7 +12,7 @@ use Rattle.spec.specs.Nodes.{plain, is, Node, leaf, branch, bytecode, Nodes, em
 use Rattle.spec.specs.Bytecode.{led-by-name}
 use Rattle.laws.specs.Demands.{Bytes}
 use Rattle.laws.proofs.Basics.{impossible}
-use Rattle.rows.specs.Rows.{kind, mark, link, next, RowAt, LeafAt, WrittenAt, WrittenAll, is-made, behind, written, form-at, Opens, led-by-reference, NodeAt, NodesAt, OutcomeAt, parts-of, key-of}
+use Rattle.rows.specs.Rows.{kind, mark, link, next, LeafAt, WrittenAt, WrittenAll, is-made, behind, written, form-at, Opens, led-by-reference, NodeAt, NodesAt, OutcomeAt, parts-of, key-of}
 use Rattle.rows.specs.Forms.{reserved, element-at, past, is-named, HeadInside, HeadAt, IsElement, an-atom, a-form, a-bytecode}
 use Rattle.rows.specs.declared.forms.Form.{Form}
 use Rattle.rows.specs.declared.forms.Node.{Node as Ranged}
@@ -245,9 +245,6 @@ module _ (s t : List ℕ) (flat : Bool) (r : ℕ) where
 
   pub leaf-element : (a : Atom) → is-made t flat r ≡ false → LeafAt s t r a → element-at t flat r ≡ Leaf
   leaf-element a e l = rw (ne-eqb (kind t r) 1 (λ z. no-form a (leaf-kind l ∙ z)), e)
-
-  pub form-element : RowAt s t r 1 → element-at t flat r ≡ Branch (written t r)
-  form-element h = rw (h .kind-is)
 
   pub made-element : {m n : ℕ} → is-made t flat r ≡ true → LeafAt s t r (ref m n) → element-at t flat r ≡ Branch (form-at t flat r)
   made-element e l = rw (e, l .row .kind-is)

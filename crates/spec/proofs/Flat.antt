@@ -1,6 +1,6 @@
 -- The expressions of a flat list, one after the other, and what its bytecode form becomes. Document 02, §1. Assumes nothing.
 use Prim.Native.Nat.{ℕ, zero, suc, _≤_, _<_}
-use mathlib.Core.Path.{_≡_, refl, ap, sym, _∙_}
+use mathlib.Core.Path.{_≡_, refl, ap, _∙_}
 use mathlib.Core.List.{List, [], _∷_}
 use mathlib.Core.Bool.{Bool, true, false, _&&_, _||_}
 use native.Mathlib.Omega.{arith}
@@ -147,15 +147,6 @@ short-without os (suc k) (cons e es) h = short-without os k es h
 pub short-operands : (os : List Operator) (e : Node) (es : Nodes) (n : ℕ) → role os e ≡ operator n → short os 0 (cons e es) ≡ false → short os n es ≡ false
 unfolding short
 short-operands os e es n k h = rw (by-operator os e (λ n. n) 0 n k) at h
-
--- what is behind the first expression is not short where the whole is not
-pub short-others : (os : List Operator) (e : Node) (es : Nodes) → short os 0 (cons e es) ≡ false → short os 0 (others os e es) ≡ false
-unfolding short
-short-others os e es h = rw (by-its-role os e (λ n. without n es) es) (go (role os e) (rw (by-its-role os e (λ n. n) 0) at h))
-  where
-    go : (x : Role) → short os (by-role (λ n. n) 0 x) es ≡ false → short os 0 (by-role (λ n. without n es) es x) ≡ false
-    go (operator n) h = short-without os n es h
-    go operand h = h
 
 -- The refusal of a bytecode form at row r with the flat list es; 0 if none
 
