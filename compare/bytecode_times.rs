@@ -92,24 +92,24 @@ fn made_inside(first: &[u8], [before, after]: [&[u8]; 2], inside: &[u8]) -> Vec<
     form(&[&core(PREFIX_STAR), &list(operands), &flat_list])
 }
 
-/// The exception: a `prefix` form inside some 800 prefix* forms, of references that none of
-/// them names. Each look-up may pass by all their arity lists.
-pub fn exceptions() -> [(&'static str, Vec<u8>); 3] {
+/// A `prefix` form inside some 800 prefix* forms, of references that none of them names. A
+/// look-up that asked one arity list after the other would pass by all of them.
+pub fn deepest() -> [(&'static str, Vec<u8>); 3] {
     [
-        ("short arity lists around", exception(57, [&[], &[]])),
+        ("short arity lists around", deep(57, [&[], &[]])),
         (
             "names alike in their low bits",
-            exception(40, LOW_BITS_ALIKE),
+            deep(40, LOW_BITS_ALIKE),
         ),
         (
             "names alike in their high bits",
-            exception(30, HIGH_BITS_ALIKE),
+            deep(30, HIGH_BITS_ALIKE),
         ),
     ]
 }
 
-/// Where an arity list is searched by bits, the look-up of `REFERENCE` passes by all of them,
-/// and by prefix* between these.
+/// Where references are searched by bits, the look-up of `REFERENCE` passes by all of these,
+/// and by prefix* between them.
 const REFERENCE: [u8; 2] = [0x50, 0x31];
 const LOW_BITS_ALIKE: [&[u8]; 2] = [
     &[
@@ -130,7 +130,7 @@ const HIGH_BITS_ALIKE: [&[u8]; 2] = [
 
 /// So many written prefix* forms, each with `MADE` in it; and as many references as there is
 /// room for.
-fn exception(written: usize, others: [&[u8]; 2]) -> Vec<u8> {
+fn deep(written: usize, others: [&[u8]; 2]) -> Vec<u8> {
     let stream = |references: &[u8]| {
         let inside = prefix(&[&[0x80], references]);
         let around = |inside: Vec<u8>, _| made_inside(&[0x80], others, &inside);

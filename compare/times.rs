@@ -23,9 +23,9 @@ const MOST: u32 = 3;
 const ROUNDS: usize = 3;
 const MOST_ROUNDS: usize = 12;
 
-/// Of each stream whose time is not linear.
-const EXCEPTION_RUNS: u32 = 5;
-const EXCEPTION_MOST: Duration = Duration::from_millis(1000);
+/// Of each stream with as many arity lists around as there can be.
+const DEEPEST_RUNS: u32 = 5;
+const DEEPEST_MOST: Duration = Duration::from_millis(100);
 
 pub struct Kind {
     pub name: &'static str,
@@ -128,19 +128,19 @@ pub fn measure(first: &str, second: &str, report: &mut Report) -> io::Result<()>
             false => report.fail(&format!("{}: not linear", kind.name)),
         }
     }
-    measure_exceptions(first, report)
+    measure_deepest(first, report)
 }
 
-/// What is not linear has a bound of its own.
-fn measure_exceptions(path: &str, report: &mut Report) -> io::Result<()> {
-    for (name, stream) in bytecode_times::exceptions() {
+/// As many arity lists around as there can be: no three sizes, but a bound of their own.
+fn measure_deepest(path: &str, report: &mut Report) -> io::Result<()> {
+    for (name, stream) in bytecode_times::deepest() {
         let request = || Request::expecting(evaluate_line(&stream, bounds::LARGE), "refused 17");
-        let requests = Arc::new((0..EXCEPTION_RUNS).map(|_| request()).collect());
+        let requests = Arc::new((0..DEEPEST_RUNS).map(|_| request()).collect());
         let times = least_times(path, &[requests], is_short, report)?;
-        println!("{name:<40}{:>12.1?}", times[0] / EXCEPTION_RUNS);
+        println!("{name:<40}{:>12.1?}", times[0] / DEEPEST_RUNS);
         match is_short(&times) {
             true => report.pass(),
-            false => report.fail(&format!("{name}: above {EXCEPTION_MOST:?}")),
+            false => report.fail(&format!("{name}: above {DEEPEST_MOST:?}")),
         }
     }
     Ok(())
@@ -202,9 +202,9 @@ fn is_linear(times: &[Duration]) -> bool {
     times.iter().all(|time| *time <= MOST * times[0])
 }
 
-/// Of all runs of an exception.
+/// Of all runs of one of the deepest.
 fn is_short(times: &[Duration]) -> bool {
     times
         .iter()
-        .all(|time| *time < EXCEPTION_MOST * EXCEPTION_RUNS)
+        .all(|time| *time < DEEPEST_MOST * DEEPEST_RUNS)
 }

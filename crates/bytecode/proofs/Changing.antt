@@ -1,4 +1,4 @@
--- Laws of `Changed`: a number that is put at a row, one change after another, and what stays as it was. Assumes nothing.
+-- Laws of `Changed` and `Aside`: a number that is put at a row, one change after another, and what stays as it was. Assumes nothing.
 use Prim.Native.Nat.{ℕ, zero, suc, _+_, _*_, _/_, _%_, _≤_, _<_}
 use mathlib.Core.Path.{_≡_, refl, sym, ap, subst, _∙_}
 use mathlib.Core.List.{List}
@@ -10,9 +10,9 @@ use native.Mathlib.Omega.{arith}
 use Rattle.spec.specs.Expr.{Atom}
 use Rattle.spec.specs.Reading.{row-width}
 use Rattle.spec.specs.Nodes.{Node, Nodes}
-use Rattle.rows.specs.Rows.{cell, kind, start, mark, link, other, RowAt, LeafAt, WrittenAt, WrittenAll}
+use Rattle.rows.specs.Rows.{cell, kind, start, mark, link, RowAt, LeafAt, WrittenAt, WrittenAll}
 use Rattle.rows.proofs.Written as written
-use Rattle.bytecode.specs.Numbers.{SameRow, Same, Changed}
+use Rattle.bytecode.specs.Numbers.{child, SameRow, Same, Changed, Unlisted, Aside}
 
 -- Same: the numbers besides
 
@@ -23,8 +23,13 @@ module _ {t t' : List ℕ} {r : ℕ} (s : Same t t' r) where
   pub same-link : link t' r ≡ link t r
   same-link = ap (λ (c : ℕ). c / 32768) (s .first)
 
-  pub same-other : other t' r ≡ other t r
+  pub same-other : child t' 1 r ≡ child t 1 r
   same-other = ap (λ (c : ℕ). c / 65536) (s .second)
+
+  pub same-child : (b : ℕ) → b < 2 → child t' b r ≡ child t b r
+  same-child zero h = ap (λ (c : ℕ). c / 65536) (s .first)
+  same-child (suc zero) h = same-other
+  same-child (suc (suc b)) h = absurd (omega arith)
 
   pub same-back : Same t' t r
   same-back = record { first = sym (s .first); second = sym (s .second) }
@@ -34,6 +39,14 @@ module _ {t t' : List ℕ} {r : ℕ} (s : Same t t' r) where
 
 pub same-none : (t : List ℕ) (r : ℕ) → Same t t r
 same-none t r = record { first = refl; second = refl }
+
+same-row-then : {t t' u : List ℕ} {r : ℕ} → SameRow t t' r → SameRow t' u r → SameRow t u r
+same-row-then s z = record {
+  same-kind = z .same-kind ∙ s .same-kind;
+  same-start = z .same-start ∙ s .same-start;
+  same-end = z .same-end ∙ s .same-end;
+  same-next = z .same-next ∙ s .same-next;
+}
 
 -- Changed
 
@@ -66,14 +79,7 @@ module _ {t t' : List ℕ} {from to : ℕ} (c : Changed t t' from to) where
   pub changed-then : {u : List ℕ} → Changed t' u from to → Changed t u from to
   changed-then d = record {
     same-length = d .same-length ∙ c .same-length;
-    same-rows = λ r. let s = c .same-rows r in
-        let z = d .same-rows r in
-        record {
-          same-kind = z .same-kind ∙ s .same-kind;
-          same-start = z .same-start ∙ s .same-start;
-          same-end = z .same-end ∙ s .same-end;
-          same-next = z .same-next ∙ s .same-next;
-        };
+    same-rows = λ r. same-row-then (c .same-rows r) (d .same-rows r);
     before = λ r h. same-then (c .before r h) (d .before r h);
     behind = λ r h. same-then (c .behind r h) (d .behind r h);
   }
@@ -106,6 +112,54 @@ module _ {t t' : List ℕ} {from to : ℕ} (c : Changed t t' from to) where
       cells r (suc (suc zero)) l = c .same-rows r .same-end
       cells r (suc (suc (suc zero))) l = c .same-rows r .same-next
       cells r (suc (suc (suc (suc j)))) l = absurd (omega arith)
+
+-- Aside
+
+pub changed-aside : {t t' : List ℕ} {from to : ℕ} → Changed t t' from to → Aside t t' from to
+changed-aside c = record {
+  same-length = c .same-length;
+  same-rows = c .same-rows;
+  before = λ r h p. let s = c .before r h in (same-mark s, same-link s);
+  behind = c .behind;
+}
+
+pub aside-none : (t : List ℕ) (from to : ℕ) → Aside t t from to
+aside-none t from to = changed-aside (changed-none t from to)
+
+module _ {t t' : List ℕ} {from to : ℕ} (c : Aside t t' from to) where
+  -- references in arity lists are not told from other rows
+  pub aside-changed : Changed t t' 0 to
+  aside-changed = record { same-length = c .same-length; same-rows = c .same-rows; before = λ r h. absurd (omega arith); behind = c .behind }
+
+  pub plain-kept : (r : ℕ) → r < from → Unlisted t r → Unlisted t' r
+  plain-kept r h p k = let e = c .before r h p in rw (e .0) (p (sym (c .same-rows r .same-kind) ∙ k))
+
+  pub aside-wider : (a b : ℕ) → a ≤ from → to ≤ b → Aside t t' a b
+  aside-wider a b h g = record {
+    same-length = c .same-length;
+    same-rows = c .same-rows;
+    before = λ r l. c .before r (omega arith);
+    behind = λ r l. c .behind r (omega arith);
+  }
+
+  -- at later rows
+  pub aside-later : (row : ℕ) → to ≤ from → from ≤ row → Aside t t' row row
+  aside-later row h g = record {
+    same-length = c .same-length;
+    same-rows = c .same-rows;
+    before = λ r l p. elim (decLt r from) [ yes z ↦ c .before r z p | no z ↦ let e = c .behind r (omega arith) in (same-mark e, same-link e) ];
+    behind = λ r l. c .behind r (omega arith);
+  }
+
+  pub aside-then : {u : List ℕ} → Aside t' u from to → Aside t u from to
+  aside-then d = record {
+    same-length = d .same-length ∙ c .same-length;
+    same-rows = λ r. same-row-then (c .same-rows r) (d .same-rows r);
+    before = λ r h p. let e = c .before r h p in
+        let g = d .before r h (plain-kept r h p) in
+        (g .0 ∙ e .0, g .1 ∙ e .1);
+    behind = λ r h. same-then (c .behind r h) (d .behind r h);
+  }
 
 -- The rows themselves
 
@@ -177,7 +231,7 @@ module _ (t : List ℕ) (r v : ℕ) (inside : row-width * r + row-width ≤ leng
 
 -- numbers besides, over the kind and the start
 numbers-put : {t t' : List ℕ} {r a b : ℕ} (m l o : ℕ) → Put t t' r a b → m < 128 → a ≡ l * 32768 + m * 256 + kind t r → b ≡ o * 65536 + start t r
-    → Changed t t' r (r + 1) × (mark t' r ≡ m) × (link t' r ≡ l) × (other t' r ≡ o)
+    → Changed t t' r (r + 1) × (mark t' r ≡ m) × (link t' r ≡ l) × (child t' 1 r ≡ o)
 numbers-put m l o p h e g = (
   changed-put p (omega arith) (omega arith),
   omega (arith, p .first-is),
@@ -197,23 +251,47 @@ module _ (t : List ℕ) (r : ℕ) (inside : row-width * r + row-width ≤ length
   first-cell = ap (λ (i : ℕ). getD t i 0) (add-zero (row-width * r))
 
   pub mark-put : (m : ℕ) → m < 128 → let t' = set t (row-width * r) (first / 32768 * 32768 + m * 256 + first % 256) in
-      Changed t t' r (r + 1) × (mark t' r ≡ m) × (link t' r ≡ link t r) × (other t' r ≡ other t r)
+      Changed t t' r (r + 1) × (mark t' r ≡ m) × (link t' r ≡ link t r) × (child t' 1 r ≡ child t 1 r)
   mark-put m h =
-      numbers-put {a = first / 32768 * 32768 + m * 256 + first % 256} m (link t r) (other t r) (put-first t r _ inside) h
+      numbers-put {a = first / 32768 * 32768 + m * 256 + first % 256} m (link t r) (child t 1 r) (put-first t r _ inside) h
       (omega (arith, first-cell)) (omega arith)
 
   pub link-put : (l : ℕ) → let t' = set t (row-width * r) (l * 32768 + first % 32768) in
-      Changed t t' r (r + 1) × (link t' r ≡ l) × (mark t' r ≡ mark t r) × (other t' r ≡ other t r)
+      Changed t t' r (r + 1) × (link t' r ≡ l) × (mark t' r ≡ mark t r) × (child t' 1 r ≡ child t 1 r)
   link-put l =
-      let all = numbers-put {a = l * 32768 + first % 32768} (mark t r) l (other t r) (put-first t r _ inside) (omega arith)
+      let all = numbers-put {a = l * 32768 + first % 32768} (mark t r) l (child t 1 r) (put-first t r _ inside) (omega arith)
       (omega (arith, first-cell)) (omega arith) in
       (all .0, all .2, all .1, all .3)
 
-  pub other-put : (o : ℕ) → let t' = set t (row-width * r + 1) (o * 65536 + second % 65536) in
-      Changed t t' r (r + 1) × (other t' r ≡ o) × (mark t' r ≡ mark t r) × (link t' r ≡ link t r)
-  other-put o =
-      let all = numbers-put {b = o * 65536 + second % 65536} (mark t r) (link t r) o (put-second t r _ inside) (omega arith) (omega arith) (omega arith) in
-      (all .0, all .3, all .1, all .2)
+  -- in the place of a child, over the lower half
+  abbrev over : ℕ → ℕ → List ℕ
+  over b o = set t (row-width * r + b) (o * 65536 + getD t (row-width * r + b) 0 % 65536)
+
+  pub child-put : (b o : ℕ) → b < 2
+      → Changed t (over b o) r (r + 1) × (child (over b o) b r ≡ o) × (mark (over b o) r ≡ mark t r)
+      × ((c : ℕ) → c < 2 → (c ≡ b → ⊥) → child (over b o) c r ≡ child t c r) × (b ≡ 1 → link (over b o) r ≡ link t r)
+  child-put zero o h =
+      let at = row-width * r + 0 in
+      let v = o * 65536 + cell t r 0 % 65536 in
+      let p : Put t (set t at v) r v (cell t r 1) = rw (add-zero (row-width * r)) (put-first t r (o * 65536 + first % 65536) inside) in
+      let all = numbers-put (mark t r) (o * 2 + link t r % 2) (child t 1 r) p (omega arith) (omega arith) (omega arith) in
+      (all .0, omega (arith, p .first-is), all .1, (λ c i n. sides c i n (all .3)), λ e. absurd (omega arith))
+    where
+      sides : (c : ℕ) → c < 2 → (c ≡ 0 → ⊥) → child (over 0 o) 1 r ≡ child t 1 r → child (over 0 o) c r ≡ child t c r
+      sides zero i n e = absurd (n refl)
+      sides (suc zero) i n e = e
+      sides (suc (suc c)) i n e = absurd (omega arith)
+  child-put (suc zero) o h =
+      let v = o * 65536 + second % 65536 in
+      let p = put-second t r v inside in
+      let all = numbers-put {b = v} (mark t r) (link t r) o p (omega arith) (omega arith) (omega arith) in
+      (all .0, all .3, all .1, (λ c i n. sides c i n (ap (λ (c : ℕ). c / 65536) (p .first-is))), λ e. all .2)
+    where
+      sides : (c : ℕ) → c < 2 → (c ≡ 1 → ⊥) → child (over 1 o) 0 r ≡ child t 0 r → child (over 1 o) c r ≡ child t c r
+      sides zero i n e = e
+      sides (suc zero) i n e = absurd (n refl)
+      sides (suc (suc c)) i n e = absurd (omega arith)
+  child-put (suc (suc b)) o h = absurd (omega arith)
 
 -- Clearing a row
 

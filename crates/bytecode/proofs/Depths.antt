@@ -10,9 +10,9 @@ use borrow.Author.Tests.{eq-eqb, ne-eqb}
 use Rattle.spec.specs.Nodes.{Node, leaf, branch, bytecode, Nodes, empty, cons}
 use Rattle.spec.specs.Bytecode.{node-depth, nodes-deepest}
 use Rattle.laws.proofs.Basics.{by-test}
-use Rattle.rows.specs.Rows.{kind, mark, link, other, next, WrittenAt, WrittenAll}
+use Rattle.rows.specs.Rows.{kind, mark, link, next, WrittenAt, WrittenAll}
 use Rattle.rows.proofs.Nodes.{no-form, leaf-kind, written-done, written-more}
-use Rattle.bytecode.specs.Numbers.{Changed}
+use Rattle.bytecode.specs.Numbers.{child, Changed}
 use Rattle.bytecode.specs.Gathered.{Measurable, Measured, height, SameLinks, SameOthers}
 use Rattle.bytecode.proofs.Changing.{same-mark, same-elsewhere, changed-none, changed-wider, changed-back, changed-then, written-kept, written-all-kept}
 use Rattle.bytecode.proofs.Links.{at-one}
@@ -139,14 +139,14 @@ module _ {t t' : List ℕ} {rows r p : ℕ} (k : Marked t t' rows p) (one : p �
   -- the form there is marked
   pub marked-form : {t'' : List ℕ} (n : ℕ) → kind t' r ≡ 1 → next t' r ≤ rows
       → ((s : List ℕ) (es : Nodes) → WrittenAll s t' (r + 1) (next t' r) es → Measured s t' (r + 1) (next t' r) → n ≡ nodes-deepest es)
-      → Changed t' t'' r (r + 1) → mark t'' r ≡ n + 1 → (link t'' r ≡ link t' r) × (other t'' r ≡ other t' r) → Marked t t'' rows r
+      → Changed t' t'' r (r + 1) → mark t'' r ≡ n + 1 → (link t'' r ≡ link t' r) × (child t'' 1 r ≡ child t' 1 r) → Marked t t'' rows r
   unfolding WrittenAt node-depth
   marked-form {t''} n is within deepest c m same =
       record {
         low = omega (arith, k .low);
         changed = changed-then (k .changed) (changed-wider c 0 rows (omega arith) (omega (arith, k .low)));
         links = λ q.
-            let o = at-one (λ j. (link t'' j ≡ link t' j) × (other t'' j ≡ other t' j)) c same (λ j e. rw (e .first, e .second) (refl, refl)) q in
+            let o = at-one (λ j. (link t'' j ≡ link t' j) × (child t'' 1 j ≡ child t' 1 j)) c same (λ j e. rw (e .first, e .second) (refl, refl)) q in
             (o .0 ∙ k .links q .0, o .1 ∙ k .links q .1);
         others = λ q h.
             elim (ℕ-discrete q r) [

@@ -2,7 +2,7 @@
 use Prim.Native.Nat.{ℕ, _+_, _*_, _≤_, _<_}
 use mathlib.Core.Path.{_≡_, refl, ap, sym, _∙_}
 use mathlib.Core.List.{List, [], _∷_}
-use mathlib.Core.Bool.{Bool, true, false, not, _&&_}
+use mathlib.Core.Bool.{Bool, true, false, not, _&&_, _||_}
 use native.Mathlib.Omega.{arith}
 use lib.ListN.{length}
 use lib.Dec.{ltb, leb, eqb}
@@ -10,9 +10,9 @@ use borrow.Author.Tests.{eqb-true, lt-ltb, le-leb, leb-true, le-ltb}
 use Rattle.spec.specs.Expr.{if_then_else_, some, nil, array, int, ref}
 use Rattle.spec.specs.Reading.{row-width}
 use Rattle.spec.specs.Nodes.{core, plain as plain-word, is, among, word, Node, leaf, branch, bytecode, Nodes, empty, cons, becomes, row, elements, head-word}
-use Rattle.spec.specs.Bytecode.{prefix, prefix*, is-name, led-by-name, Operator, listed, operators, Around, all, Part, nodes, transformed-all, gathered, placed, result-of, outcome, linked, transform, parts-of}
+use Rattle.spec.specs.Bytecode.{prefix, prefix*, is-name, led-by-name, Operator, listed, operators, Around, all, Part, nodes, transformed-all, gathered, placed, result-of, outcome, linked, transform, parts-of, short, node-depth}
 use Rattle.spec.proofs.Made.{keep, each-row, transform-other, result}
-use Rattle.spec.proofs.Flat.{Role, operator, operand, role, by-role, by-its-role, foremost, others, first-part, first-part-written, gathered-cons, transform-star, transform-nested, star-listed}
+use Rattle.spec.proofs.Flat.{refusal, Role, operator, operand, role, by-role, by-its-role, foremost, others, first-part, first-part-written, gathered-cons, transform-star, transform-nested, star-listed}
 use Rattle.laws.proofs.Basics.{impossible, both-false}
 use Rattle.laws.proofs.Bytecode.{unled-plain, Turned, same-leaf, same-form, to-bytecode, same-bytecode, transform-turned}
 use Rattle.rows.specs.Rows.{mark, next, WrittenAt, WrittenAll, behind, led-by-reference, NodeAt, NodesAt, OutcomeAt, ResultAt, single}
@@ -199,3 +199,12 @@ outcome-asked s t place own around h {k = k} {os = os} {around' = around'} {es =
     let first = flat-from t (own .first) k in
     let rows = flattens-written s t (own .first) (own .end) around h flattens w in
     rw m (rows .0, rows .1, rows .2, written-rows s t first (own .end) es (rows .3), result-asked s t place first (own .end) around' os es (rows .3) unled-result n)
+
+-- no refusal is as high as a mark in an arity list
+pub refusal-small : (r : ℕ) (os : List Operator) (es : Nodes) → refusal r os es < 63
+refusal-small r os es = go (short os 0 es || led-by-name (elements (result r os es))) (ltb 64 (node-depth (result r os es)))
+  where
+    go : (b c : Bool) → (if b then 22 else if c then 6 else 0) < 63
+    go true c = omega arith
+    go false true = omega arith
+    go false false = omega arith

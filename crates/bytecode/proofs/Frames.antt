@@ -17,16 +17,13 @@ use Rattle.bytecode.specs.Numbers.{Same, Changed, Unlinked}
 use Rattle.bytecode.specs.Gathered.{beyond, lacks, GatheredAt}
 use Rattle.bytecode.specs.Frames.{operators-in, Frame, Holds, going-on, inside}
 use Rattle.bytecode.specs.Scanned.{Fresh}
-use Rattle.bytecode.proofs.Links.{short-lacks, beyond-kept, beyond-written, operands-gathered, beyond-changed, gathered-operand}
+use Rattle.bytecode.proofs.Links.{short-lacks, beyond-kept, beyond-written, operands-gathered, beyond-changed, unlinked-kept, gathered-operand}
 use Rattle.bytecode.proofs.Depths.{measured-within, measured-kept}
-use Rattle.bytecode.proofs.Changing.{same-mark, same-link, same-other, written-all-kept}
+use Rattle.bytecode.proofs.Changing.{same-mark, same-link, written-all-kept}
 
 -- Numbers that are put elsewhere
 
 module _ (s : List ℕ) {t t' : List ℕ} {a b : ℕ} (c : Changed t t' a b) where
-  unlinked-kept : (from to : ℕ) → ((r : ℕ) → from ≤ r → r < to → Same t t' r) → Unlinked t from to → Unlinked t' from to
-  unlinked-kept from to same u r h l = let z = same r h l in (same-link z ∙ u r h l .0, same-other z ∙ u r h l .1)
-
   pub gathered-kept : (os : List Operator) (k r end : ℕ) (es : Nodes) → WrittenAll s t r end es → ((q : ℕ) → r ≤ q → q < end → Same t t' q)
       → GatheredAt t os k r es → GatheredAt t' os k r es
   unfolding GatheredAt WrittenAll

@@ -10,15 +10,15 @@ use Rattle.spec.specs.Reading.{row-width}
 use Rattle.spec.specs.Nodes.{Node, Nodes, cons}
 use Rattle.spec.specs.Bytecode.{Operator, if-operator, short}
 use Rattle.spec.proofs.Flat.{operator, operand, role, by-operand, by-operator, without}
-use Rattle.rows.specs.Rows.{next, link, mark, other, WrittenAt, WrittenAll}
+use Rattle.rows.specs.Rows.{next, link, mark, WrittenAt, WrittenAll}
 use Rattle.rows.proofs.Nodes.{MoreWritten, written-order, written-done, written-more, written-whole}
-use Rattle.bytecode.specs.Numbers.{Changed, Unlinked}
+use Rattle.bytecode.specs.Numbers.{child, Changed, Unlinked}
 use Rattle.bytecode.specs.Gathered.{SameMarks, beyond, lacks, GatheredAt, Tells, FlatAt}
 use Rattle.bytecode.specs.declared.arities.Arities.{Arities}
 use Rattle.bytecode.specs.declared.arities.Role.{Role}
 use Rattle.bytecode.specs.declared.arities.Role.the-variants.{Operator as As, Operand}
 use Rattle.bytecode.proofs.Changing.{changed-none, changed-wider, changed-then, written-all-kept}
-use Rattle.bytecode.proofs.Links.{at-one, written-few, written-all-few, role-operand, role-operator, short-lacks, beyond-written, beyond-order, gathered-operands, beyond-changed, unlinked-changed, gathered-operand, gathered-operator}
+use Rattle.bytecode.proofs.Links.{at-one, written-few, written-all-few, role-operand, role-operator, short-lacks, beyond-written, beyond-order, gathered-operands, beyond-changed, unlinked-kept, gathered-operand, gathered-operator}
 
 -- One list of operators
 
@@ -61,7 +61,7 @@ module _ {s t : List ℕ} {first end : ℕ} {os : List Operator} {es : Nodes} {r
           shorts = none ∙ ap (short os 0) (sym (m .is)) ∙ g .shorts;
           gathered = λ t' c h.
               let next-is = c .same-rows r .same-next in
-              let u = unlinked-changed c r (next t r) (omega arith) (λ q i j. g .unlinked q i (omega (arith, m .inside))) in
+              let u = unlinked-kept r (next t r) (λ q i j. c .before q (omega arith)) (λ q i j. g .unlinked q i (omega (arith, m .inside))) in
               let all = gathered-operand t' os r (m .head) (m .rest) o (rw next-is (m .forward)) (rw next-is u) (rw next-is h) in
               g .gathered t' (changed-wider c r end (omega (arith, m .forward)) (omega arith)) (rw (m .is) all);
         }
@@ -85,7 +85,7 @@ module _ {s t : List ℕ} {first end : ℕ} {os : List Operator} {es : Nodes} {r
           let m = gathering-more in
           let order = beyond-order s t n (next t r) end (m .rest) (m .nodes) k in
           let within = written-order s t _ end _ (beyond-written s t n (next t r) end (m .rest) (m .nodes) k) in
-          let u : Unlinked t' (r + 1) end = λ q i j. let e = c .behind q i in rw (e .first, e .second) (g .unlinked q (omega arith) j) in
+          let u : Unlinked t' (r + 1) end = unlinked-kept (r + 1) end (λ q i j. c .behind q i) (λ q i. g .unlinked q (omega arith)) in
           record {
             rest = without n (m .rest);
             from = omega (arith, g .from, m .forward, order);
@@ -97,7 +97,7 @@ module _ {s t : List ℕ} {first end : ℕ} {os : List Operator} {es : Nodes} {r
                 changed-then (changed-wider c r end (omega arith) (omega (arith, m .forward, m .inside))) (changed-wider d r end (omega (arith, m .forward, order)) (omega arith)) in
                 let past = beyond-changed all n (next t r) in
                 let next-is = all .same-rows r .same-next in
-                let u' = unlinked-changed d (r + 1) (beyond t n (next t r)) (omega arith) (λ q i j. u q i (omega (arith, within))) in
+                let u' = unlinked-kept (r + 1) (beyond t n (next t r)) (λ q i j. d .before q (omega arith)) (λ q i j. u q i (omega (arith, within))) in
                 let operands = gathered-operands s t'' os n (next t r) end (m .rest) (written-all-kept s all (m .rest) (next t r) end (m .nodes)) k
                 (rw past (λ q i j. u' q (omega (arith, m .forward)) j)) (rw past h) in
                 let link-is : link t'' r ≡ beyond t'' n (next t'' r) = rw (next-is, past, d .before r (omega (arith, m .forward, order)) .first) is in
@@ -176,7 +176,7 @@ module _ {s t : List ℕ} {a : Arities} {first end : ℕ} {t' : List ℕ} {r : �
           let m = gathering-more g l in
           sym (ap not (gathering-short g l (o .arity) (role-operator os (m .head) (o .arity) (o .role os (m .head) (f .tells t' (h .changed)) (m .node))) (past-end (m .rest) (m .nodes) k)))
 
-      pub held-operator : {t'' : List ℕ} → p ≤ end → Changed t' t'' r (r + 1) → link t'' r ≡ p → (mark t'' r ≡ mark t' r) × (other t'' r ≡ other t' r)
+      pub held-operator : {t'' : List ℕ} → p ≤ end → Changed t' t'' r (r + 1) → link t'' r ≡ p → (mark t'' r ≡ mark t' r) × (child t'' 1 r ≡ child t' 1 r)
           → Held s t a first end t'' p
       held-operator {t''} k c is same =
           record {
@@ -185,7 +185,7 @@ module _ {s t : List ℕ} {a : Arities} {first end : ℕ} {t' : List ℕ} {r : �
             flat = h .flat;
             changed = changed-then (h .changed) (changed-wider c first end (held-one .from) (omega arith));
             marks = λ q.
-                let o = at-one (λ j. (mark t'' j ≡ mark t' j) × (other t'' j ≡ other t' j)) c same (λ j e. rw (e .first, e .second) (refl, refl)) q in
+                let o = at-one (λ j. (mark t'' j ≡ mark t' j) × (child t'' 1 j ≡ child t' 1 j)) c same (λ j e. rw (e .first, e .second) (refl, refl)) q in
                 (o .0 ∙ h .marks q .0, o .1 ∙ h .marks q .1);
             each = λ os es f.
                 let g = h .each os es f in

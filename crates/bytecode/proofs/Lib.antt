@@ -2,6 +2,9 @@ pub mod Changing
 pub mod Roles
 pub mod Named
 pub mod Naming
+pub mod Arounds
+pub mod Exchanges
+pub mod Switches
 pub mod Links
 pub mod Depths
 pub mod Pieces

@@ -1,19 +1,23 @@
 -- Laws of what is linked: the row behind so many expressions, the operands of an operator, and the pieces that a flat list is gathered to.
 -- Document 02, §1: "then as many next expressions as its arity". Assumes nothing.
-use Prim.Native.Nat.{ℕ, zero, suc, _+_, _-_, _≤_, _<_}
+use Prim.Native.Nat.{ℕ, zero, suc, _+_, _-_, _*_, _≤_, _<_}
 use mathlib.Core.Path.{_≡_, refl, sym, ap, _∙_}
 use mathlib.Core.List.{List}
 use mathlib.Core.Bool.{true, false, _||_}
 use native.Mathlib.Decide.{ℕ-discrete, decLt}
 use native.Mathlib.Omega.{arith}
+use lib.ListN.{length}
 use Rattle.spec.specs.Expr.{if_then_else_}
+use Rattle.spec.specs.Reading.{row-width}
 use Rattle.spec.specs.Nodes.{Node, leaf, branch, bytecode, Nodes, empty, cons}
 use Rattle.spec.specs.Bytecode.{Operator, if-operator, short}
 use Rattle.spec.proofs.Made.{keep}
 use Rattle.spec.proofs.Flat.{Role, operator, operand, role, by-role, by-its-role, by-operand, by-operator, without}
 use Rattle.laws.proofs.Basics.{impossible}
-use Rattle.rows.specs.Rows.{next, link, WrittenAt, WrittenAll}
+use Rattle.rows.specs.Rows.{kind, next, link, ReferenceAt, WrittenAt, WrittenAll}
 use Rattle.rows.proofs.Nodes.{MoreWritten, written-done, written-more}
+use Rattle.rows.proofs.Parts.{written-reference}
+use Rattle.rows.proofs.Written.{written-each}
 use Rattle.bytecode.specs.Numbers.{Same, Changed, Unlinked}
 use Rattle.bytecode.specs.Gathered.{beyond, lacks, GatheredAt}
 use Rattle.bytecode.specs.declared.arities.Role.the-variants.{Operator as As, Operand}
@@ -163,8 +167,8 @@ unfolding beyond
 beyond-changed c zero r = refl
 beyond-changed {t} {t'} c (suc n) r = beyond-changed c n (next t' r) ∙ ap (beyond t n) (c .same-rows r .same-next)
 
-pub unlinked-changed : {t t' : List ℕ} {from to : ℕ} → Changed t t' from to → (a b : ℕ) → b ≤ from → Unlinked t a b → Unlinked t' a b
-unlinked-changed c a b l u q i j = let e = c .before q (omega arith) in rw (e .first, e .second) (u q i j)
+pub unlinked-kept : {t t' : List ℕ} (from to : ℕ) → ((r : ℕ) → from ≤ r → r < to → Same t t' r) → Unlinked t from to → Unlinked t' from to
+unlinked-kept from to same u r h l = let z = same r h l in rw (z .first, z .second) (u r h l)
 
 -- one more is gathered, by its role
 module _ (t : List ℕ) (os : List Operator) (r : ℕ) (e : Node) (es : Nodes) where
@@ -181,3 +185,24 @@ module _ (t : List ℕ) (os : List Operator) (r : ℕ) (e : Node) (es : Nodes) w
       → GatheredAt t os n (next t r) es → GatheredAt t os 0 r (cons e es)
   unfolding GatheredAt
   gathered-operator n o l u g = (rw (by-operator os e (λ n. beyond t n (next t r)) 0 n o) l, u, rw (by-operator os e (λ n. n) 0 n o) g)
+
+-- every row of an expression is in the table, and each of a reference's kind is one
+module _ (s t : List ℕ) where
+  mutual
+    unfolding WrittenAt
+
+    pub written-inside : (r : ℕ) (e : Node) → WrittenAt s t r e → row-width * next t r ≤ length t
+    written-inside r (leaf q a) h = omega (arith, h .1 .on, h .1 .row .inside)
+    written-inside r (branch q es) h = written-all-inside (r + 1) (next t r) es (h .2) (omega (arith, h .1 .inside))
+    written-inside r (bytecode q es o) h = absurd h
+
+    written-all-inside : (r end : ℕ) (es : Nodes) → WrittenAll s t r end es → row-width * r ≤ length t → row-width * end ≤ length t
+    written-all-inside r end empty h l = omega (arith, h)
+    written-all-inside r end (cons e es) h l = written-all-inside (next t r) end es (h .3) (written-inside r e (h .2))
+
+  pub written-references : (r : ℕ) (e : Node) → WrittenAt s t r e → (q : ℕ) → r ≤ q → q < next t r → kind t q ≡ 4 → ReferenceAt s t q
+  unfolding WrittenAll
+  written-references r e h q i j k =
+      let f = written-each s t r (next t r) (cons e empty) (omega (arith, i, j), omega arith, h, refl) q i j in
+      let w = written-reference s t q (f .0) (f .1) k in
+      record { marker = w .marker; name = w .name; leaf-at = w .here }

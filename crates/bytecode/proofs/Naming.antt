@@ -1,24 +1,26 @@
 -- Laws of the naming of an arity list's references, one expression after another. Document 02, §1. Assumes nothing.
-use Prim.Native.Nat.{ℕ, _+_, _≤_, _<_}
+use Prim.Native.Nat.{ℕ, _+_, _-_, _≤_, _<_}
 use mathlib.Core.Path.{_≡_, refl, sym, ap, _∙_}
 use mathlib.Core.List.{List, [], _∷_, _++_}
 use mathlib.Core.Bool.{Bool, true, false}
+use native.Mathlib.Decide.{ℕ-discrete}
 use native.Mathlib.Omega.{arith}
 use Rattle.spec.specs.Expr.{nil, array, int, ref}
 use Rattle.spec.specs.Nodes.{Node, leaf, branch, bytecode, Nodes, empty, cons}
 use Rattle.spec.specs.Bytecode.{Operator, if-listed, Arities, listed, ill-formed, and-then, series, arities, operators}
 use Rattle.laws.proofs.Basics.{impossible}
 use Rattle.laws.specs.Demands.{Bytes}
-use Rattle.rows.specs.Rows.{kind, next, LeafAt, WrittenAt, WrittenAll}
+use Rattle.rows.specs.Rows.{kind, mark, next, LeafAt, WrittenAt, WrittenAll}
 use Rattle.rows.proofs.Nodes.{kind-int, written-next, written-whole, leaf-kind, leaf-fits, MoreWritten, written-order, written-done, written-more, written-form, written-leaf}
+use Rattle.rows.proofs.Parts.{ReferenceNode, written-reference}
 use Rattle.bytecode.specs.Numbers.{Changed, Unlinked}
-use Rattle.bytecode.specs.Named.{role-of, KeyAt, nothing, Lists, Sought, vacant, Naming, NamedBy, ListAt}
-use Rattle.bytecode.specs.declared.arities.Place.the-variants.{Taken, Vacant}
+use Rattle.bytecode.specs.Named.{role-of, KeyAt, nothing, Lists, Sought, Naming, NamedBy, ListAt}
+use Rattle.bytecode.specs.declared.tree.Place.the-variants.{Taken}
 use Rattle.bytecode.specs.declared.arities.Role.{Role}
 use Rattle.bytecode.specs.declared.arities.Role.the-variants.{Operator as As, Operand}
 use Rattle.bytecode.proofs.Changing.{written-all-kept, same-link, same-other}
-use Rattle.bytecode.proofs.Roles.{by-role, listed-role, written-reference, reference-role}
-use Rattle.bytecode.proofs.Named.{sought-role, Joined, lists-joined, lists-later}
+use Rattle.bytecode.proofs.Roles.{by-role, listed-role, reference-role}
+use Rattle.bytecode.proofs.Named.{role-operator, tree-found, sought-found, sought-some, Hung, lists-joined, lists-later}
 
 -- Expressions that are named one after another
 
@@ -176,33 +178,39 @@ module _ {s t : List ℕ} {list row end : ℕ} {all : Nodes → List Operator �
 -- One reference
 
 pub one-reference : {s t : List ℕ} {list row : ℕ} {os : List Operator} {e : Node} → Naming s t list row (next t row) os (cons e empty) → kind t row ≡ 4
-    → (m : ℕ) × (k : ℕ) × (e ≡ leaf row (ref m k)) × LeafAt s t row (ref m k)
+    → ReferenceNode s t row e
 unfolding WrittenAt
 one-reference {s} {t} {row = row} {e = e} n is = written-reference s t row e (n .written .2) is
 
 module _ {s t : List ℕ} {list row key : ℕ} {os : List Operator} {e : Node} (n : Naming s t list row (next t row) os (cons e empty)) (is : kind t row ≡ 4)
     (bytes : Bytes s) (x : KeyAt s t row key) (arity : ℕ) where
   abbrev added : Operator
-  added = let r = one-reference n is in record { marker = r .0; name = r .1; arity = arity }
+  added = let r = one-reference n is in record { marker = r .marker; name = r .name; arity = arity }
 
   -- what it gives, by its role so far
   one-gives : {r : Role} → role-of os key ≡ r → series arity (cons e empty) os ≡ by-role (λ twice. ill-formed) (listed (os ++ (added ∷ []))) r
   unfolding series
   one-gives h =
       let r = one-reference n is in
-      let known = reference-role s t row os bytes (r .3) (sym (x .is (r .0) (r .1) (r .3))) in
-      ap (λ (e : Node). series arity (cons e empty) os) (r .2) ∙ series-reference arity row (r .0) (r .1) empty os
+      let known = reference-role s t row os bytes (r .here) (sym (x .is (r .marker) (r .name) (r .here))) in
+      ap (λ (e : Node). series arity (cons e empty) os) (r .is) ∙ series-reference arity row (r .marker) (r .name) empty os
       ∙ ap (λ (y : Role). by-role (λ twice. ill-formed) (listed (os ++ (added ∷ []))) y) (sym known ∙ h)
 
   pub one-twice : {q : ℕ} → Sought s t list key (Taken q) → NamedBy s t list (next t row) (series arity (cons e empty) os) false
-  one-twice w = rw (one-gives (sought-role (n .lists) w)) refl
+  one-twice {q} w =
+      let l = n .lists in
+      let is : l .node key ≡ q = sought-found (l .tree) w in
+      let some = sought-some w in
+      let m = tree-found (l .tree) key (rw is some) in
+      let own = l .own q key (omega (arith, m .behind, is)) (omega (arith, m .before, is)) (rw is at (m .key)) in
+      rw (one-gives {r = As (mark t q - 64)} (l .roles key ∙ rw is (role-operator t q some (own .1)))) refl
 
-  pub one-named : {t' : List ℕ} {last : ℕ} {high : Bool} → Sought s t list key (Vacant last high) → Joined s t t' list row key arity last high
+  pub one-named : {t' : List ℕ} {last bit : ℕ} → Hung s t t' list row key last bit → mark t' row ≡ 64 + arity
       → NamedBy s t' list (next t row) (series arity (cons e empty) os) true
-  one-named (vacant w free) j =
+  one-named h marked =
       let r = one-reference n is in
-      rw (one-gives (sought-role (n .lists) (vacant w free)), r .3 .on)
-      (refl, lists-joined added j (n .lists) w free (x .is (r .0) (r .1) (r .3)) (leaf-fits bytes (r .3) .2) (omega (arith, r .3 .on, n .within)))
+      rw (one-gives {r = Operand} (n .lists .roles key ∙ rw (sought-found (n .lists .tree) (h .sought))), r .here .on)
+      (refl, lists-joined added h marked (n .lists) (x .is (r .marker) (r .name) (r .here)) (leaf-fits bytes (r .here) .2) (omega (arith, r .here .on, n .within)))
 
 -- what is no reference ends the list
 pub series-other : (s t : List ℕ) (r n : ℕ) (e : Node) (es : Nodes) (os : List Operator) → WrittenAt s t r e → (kind t r ≡ 4 → ⊥)
@@ -269,7 +277,8 @@ module _ {s t : List ℕ} {list row : ℕ} {os : List Operator} {e : Node} (n : 
             head .rest,
             number,
             record {
-              lists = lists-later (row + 1 + 1) (n .lists) (omega arith) (omega (arith, n .within));
+              lists = lists-later (row + 1 + 1) (n .lists) (omega arith) (omega (arith, n .within))
+                  (λ r i j k. elim (ℕ-discrete r row) [ yes z ↦ omega (arith, form, ap (kind t) z) | no z ↦ let z : r ≡ row + 1 = omega arith in omega (arith, h, ap (kind t) z) ]);
               written = rw ends (rw (number .on) at (head .nodes));
               unlinked = λ r i j. n .unlinked r (omega arith) (omega arith);
               within = omega (arith, n .within);
@@ -294,10 +303,15 @@ module _ {s t : List ℕ} {list : ℕ} {e : Node} (l : ListAt s t list e) where
         operators = [];
         naming = record {
           lists = record {
-            finds = λ k. rw (l .unlinked list (omega arith) (omega arith) .0) nothing;
-            inside = written-whole s t list e (l .written) .0;
+            node = λ k. 0;
+            tree = record {
+              finds = λ k. rw (l .unlinked list (omega arith) (omega arith) .1) nothing;
+              inside = written-whole s t list e (l .written) .0;
+              begins = omega arith;
+            };
+            roles = λ k. refl;
+            own = λ r k i j x. absurd (omega arith);
             low = l .low;
-            begins = omega arith;
             ends = omega arith;
           };
           written = rw ends (inside .2);

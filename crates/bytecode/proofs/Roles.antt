@@ -11,7 +11,7 @@ use Rattle.spec.specs.Nodes.{Node, leaf, branch, bytecode}
 use Rattle.spec.specs.Bytecode.{Operator, if-listed, if-operator}
 use Rattle.laws.specs.Demands.{Bytes}
 use Rattle.rows.specs.Rows.{kind, LeafAt, WrittenAt, key-of}
-use Rattle.rows.proofs.Nodes.{kind-ref, leaf-kind, leaf-fits, written-leaf}
+use Rattle.rows.proofs.Nodes.{leaf-fits}
 use Rattle.rows.proofs.Keys.{key-marker, key-name}
 use Rattle.bytecode.specs.Named.{role-of}
 use Rattle.bytecode.specs.declared.arities.Role.{Role}
@@ -71,12 +71,6 @@ module _ (o : Operator) (k : ℕ) (small : o .name < 256) where
 -- Expressions
 
 module _ (s t : List ℕ) (r : ℕ) where
-  pub written-reference : (e : Node) → WrittenAt s t r e → kind t r ≡ 4 → (m : ℕ) × (n : ℕ) × (e ≡ leaf r (ref m n)) × LeafAt s t r (ref m n)
-  written-reference e w h =
-      let l = written-leaf s t r e w (λ z. omega arith) in
-      let a = kind-ref (l .0) (leaf-kind (l .2) ∙ h) in
-      (a .0, a .1, rw (a .2) at (l .1), rw (a .2) at (l .2))
-
   pub written-operand : {A : Type 0} (os : List Operator) (e : Node) (f : ℕ → A) (other : A) → WrittenAt s t r e → (kind t r ≡ 4 → ⊥) → other ≡ if-operator os e f other
   unfolding WrittenAt
   written-operand os (leaf q nil) f other w h = refl

@@ -26,12 +26,15 @@ use Rattle.bytecode.proofs.Lists.{none-around, around-later}
 use Rattle.bytecode.proofs.Flattening.{NoBytecode}
 use Rattle.bytecode.proofs.Heads.{no-bytecode}
 use Rattle.bytecode.proofs.Firsts.{AtomAt, FormAt, View, an-atom, a-form, view}
-use Rattle.bytecode.proofs.Scanned.{Here, here-at, row-order, nearest-here, form-ends, visited-atom, visited-plain, visited-star, visited-nested}
+use Rattle.bytecode.proofs.Scanned.{here-at, Found, found-here, row-order, form-ends, form-low, visited-atom, visited-plain, visited-star, visited-nested}
 
-module _ (s t : List ℕ) (scan : Scan) (end : ℕ) (fs : List Frame) (k : Standing s t scan end fs) (l : scan .row < end) where
-  pub here : Here s t (scan .row) (scan .around) end fs
-  here = here-at s t (scan .row) (scan .around) end fs (k .stacked) l
+-- once the lists that have ended are left
+pub found : {s t t' : List ℕ} {scan : Scan} {near end : ℕ} {fs : List Frame} (k : Standing s t scan end fs) → scan .row < end
+    → Nearest s t t' (scan .row) (scan .around) (k .around) near → Found s t' (scan .row) near end fs
+found {s} {t} {scan = scan} {end = end} {fs = fs} k l n =
+    found-here (k .arounds) (here-at s t (scan .row) (scan .around) (k .around) end fs (k .stacked) l) n
 
+module _ (s t : List ℕ) (scan : Scan) (near end : ℕ) (fs : List Frame) (few : end ≤ 65536) (here : Found s t (scan .row) near end fs) where
   pub row-whole : (row-width * scan .row + row-width ≤ length t) × (scan .row < 65536)
   unfolding WrittenAll
   row-whole =
@@ -56,12 +59,12 @@ module _ (s t : List ℕ) (scan : Scan) (end : ℕ) (fs : List Frame) (k : Stand
     form-flat = ap (λ (x : Form). x .flat) (form-here .form-is) ∙ form-unflat s t true (here .frame .first)
 
     ends : form .end ≤ here .frame .end
-    ends = form-ends s t scan end fs (k .few) here form form-here
+    ends = form-ends s t scan near end fs few here form form-here
 
     headed : (n : ℕ) → leads n (form-here .elements) ≡ true → HeadedAt s t form (tail (form-here .elements))
     headed n q =
         let b = form-here .headed n q in
-        record { few = omega (arith, ends, row-order s t scan end fs (k .few) here .1, k .few); head = b .0; fresh = b .1 }
+        record { few = omega (arith, ends, row-order s t scan near end fs few here .1); low = form-low s t scan near end fs few here form form-here; head = b .0; fresh = b .1 }
 
     -- the key of its head
     module _ (key : ℕ) (h : HeadKey key (form-here .elements)) where
@@ -80,48 +83,46 @@ module _ (s t : List ℕ) (scan : Scan) (end : ℕ) (fs : List Frame) (k : Stand
       pub headed-nested : key ≡ 0x2030 → HeadedAt s t form (tail (form-here .elements))
       headed-nested q = headed prefix (is-nested q)
 
-  -- the arity list that the code finds
-  module _ (near : ℕ) (n : Nearest t (scan .row) (scan .around) near) where
-    own : near ≡ here .frame .list
-    own = nearest-here s t scan end fs (k .few) here near n
+  pub visit-atom : Leaf ≡ element-at t true (scan .row) → Moved s t t scan (record { row = scan .row + 1; around = near }) end fs
+  visit-atom e = rw (here .own) (visited-atom s t scan near end fs few here (go (seen Leaf e)))
+    where
+      go : View s t (here .frame) (here .first) (here .others) Leaf → AtomAt s t (here .frame) (here .first) (here .others)
+      go (an-atom a) = a
 
-    pub visit-atom : Leaf ≡ element-at t true (scan .row) → Moved s t t scan (record { row = scan .row + 1; around = near }) end fs
-    visit-atom e = rw own (visited-atom s t scan end fs (k .few) here (go (seen Leaf e)))
-      where
-        go : View s t (here .frame) (here .first) (here .others) Leaf → AtomAt s t (here .frame) (here .first) (here .others)
-        go (an-atom a) = a
+  module _ (form : Form) (e : Branch form ≡ element-at t true (scan .row)) where
+    pub enclosed : Enclosed s t form near (here .frame .around)
+    enclosed = let h = here in
+        rw (h .own)
+        (record {
+          lists = around-later (form .first) (omega (arith, h .at, form-here form e .low)) (h .around);
+          lasts = λ z. omega (arith, ends form e, h .framed .lasts z);
+        })
 
-    module _ (form : Form) (e : Branch form ≡ element-at t true (scan .row)) where
-      pub enclosed : Enclosed s t form near (here .frame .around)
-      enclosed = let h = here in
-          rw own
-          (record {
-            lists = around-later (form .first) (omega (arith, h .at, form-here form e .low)) (h .framed .around);
-            lasts = λ z. omega (arith, ends form e, h .framed .lasts z);
-          })
+    module _ (key : ℕ) (h : HeadKey key (form-here form e .elements)) where
+      abbrev elements : Nodes
+      elements = form-here form e .elements
 
-      module _ (key : ℕ) (h : HeadKey key (form-here form e .elements)) where
-        abbrev elements : Nodes
-        elements = form-here form e .elements
+      visit-plain : NoBytecode (here .frame .around) elements → Moved s t t scan (record { row = scan .row + 1; around = near }) end fs
+      visit-plain b = rw (here .own) (visited-plain s t scan near end fs few here form (form-here form e) b)
 
-        visit-plain : NoBytecode (here .frame .around) elements → Moved s t t scan (record { row = scan .row + 1; around = near }) end fs
-        visit-plain b = rw own (visited-plain s t scan end fs (k .few) here form (form-here form e) b)
+      -- another name, or none
+      pub visit-other : (key ≡ 0x2031 → ⊥) → (key ≡ 0x2030 → ⊥) → Moved s t t scan (record { row = scan .row + 1; around = near }) end fs
+      visit-other p q = visit-plain (no-bytecode (here .frame .around) elements (no-star form e key h p) (rw (sym (h .nested) ∙ ne-eqb key 0x2030 q)))
 
-        -- another name, or none
-        pub visit-other : (key ≡ 0x2031 → ⊥) → (key ≡ 0x2030 → ⊥) → Moved s t t scan (record { row = scan .row + 1; around = near }) end fs
-        visit-other p q = visit-plain (no-bytecode (here .frame .around) elements (no-star form e key h p) (rw (sym (h .nested) ∙ ne-eqb key 0x2030 q)))
+      -- `prefix`, with nothing around
+      pub visit-outside : (key ≡ 0x2031 → ⊥) → near ≡ 0 → Moved s t t scan (record { row = scan .row + 1; around = near }) end fs
+      visit-outside p z =
+          let none = none-around (here .around .arounds .nested) (sym (here .own) ∙ z) in
+          visit-plain (no-bytecode (here .frame .around) elements (no-star form e key h p)
+          (ap (λ (out : Around). leads prefix elements && ltb 0 (length out)) none ∙ and-false (leads prefix elements)))
 
-        -- `prefix`, with nothing around
-        pub visit-outside : (key ≡ 0x2031 → ⊥) → near ≡ 0 → Moved s t t scan (record { row = scan .row + 1; around = near }) end fs
-        visit-outside p z =
-            let none = none-around (here .framed .around .arounds) (sym own ∙ z) in
-            visit-plain (no-bytecode (here .frame .around) elements (no-star form e key h p)
-            (ap (λ (out : Around). leads prefix elements && ltb 0 (length out)) none ∙ and-false (leads prefix elements)))
+      module _ {t' : List ℕ} {on : Scan} (c : FormChanged t t' form) where
+        pub visit-star : key ≡ 0x2031 → Starred s t' form near (here .frame .around) (tail elements) (arity-list (tail elements)) on → Moved s t t' scan on end fs
+        visit-star q j = visited-star s t scan near end fs few here form (form-here form e) c (is-star form e key h q)
+            (subst (λ (n : ℕ). Starred s t' form n (here .frame .around) (tail elements) (arity-list (tail elements)) on) (here .own) j)
 
-        module _ {t' : List ℕ} {on : Scan} (c : FormChanged t t' form) where
-          pub visit-star : key ≡ 0x2031 → Starred s t' form near (here .frame .around) (tail elements) (arity-list (tail elements)) on → Moved s t t' scan on end fs
-          visit-star q j = visited-star s t scan end fs (k .few) here form (form-here form e) c (is-star form e key h q) (rw own at j)
-
-          pub visit-nested : (key ≡ 0x2031 → ⊥) → key ≡ 0x2030 → (near ≡ 0 → ⊥)
-              → Judged s t' form near 1 (all (here .frame .around)) (here .frame .around) (tail elements) on → Moved s t t' scan on end fs
-          visit-nested p q z j = visited-nested s t scan end fs (k .few) here form (form-here form e) c (no-star form e key h p) (is-nested form e key h q) (omega (arith, own, z)) (rw own at j)
+        pub visit-nested : (key ≡ 0x2031 → ⊥) → key ≡ 0x2030 → (near ≡ 0 → ⊥)
+            → Judged s t' form near 1 (all (here .frame .around)) (here .frame .around) (here .frame .around) (tail elements) on → Moved s t t' scan on end fs
+        visit-nested p q z j =
+            visited-nested s t scan near end fs few here form (form-here form e) c (no-star form e key h p) (is-nested form e key h q) (omega (arith, here .own, z))
+            (subst (λ (n : ℕ). Judged s t' form n 1 (all (here .frame .around)) (here .frame .around) (here .frame .around) (tail elements) on) (here .own) j)

@@ -7,13 +7,13 @@ use mathlib.Core.Bool.{Bool, true, false}
 use lib.Dec.{eqb, ltb}
 use Rattle.spec.specs.Expr.{if_then_else_, Atom}
 use Rattle.spec.specs.Nodes.{Node, leaf, branch, Nodes, empty, cons, elements}
-use Rattle.spec.specs.Bytecode.{Operator, Around, all, led-by-name, if-operator, node-depth, nodes-deepest}
-use Rattle.rows.specs.Rows.{kind, mark, link, other, next, ReferenceAt, WrittenAt, WrittenAll, is-made, behind}
+use Rattle.spec.specs.Bytecode.{Operator, led-by-name, if-operator, node-depth, nodes-deepest}
+use Rattle.rows.specs.Rows.{kind, mark, link, next, ReferenceAt, WrittenAt, WrittenAll, is-made, behind}
 use Rattle.rows.specs.declared.forms.Form.{Form}
 use Rattle.rows.specs.declared.forms.Node.{Node as Ranged}
 use Rattle.rows.specs.declared.forms.Node.the-variants.{Leaf, Branch}
-use Rattle.bytecode.specs.Numbers.{Changed, Unlinked}
-use Rattle.bytecode.specs.Named.{Lists, Arounds}
+use Rattle.bytecode.specs.Numbers.{child, Changed, Unlinked}
+use Rattle.bytecode.specs.Named.{Tree, Roles}
 use Rattle.bytecode.specs.declared.arities.Arities.{Arities}
 
 -- Heights
@@ -35,10 +35,10 @@ height t r = if eqb (kind t r) 1 then mark t r else 0
 
 -- only marks are put, or only links
 abbrev pub SameLinks : List ℕ → List ℕ → Type 0
-SameLinks t t' = (r : ℕ) → (link t' r ≡ link t r) × (other t' r ≡ other t r)
+SameLinks t t' = (r : ℕ) → (link t' r ≡ link t r) × (child t' 1 r ≡ child t 1 r)
 
 abbrev pub SameMarks : List ℕ → List ℕ → Type 0
-SameMarks t t' = (r : ℕ) → (mark t' r ≡ mark t r) × (other t' r ≡ other t r)
+SameMarks t t' = (r : ℕ) → (mark t' r ≡ mark t r) × (child t' 1 r ≡ child t 1 r)
 
 -- only forms are marked
 abbrev pub SameOthers : List ℕ → List ℕ → Type 0
@@ -65,10 +65,12 @@ GatheredAt t os zero r (cons e es) =
     × GatheredAt t os (if-operator os e (λ n. n) 0) (next t r) es
 GatheredAt t os (suc k) r (cons e es) = Unlinked t r (next t r) × GatheredAt t os k (next t r) es
 
--- the arity lists that the code goes by tell these operators
-pub data Tells (s t : List ℕ) : Arities → List Operator → Type 0 where
-  by-own : (list to : ℕ) (os : List Operator) → Lists s t list to os → Tells s t (record { list = list; nested = false }) os
-  by-all : (list : ℕ) (around : Around) → Arounds s t list around → Tells s t (record { list = list; nested = true }) (all around)
+-- the tree that the code goes by tells these operators
+pub record Tells (s t : List ℕ) (arities : Arities) (os : List Operator) : Type 0 where
+  pub to : ℕ
+  pub node : ℕ → ℕ
+  pub tree : Tree s t (arities .tree) to node
+  pub roles : Roles t node os
 
 -- the flat list from a row up to another before it is gathered; what is put in its rows changes no arity list
 pub record FlatAt (s t : List ℕ) (arities : Arities) (first end : ℕ) (os : List Operator) (es : Nodes) : Type 0 where

@@ -2,11 +2,12 @@
 use atoms::Kind;
 use rows::table;
 ghost use mathlib.Core.Path.{_≡_};
-ghost use mathlib.Core.Bool.{false};
+ghost use mathlib.Core.Bool.{true, false};
 ghost use Rattle.spec.specs.Nodes.{Node, Nodes};
 ghost use Rattle.spec.specs.Bytecode.{prefix*, is-name};
 ghost use Rattle.spec.proofs.Unchanged.{UnnamedAll};
 ghost use Rattle.rows.specs.Rows.{WrittenAt, WrittenAll};
+ghost use Rattle.bytecode.specs.Scanned.{StarAmong};
 
 // Whether `prefix*` is at a row. A reference whose first byte is 20 has one more.
 fn is_star(s: &[u8], table: &[u32], row: usize) -> bool
@@ -26,7 +27,8 @@ fn is_star(s: &[u8], table: &[u32], row: usize) -> bool
 // Whether `prefix*` is at a row from `first` on, of so many.
 pub fn is_present(s: &[u8], table: &[u32], first: usize, rows: usize) -> bool
     requires { ⌜ ((es : Nodes) × WrittenAll (now s) (now table) first rows es) ⌝ }
-    ensures { λ r. ⌜ ((es : Nodes) → WrittenAll (now (s .entry)) (now (table .entry)) first rows es → r ≡ false → UnnamedAll es) ⌝ }
+    ensures { λ r. ⌜ (r ≡ true → StarAmong (now (s .entry)) (now (table .entry)) first rows)
+        × ((es : Nodes) → WrittenAll (now (s .entry)) (now (table .entry)) first rows es → r ≡ false → UnnamedAll es) ⌝ }
 {
     let mut row = first;
     while row < rows {

@@ -1,6 +1,7 @@
 // All bytecode forms of a stream, those outside first.
 use crate::arities;
 use crate::arities::Arities;
+use crate::around;
 use crate::flat;
 use crate::heights;
 use crate::numbers;
@@ -22,9 +23,8 @@ ghost use Rattle.spec.specs.Bytecode.{Around, all, transform-all};
 ghost use Rattle.spec.proofs.Flat.{arity-list};
 ghost use Rattle.rows.specs.Rows.{mark, link, WrittenAll, NodesAt};
 ghost use Rattle.bytecode.specs.Numbers.{Changed};
-ghost use Rattle.bytecode.specs.Named.{Arounds};
 ghost use Rattle.bytecode.specs.Frames.{Frame};
-ghost use Rattle.bytecode.specs.Scanned.{Nearest, HeadedAt, Enclosed, HeadKey, Standing, Moved, StarRefusal, Judged, Starred, FormChanged, Readable};
+ghost use Rattle.bytecode.specs.Scanned.{AroundAt, Nearest, HeadedAt, Enclosed, HeadKey, Standing, Moved, StarRefusal, Judged, Starred, FormChanged, Readable};
 
 // The row that comes next, and the arity list of the nearest `prefix*` form around it; 0 if there is none.
 struct Scan {
@@ -45,11 +45,11 @@ fn put_verdict(table: &mut [u32], form: Form, refusal: u32, fine: u32)
 }
 
 // Transforms a form headed by `prefix*`. Gives its refusal; 0 if none.
-fn star_flat(s: &[u8], table: &mut [u32], form: Form, around: usize) -> u32
-    requires { ⌜ ((es : Nodes) × HeadedAt (now s) (now table) form es) × ((out : Around) × Enclosed (now s) (now table) form around out) ⌝ }
-    ensures { λ r. ⌜ FormChanged (now (table .entry)) (now (table .exit)) form
-        × ((es : Nodes) (out : Around) → HeadedAt (now (s .entry)) (now (table .entry)) form es → Enclosed (now (s .entry)) (now (table .entry)) form around out
-        → StarRefusal (now (s .entry)) (now (table .exit)) form around out es (arity-list es) r) ⌝ }
+fn star_flat(s: &[u8], table: &mut [u32], form: Form) -> u32
+    requires { ⌜ ((es : Nodes) × HeadedAt (now s) (now table) form es) ⌝ }
+    ensures { λ r. ⌜ Changed (now (table .entry)) (now (table .exit)) (form .first + 1) (form .end)
+        × ((es : Nodes) (out : Around) → HeadedAt (now (s .entry)) (now (table .entry)) form es
+        → StarRefusal (now (s .entry)) (now (table .exit)) form out es (arity-list es) r) ⌝ }
 {
     let list = form.first + 1;
     if form.end <= list {
@@ -58,12 +58,7 @@ fn star_flat(s: &[u8], table: &mut [u32], form: Form, around: usize) -> u32
     if !arities::name_list(s, table, list) {
         return 22;
     }
-    numbers::put_other(table, list, around);
-    numbers::put_link(table, form.first, form.end);
-    let own = Arities {
-        list,
-        nested: false,
-    };
+    let own = Arities { tree: list };
     flat::unflatten(s, table, own, form.flat_from(table::next(table, list)))
 }
 
@@ -74,7 +69,7 @@ fn star(s: &[u8], table: &mut [u32], form: Form, around: usize) -> Scan
         × ((es : Nodes) (out : Around) → HeadedAt (now (s .entry)) (now (table .entry)) form es → Enclosed (now (s .entry)) (now (table .entry)) form around out
         → Starred (now (s .entry)) (now (table .exit)) form around out es (arity-list es) r) ⌝ }
 {
-    let refusal = star_flat(s, table, form, around);
+    let refusal = star_flat(s, table, form);
     put_verdict(table, form, refusal, 2);
     if refusal != 0 {
         return Scan {
@@ -83,6 +78,9 @@ fn star(s: &[u8], table: &mut [u32], form: Form, around: usize) -> Scan
         };
     }
     let list = form.first + 1;
+    numbers::put_link(table, form.first, form.end);
+    numbers::put_link(table, list, around);
+    around::switch(s, table, list);
     Scan {
         row: table::next(table, list),
         around: list,
@@ -94,14 +92,11 @@ fn nested(s: &[u8], table: &mut [u32], form: Form, around: usize) -> Scan
     requires { ⌜ ((es : Nodes) × HeadedAt (now s) (now table) form es) × ((out : Around) × Enclosed (now s) (now table) form around out) ⌝ }
     ensures { λ r. ⌜ FormChanged (now (table .entry)) (now (table .exit)) form
         × ((es : Nodes) (out : Around) → HeadedAt (now (s .entry)) (now (table .entry)) form es → Enclosed (now (s .entry)) (now (table .entry)) form around out
-        → Judged (now (s .entry)) (now (table .exit)) form around 1 (all out) out es r) ⌝ }
+        → Judged (now (s .entry)) (now (table .exit)) form around 1 (all out) out out es r) ⌝ }
 {
     let first = form.first + 1;
-    let nearest = Arities {
-        list: around,
-        nested: true,
-    };
-    let refusal = flat::unflatten(s, table, nearest, form.flat_from(first));
+    let all = Arities { tree: around::ALL };
+    let refusal = flat::unflatten(s, table, all, form.flat_from(first));
     put_verdict(table, form, refusal, 1);
     if refusal != 0 {
         return Scan {
@@ -112,17 +107,18 @@ fn nested(s: &[u8], table: &mut [u32], form: Form, around: usize) -> Scan
     Scan { row: first, around }
 }
 
-// The nearest arity list whose form has not ended before a row.
-fn nearest(table: &[u32], around: usize, row: usize) -> usize
-    requires { ⌜ ((s : List ℕ) × (out : Around) × Arounds s (now table) around out) ⌝ }
-    ensures { λ r. ⌜ Nearest (now (table .entry)) row around r ⌝ }
+// The nearest arity list whose form has not ended before a row. Those nearer are left.
+fn nearest(s: &[u8], table: &mut [u32], around: usize, row: usize) -> usize
+    requires { ⌜ ((out : Around) × AroundAt (now s) (now table) row around out) ⌝ }
+    ensures { λ r. ⌜ ((out : Around) → AroundAt (now (s .entry)) (now (table .entry)) row around out → Nearest (now (s .entry)) (now (table .entry)) (now (table .exit)) row around out r) ⌝ }
 {
     let mut list = around;
     while list != 0 {
         if row < table::link(table, list - 1) {
             return list;
         }
-        list = table::other(table, list);
+        around::switch(s, table, list);
+        list = table::link(table, list);
     }
     0
 }
@@ -145,7 +141,7 @@ fn visit(s: &[u8], table: &mut [u32], scan: Scan) -> Scan
         → Moved (now (s .entry)) (now (table .entry)) (now (table .exit)) scan r end fs) ⌝ }
 {
     let row = scan.row;
-    let around = nearest(table, scan.around, row);
+    let around = nearest(s, table, scan.around, row);
     let inside = Scan {
         row: row + 1,
         around,

@@ -22,7 +22,7 @@ use Rattle.laws.proofs.Reading.{stream-laid, read-readable, read-meant}
 use Rattle.laws.proofs.Parsing.{read-spells}
 use Rattle.laws.proofs.Steps.{split-size, split-rest}
 use Rattle.laws.proofs.Items.{spelled-rows}
-use Rattle.rows.specs.Rows.{cell, kind, start, next, mark, link, other, RowAt, WrittenAt, WrittenAll, NodesAt}
+use Rattle.rows.specs.Rows.{cell, kind, start, next, RowAt, WrittenAt, WrittenAll, NodesAt}
 use Rattle.rows.proofs.Slices.{slice-take}
 use Rattle.rows.proofs.Written.{written-nodes}
 
@@ -185,12 +185,9 @@ module _ (s t : List ℕ) (room : ℕ) (rs : List Row) (es : Exprs) (b : Bytes s
         omega (arith, filled-cell rs t r 1 l (omega arith), starts-low (length s) rs inside r l, k .short),
       )
 
-  pub filled-besides : (r : ℕ) → r < length rs → (mark (filled rs t) r ≡ 0) × (link (filled rs t) r ≡ 0) × (other (filled rs t) r ≡ 0)
-  filled-besides r l = let p = filled-plain r l in (omega arith, omega arith, omega arith)
-
   pub filled-starts : (r : ℕ) → r < length rs → start (filled rs t) r ≡ row-at rs r .start
   filled-starts r l = omega (arith, filled-plain r l, filled-cell rs t r 1 l (omega arith))
 
   -- a stream that has no bytecode is evaluated as it is written
   pub filled-nodes : NodesAt s (filled rs t) false 0 (length rs) (number-all 0 es)
-  filled-nodes = written-nodes s (filled rs t) 0 (length rs) (number-all 0 es) (λ r l. filled-besides r l .0) filled-written
+  filled-nodes = written-nodes s (filled rs t) 0 (length rs) (number-all 0 es) (λ r l. omega (arith, filled-plain r l)) filled-written

@@ -29,15 +29,12 @@ start t r = cell t r 1 % 65536
 abbrev pub next : List ℕ → ℕ → ℕ
 next t r = cell t r 3
 
--- While a stream with bytecode is evaluated, a row has more numbers: a mark and a link above its kind, another above its start. Else they are 0.
+-- While a stream with bytecode is evaluated, a row has more numbers: a mark and a link above its kind, and one above its start. Else they are 0.
 abbrev pub mark : List ℕ → ℕ → ℕ
 mark t r = cell t r 0 / 256 % 128
 
 abbrev pub link : List ℕ → ℕ → ℕ
 link t r = cell t r 0 / 32768
-
-abbrev pub other : List ℕ → ℕ → ℕ
-other t r = cell t r 1 / 65536
 
 -- a row of the table, of an expression of that kind in the stream
 pub record RowAt (s t : List ℕ) (r kind : ℕ) : Type 0 where

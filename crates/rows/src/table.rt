@@ -6,7 +6,7 @@ ghost use Prim.Native.Nat.{ℕ, _+_, _*_, _≤_, _<_};
 ghost use lib.ListN.{length};
 ghost use Rattle.spec.specs.Expr.{int, ref};
 ghost use Rattle.spec.specs.Reading.{row-width};
-ghost use Rattle.rows.specs.Rows.{cell, kind, start, mark, link, other, LeafAt, key-of};
+ghost use Rattle.rows.specs.Rows.{cell, kind, start, mark, link, LeafAt, key-of};
 
 // Number j of a row.
 fn number(table: &[u32], row: usize, j: usize) -> u32
@@ -44,7 +44,7 @@ pub fn next(table: &[u32], row: usize) -> usize
     number(table, row, 3) as usize
 }
 
-// Numbers of a row besides, while a stream is evaluated: a mark and a link above its kind, another above its start.
+// Numbers of a row besides, while a stream is evaluated: a mark and a link above its kind.
 
 pub fn mark(table: &[u32], row: usize) -> u32
     requires { ⌜ row-width * row + row-width ≤ length (now table) ⌝ }
@@ -58,13 +58,6 @@ pub fn link(table: &[u32], row: usize) -> usize
     ensures { λ r. ⌜ r ≡ link (now (table .entry)) row ⌝ }
 {
     (number(table, row, 0) / 32768) as usize
-}
-
-pub fn other(table: &[u32], row: usize) -> usize
-    requires { ⌜ row-width * row + row-width ≤ length (now table) ⌝ }
-    ensures { λ r. ⌜ r ≡ other (now (table .entry)) row ⌝ }
-{
-    (number(table, row, 1) / 65536) as usize
 }
 
 // The number of a small integer.

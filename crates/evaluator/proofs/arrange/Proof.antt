@@ -24,7 +24,7 @@ returns c =
     let has = known .before .pre .0 in (
       record { changed = changed-none _ _ _; same = λ z. refl },
       λ t rs es reads. rw (read-once has t rs es reads .1)
-          (stream-unnamed _ _ _ (bytes known) has (known .before .pre .1) (λ ns w. c .before .is-present .ensures ns w (not-true _ (c .if1 .taken)))),
+          (stream-unnamed _ _ _ (bytes known) has (known .before .pre .1) (λ ns w. c .before .is-present .ensures .1 ns w (not-true _ (c .if1 .taken)))),
     )
 
 transform-requires : tie.Need-transform-requires

@@ -88,7 +88,7 @@ name-all-spec =
           let turn = called .before .before .before .before .before in
           let f = first turn es os h in
           first-named f _ (called .name .ensures .0) (called .name .ensures .1 (f .node) (f .operators) (f .naming)) (not-false _ (c .if2 .left))
-          (sym (one-reference (f .naming) (kind-is (called .before .before)) .3 .on)),
+          (sym (one-reference (f .naming) (kind-is (called .before .before)) .here .on)),
     ))
     (λ c. c .before .loop .inv .0 .same-length)
     (λ c. (

@@ -30,6 +30,21 @@ loop-again c =
       ],
     )
 
+returns : tie.Need-returns Inv-loop μ-loop
+returns c =
+    let l = c .before .before .before .loop in
+    let e = written-each _ _ _ _ _ (c .before .before .before .before .before .before .pre .1) (l .row) (l .inv .0) (c .before .before .loop-test .taken) in (
+      (λ _. record {
+        row = l .row;
+        from = l .inv .0;
+        before = c .before .before .loop-test .taken;
+        node = e .0;
+        written = e .1;
+        is = sym (c .before .is-star .ensures (e .0) (e .1)) ∙ c .if1 .taken;
+      }),
+      λ es h z. impossible (cc),
+    )
+
 pub is-present-spec : {M : Type 1} → statement M
 is-present-spec =
     tie.close
@@ -40,8 +55,11 @@ is-present-spec =
     (λ c κs. let l = c .before .loop in
     let e = written-each _ _ _ _ _ (c .before .before .before .before .pre .1) (l .row) (l .inv .0) (c .loop-test .taken) in
     (e .0, e .1))
-    (λ c es h z. impossible (cc))
+    returns
     (λ c. omega arith)
     (λ c. omega arith)
     loop-again
-    (λ c es h z. all-unnamed _ _ _ _ es h (λ q e i g. c .before .loop .inv .1 q e i (omega (arith, c .loop-test .left)))))
+    (λ c. (
+      (λ z. impossible (cc)),
+      λ es h z. all-unnamed _ _ _ _ es h (λ q e i g. c .before .loop .inv .1 q e i (omega (arith, c .loop-test .left))),
+    )))

@@ -1,43 +1,49 @@
 -- `bytecode::scan::nearest` meets its contract. The invariant: the lists that were left have ended, and others may be around. The measure is
 -- the list's row. Assumes nothing.
-use Prim.Native.Nat.{ℕ}
-use mathlib.Core.List.{List}
+use Prim.Native.Nat.{ℕ, _+_, _*_, _≤_, _<_}
 use native.Mathlib.Omega.{arith}
+use mathlib.Core.Path.{_≡_}
+use lib.ListN.{length}
+use Rattle.spec.specs.Reading.{row-width}
+use Rattle.rows.specs.Rows.{link}
 use Rattle.spec.specs.Bytecode.{Around}
-use Rattle.bytecode.specs.Named.{Arounds}
-use Rattle.bytecode.specs.Scanned.{Descends, here, up}
-use Rattle.bytecode.proofs.Lists.{Outwards, outwards, descends-then}
+use Rattle.bytecode.specs.Scanned.{AroundAt}
+use Rattle.bytecode.proofs.Lists.{Reached, reached-none, reached-lasts, reached-inside, reached-switchable, reached-lower, reached-on}
 use Rattle.bytecode.proofs.scan.nearest.Statement.{statement}
 use Rattle.bytecode.proofs.scan.nearest.Tie as tie
 
 abbrev Inv-loop : tie.InvT-loop
-Inv-loop table around row list₀ list = Descends table row around list × ((s : List ℕ) × (all : Around) × Arounds s table list all)
+Inv-loop s table₀ around row list₀ table list = (out : Around) → AroundAt s table₀ row around out → Reached s table₀ table row around out list
 
 abbrev μ-loop : tie.MeasureT-loop
-μ-loop table around row list₀ list = list
+μ-loop s table₀ around row list₀ table list = list
 
--- a turn's list has others around it
-turned : (c : tie.In-loop Inv-loop μ-loop)
-    → Outwards (c .before .loop .inv .1 .0) (c .before .before .before .args .table .now) (c .before .loop .list)
-turned c = outwards (c .before .loop .inv .1 .2) (omega arith)
+-- a turn's list, as it is asked for
+turned : (c : tie.In-loop Inv-loop μ-loop) → let start = c .before .before .before .before in let a = start .args in
+    Reached (a .s .now) (a .table .now) (c .before .loop .table) (a .row) (a .around) (start .pre .0) (c .before .loop .list)
+turned c = let pre = c .before .before .before .before .pre in c .before .loop .inv (pre .0) (pre .1)
+
+some : (c : tie.In-loop Inv-loop μ-loop) → 0 < c .before .loop .list
+some c = omega (arith, c .loop-test .taken)
+
+inside : (c : tie.In-loop Inv-loop μ-loop) → row-width * c .before .loop .list + row-width ≤ length (c .before .loop .table)
+inside c = reached-inside (c .before .before .before .before .pre .1) (turned c) (some c)
 
 returns : tie.Need-returns Inv-loop μ-loop
-returns c =
-    let l = c .before .before .before .loop in
-    record { descends = l .inv .0; lasts = λ h. rw (← c .before .link .ensures) (c .if1 .taken) }
+returns c out a = let l = c .before .before .before .before .loop in reached-lasts a (l .inv out a) (λ h. rw (← c .before .link .ensures) (c .if1 .taken))
 
-loop-less : tie.Need-loop-less Inv-loop μ-loop
-loop-less c = rw (c .other .ensures) (turned (c .before .before .before) .lower)
-
-loop-again : tie.Need-loop-again Inv-loop μ-loop
-loop-again c =
-    let out = turned (c .before .before .before) in
-    let l = c .before .before .before .before .loop in
-    rw (c .other .ensures)
-    (descends-then (l .inv .0) (up _ _ (omega arith) (rw (← c .before .before .link .ensures) (c .before .if1 .left)) (here _)), (l .inv .1 .0, out .around, out .arounds))
-
-returns-2 : tie.Need-returns-2 Inv-loop μ-loop
-returns-2 c = record { descends = rw (c .loop-test .left) at (c .before .loop .inv .0); lasts = λ h. absurd (omega arith) }
+-- a list that has ended is left
+left : (c : tie.After-switch Inv-loop μ-loop) → let turn = c .before .before .before .before .before in let a = turn .before .before .before .before .args in
+    (out : Around) → AroundAt (a .s .now) (a .table .now) (a .row) (a .around) out
+    → (link (c .switch .last .1 .0) (turn .before .loop .list) < turn .before .loop .list)
+    × ((n : ℕ) → n ≡ link (c .switch .last .1 .0) (turn .before .loop .list)
+    → Reached (a .s .now) (a .table .now) (c .switch .last .1 .0) (a .row) (a .around) out n)
+left c out a =
+    let turn = c .before .before .before .before .before in
+    let l = turn .before .loop .inv out a in
+    let ended = rw (c .before .before .before .link .ensures) at (c .before .before .if1 .left) in
+    let w = c .switch .ensures in
+    (reached-lower a l (some turn) ended (w .0, w .2), λ n e. reached-on a l (some turn) ended (w .0, w .2) e)
 
 pub nearest-spec : {M : Type 1} → statement M
 nearest-spec =
@@ -45,11 +51,16 @@ nearest-spec =
     (tie.spec
     Inv-loop
     μ-loop
-    (λ c. (here _, c .before .pre))
-    (λ c. omega arith)
-    (λ c κs. omega (arith, turned c .within))
+    (λ c out a. reached-none a)
+    (λ c. some (c .before))
+    (λ c κs. omega (arith, inside (c .before)))
+    (λ c. turned (c .before .before .before) .aside .same-length)
     returns
-    (λ c κs. turned (c .before .before) .within)
-    loop-less
-    loop-again
-    returns-2)
+    (λ c κs. let turn = c .before .before .before .before in reached-switchable (turn .before .before .before .before .pre .1) (turned turn) (some turn))
+    (λ c κs. omega (arith, inside (c .before .before .before .before .before .before .before .before), c .before .before .before .switch .ensures .0 .same-length))
+    (λ c. let switch = c .before .before .before .before in
+    let pre = switch .before .before .before .before .before .before .before .before .before .pre in
+    rw (c .link2 .ensures) (left switch (pre .0) (pre .1) .0))
+    (λ c out a. left (c .before .before .before .before) out a .1 _ (c .link2 .ensures))
+    (λ c. let pre = c .before .before .before .before .pre in c .before .loop .inv (pre .0) (pre .1) .aside .same-length)
+    (λ c out a. let l = c .before .loop in rw (← c .loop-test .left) (reached-lasts a (l .inv out a) (λ h. absurd (omega (arith, c .loop-test .left))))))

@@ -4,8 +4,11 @@ use mathlib.Core.Path.{refl, sym, _∙_}
 use native.Mathlib.Omega.{arith}
 use borrow.Author.Tests.{eq-eqb, ne-eqb}
 use Rattle.spec.specs.Bytecode.{all}
+use Rattle.rows.proofs.Nodes.{written-order}
 use Rattle.bytecode.specs.Scanned.{here, fine}
-use Rattle.bytecode.proofs.Verdicts.{refusal-small, nested-flat-at, nested-framed, nested-changed, form-marked, judged-refused}
+use Rattle.bytecode.proofs.Flattening.{refusal-small}
+use Rattle.bytecode.proofs.Lists.{around-later}
+use Rattle.bytecode.proofs.Verdicts.{nested-flat-at, nested-around, nested-framed, form-marked, judged-refused}
 use Rattle.bytecode.proofs.scan.nested.Statement.{statement}
 use Rattle.bytecode.proofs.scan.nested.Tie as tie
 
@@ -22,7 +25,7 @@ put-verdict-requires c κs =
     let es = start .pre .0 in
     let out = start .pre .1 in
     let r = un .2 (start .args .form .first) (all (out .0)) (es .0) (nested-flat-at (es .1) (out .1)) .0 in
-    (omega (arith, un .0 .same-length, es .1 .head .leaf-at .row .inside), rw r (refusal-small (start .args .form .first) (all (out .0)) (es .0)), omega arith)
+    (omega (arith, un .0 .same-length, es .1 .head .leaf-at .row .inside), rw r (omega (arith, refusal-small (start .args .form .first) (all (out .0)) (es .0))), omega arith)
 
 returns : tie.Need-returns
 returns c =
@@ -30,9 +33,10 @@ returns c =
     let flat = put .before .before .before .before in
     let start = flat .before .before .before .before .before .before in
     let un = rw (flat .before .flat-from .ensures) at (flat .unflatten .ensures) in (
-      form-marked (start .pre .0 .1) (nested-changed (start .pre .0 .1) (start .pre .1 .1) (un .0)) (put .put-verdict .ensures .0) (put .put-verdict .ensures .2),
-      (λ es out h r. judged-refused _ _ (start .args .form) _ 1 (all out) out es (flat .unflatten .result) (un .2 (start .args .form .first) (all out) es (nested-flat-at h r) .0) (c .if1 .taken)
-          (put .put-verdict .ensures .1 ∙ rw (ne-eqb (flat .unflatten .result) 0 (c .if1 .taken)))),
+      form-marked (start .pre .0 .1) (un .0) (put .put-verdict .ensures .0) (put .put-verdict .ensures .2),
+      (λ es out h r. judged-refused _ _ (start .args .form) _ 1 (all out) out out es (flat .unflatten .result) (un .2 (start .args .form .first) (all out) es (nested-flat-at h r) .0) (c .if1 .taken)
+          (put .put-verdict .ensures .1 ∙ rw (ne-eqb (flat .unflatten .result) 0 (c .if1 .taken)))
+          (around-later _ (written-order _ _ _ _ es (h .fresh .written)) (around-later _ (omega arith) (nested-around h r (un .0) (put .put-verdict .ensures .0))))),
     )
 
 returns-2 : tie.Need-returns-2
@@ -42,12 +46,13 @@ returns-2 c =
     let start = flat .before .before .before .before .before .before in
     let un = rw (flat .before .flat-from .ensures) at (flat .unflatten .ensures) in
     let none = c .if1 .left in (
-      form-marked (start .pre .0 .1) (nested-changed (start .pre .0 .1) (start .pre .1 .1) (un .0)) (put .put-verdict .ensures .0) (put .put-verdict .ensures .2),
+      form-marked (start .pre .0 .1) (un .0) (put .put-verdict .ensures .0) (put .put-verdict .ensures .2),
       (λ es out h r.
           let all-of = un .2 (start .args .form .first) (all out) es (nested-flat-at h r) in
           let z = sym (all-of .0) ∙ none in
           fine _ _ z (put .put-verdict .ensures .1 ∙ rw (eq-eqb (flat .unflatten .result) 0 none)) refl (omega arith)
-          (nested-framed h r (un .0) (un .1) z (all-of .1 none) (put .put-verdict .ensures .0)) (here _)),
+          (nested-framed h r (un .0) (put .put-verdict .ensures .0) (un .1) z (all-of .1 none))
+          (around-later _ (omega arith) (nested-around h r (un .0) (put .put-verdict .ensures .0))) here),
     )
 
 pub nested-spec : {M : Type 1} → statement M

@@ -28,7 +28,7 @@ visit-requires : tie.Need-visit-requires Inv-loop μ-loop
 visit-requires c κs =
     let inv = c .before .before .before .loop .inv in
     let one = inv .left (inv .nodes) (inv .written) in
-    (_, one .frames, one .standing, c .before .if1 .taken)
+    (_, one .frames, one .standing (omega (arith, c .before .if1 .taken)), c .before .if1 .taken)
 
 loop-less : tie.Need-loop-less Inv-loop μ-loop
 loop-less c =
