@@ -1,22 +1,23 @@
 -- What is inside an expression, evaluated first: what is known there, and what the expression leaves when what was inside is finished.
 -- Document 01: "Evaluation goes depth first". Assumes nothing.
-use Prim.Native.Nat.{ℕ, zero, suc, _-_, _<_}
+use Prim.Native.Nat.{ℕ, zero, suc, _<_}
 use mathlib.Core.Path.{_≡_, refl, ap, _∙_}
 use mathlib.Core.List.{List}
-use mathlib.Core.Bool.{Bool}
 use native.Mathlib.Omega.{arith}
 use lib.ListN.{length}
 use Rattle.spec.specs.Expr.{Exprs}
 use Rattle.spec.specs.Nodes.{Node, Nodes, empty, cons, elements}
 use Rattle.spec.specs.Runs.{done, Held, hold}
-use Rattle.spec.specs.Plan.{Scope as Definitions, Within, Here, Finish, as-call, inside, plan}
-use Rattle.spec.specs.Evaluation.{Left, entering, finish, run-code}
+use Rattle.spec.specs.Plan.{Scope as Definitions, Within, Here, Finish, inside, plan}
+use Rattle.spec.specs.Evaluation.{Left, entering, finish, eval, run-code}
 use Rattle.laws.specs.Holding.{and-hold, NotTop, in-list, skip}
 use Rattle.laws.proofs.Singles.{SingleScope, call-single, in-list-single, in-list-pair}
 use Rattle.laws.proofs.Fits.{FitsNodes, elements-fit}
 use Rattle.laws.proofs.Values.{call-sound, in-list-left}
 use Rattle.laws.proofs.Holding.{rule-plan, hold-reached, hold-inside}
 use Rattle.rows.specs.declared.forms.Form.{Form}
+use Rattle.rows.specs.declared.forms.Node.{Node as Ranged}
+use Rattle.rows.proofs.Parts.{element-place}
 use Rattle.workspace.specs.Completed.{with-top, Untouched}
 use Rattle.workspace.specs.declared.values.Out.{Out}
 use Rattle.workspace.specs.declared.values.Out.the-variants.{Done, Refused}
@@ -32,9 +33,9 @@ use Rattle.rules.specs.declared.plan.Making.{Making}
 use Rattle.rules.specs.declared.plan.After.{After}
 use Rattle.rules.specs.declared.plan.After.the-variants.{Make}
 use Rattle.rules.proofs.Shown.{shows-kept, sees-kept}
-use Rattle.evaluator.specs.Listed.{Ready, SomeReady, Over, Met, Answered, LeftOut, LeftBy, GoesInside, as-left, FinishedBy, by-form, by-define, by-concat, Finishable, Finishing, SomeFinishing, EndsBy, by-making, by-calling, Ending, SomeEnding, CanEnd, EndedBy}
+use Rattle.evaluator.specs.Listed.{Ready, SomeReady, Over, Met, Answered, LeftOut, LeftBy, GoesInside, Evaluating, as-left, FinishedBy, by-form, by-define, by-concat, Finishable, Finishing, SomeFinishing, EndsBy, by-making, by-calling, Ending, SomeEnding, CanEnd, EndedBy}
 use Rattle.evaluator.specs.declared.element.Left.{Left as Answer}
-use Rattle.evaluator.proofs.Turns.{sees-in, Going, going-more, held-next, going-fits, row-next}
+use Rattle.evaluator.proofs.Turns.{sees-in}
 
 fits-skip : (bound k : ℕ) (es : Nodes) → FitsNodes bound es → FitsNodes bound (skip k es)
 unfolding skip
@@ -112,17 +113,18 @@ left-from s t w w₁ w₂ see sc sc′ st st₁ (Done st′) u floor same (l, ex
 )
 left-from s t w w₁ w₂ see sc sc′ st st₁ (Refused n r) u floor same l = same ∙ l
 
-module _ {s t : List ℕ} {bound codes : ℕ} {args : List ℕ} {flat : Bool} {end : ℕ} {w₀ w : List ℕ} {v : View} {st₀ st : State} {at : Seen} {row : ℕ} {held : Held Left}
-    (g : Going s t bound codes args flat end w₀ w v st₀ st at row held) (on : row < end) where
-  abbrev head : Node
-  head = going-more g on .head
+module _ {s t : List ℕ} {bound codes : ℕ} {w args : List ℕ} {v : View} {st : State} {at : Seen} {node : Ranged} {row : ℕ} {e : Node} {h : Here}
+    (x : Evaluating s t bound codes w args v st at node row e h) where
+  -- what it answers
+  abbrev whole : Held Left
+  whole = hold (st .steps) (st .room) (eval (run-code codes) e h)
 
-  module _ {w′ : List ℕ} {st′ : State} {f : Form} {after : After} (i : GoesInside s t bound w w′ v (at .scope) st st′ f head (g .here) after) where
+  module _ {w′ : List ℕ} {st′ : State} {f : Form} {after : After} (i : GoesInside s t bound w w′ v (at .scope) st st′ f e h after) where
     abbrev inner-nodes : Nodes
     inner-nodes = skip (i .skipped) (elements (i .becomes))
 
     abbrev inner-here : Here
-    inner-here = entering (i .within) (g .here)
+    inner-here = entering (i .within) h
 
     fits-itself : FitsNodes bound (elements (i .becomes))
     fits-itself = elements-fit bound (i .becomes) (i .taken .fit)
@@ -130,20 +132,20 @@ module _ {s t : List ℕ} {bound codes : ℕ} {args : List ℕ} {flat : Bool} {e
     fits-inside : FitsNodes bound inner-nodes
     fits-inside = fits-skip bound (i .skipped) (elements (i .becomes)) fits-itself
 
-    pub inside-fewer : st′ .steps < st₀ .steps
-    inside-fewer = rw (i .state) (omega (arith, i .taken .fewer, g .fewer))
+    pub inside-fewer : st′ .steps < st .steps
+    inside-fewer = rw (i .state) (omega (arith, i .taken .fewer))
 
     -- what the inside answers
     abbrev inner-held : Held Left
     inner-held = hold (st′ .steps) (st′ .room) (in-list (run-code codes) inner-nodes inner-here)
 
-    held-is : held-next g on ≡ and-hold inner-held (λ left steps work. hold steps work (finish (run-code codes) row (g .here) (i .finish) (left .values)))
+    held-is : whole ≡ and-hold inner-held (λ left steps work. hold steps work (finish (run-code codes) row h (i .finish) (left .values)))
     held-is =
-        i .taken .held (run-code codes) (g .here) (st .room)
-        ∙ ap (hold (i .left) (st .room)) (rule-plan (run-code codes) (g .here) (i .becomes) (i .taken .no-bytecode))
-        ∙ rw (i .plan-is, i .state, i .taken .same-row, row-next g on)
-        (hold-inside (run-code codes) (i .within) (inside-list row (i .finishes) .1) (i .skipped) (elements (i .becomes)) (g .here)
-        (finish (run-code codes) row (g .here) (i .finish)) (i .left) (st .room))
+        i .taken .held (run-code codes) h (st .room)
+        ∙ ap (hold (i .left) (st .room)) (rule-plan (run-code codes) h (i .becomes) (i .taken .no-bytecode))
+        ∙ rw (i .plan-is, i .state, i .taken .same-row, element-place (x .begins .is))
+        (hold-inside (run-code codes) (i .within) (inside-list row (i .finishes) .1) (i .skipped) (elements (i .becomes)) h
+        (finish (run-code codes) row h (i .finish)) (i .left) (st .room))
 
     -- it was evaluated, and its values are to be finished
     module _ (few : length (v .definitions) ≡ at .scope .defined) {w₁ : List ℕ} {st₁ : State} (o : Over w w₁ st′ inner-held st₁) where
@@ -158,55 +160,55 @@ module _ {s t : List ℕ} {bound codes : ℕ} {args : List ℕ} {flat : Bool} {e
 
       finishing : Finishing w₁ st₁ (st .top) (i .finish) (o .left .values)
       finishing =
-          let r = g .ready in
+          let r = x .begins in
           let size = o .others .size in
           record {
             fitting = record { paid = o .paid; below = omega (arith, floor-inside, r .fitting .below); short = omega (arith, r .fitting .short) };
             stand = rw (i .state) at (o .stand);
             sound = in-list-left bound codes inner-nodes inner-here (o .left) fits-inside (r .sound) ends-inside .0;
-            finishable = finishable bound codes (g .here) (o .left) (i .finishes) fits-itself (r .single) ends-inside;
+            finishable = finishable bound codes h (o .left) (i .finishes) fits-itself (x .single) ends-inside;
           }
 
       ends-by : EndsBy s t bound codes w₁ (st .floor) v at after (i .finish)
       ends-by = go (i .finishes) (i .plan-is)
         where
-          kept : {x : After} {body : Nodes} {behind : Definitions} → Called s t w (st .floor) v (at .scope) x body behind → Called s t w₁ (st .floor) v (at .scope) x body behind
+          kept : {a : After} {body : Nodes} {behind : Definitions} → Called s t w (st .floor) v (at .scope) a body behind → Called s t w₁ (st .floor) v (at .scope) a body behind
           kept (calls-function code visible body behind is fewer shows) =
               calls-function code visible body behind is fewer (shows-kept s t w (st .floor) others-inside _ behind shows)
           kept (calls-code first end body behind is shows) = calls-code first end body behind is (shows-kept s t w (st .floor) others-inside _ behind shows)
 
-          go : {x : After} {k : ℕ} {p : Within} {y : Finish} → Finishes s t w (st .floor) v (at .scope) (elements (i .becomes)) x k p y → plan (i .becomes) (g .here) ≡ inside k p y
-              → EndsBy s t bound codes w₁ (st .floor) v at x y
+          go : {a : After} {k : ℕ} {p : Within} {y : Finish} → Finishes s t w (st .floor) v (at .scope) (elements (i .becomes)) a k p y → plan (i .becomes) h ≡ inside k p y
+              → EndsBy s t bound codes w₁ (st .floor) v at a y
           go form-finishes is = by-making _ _ by-form
           go (define-finishes m n fits fewer more) is = by-making _ _ (by-define m n fits (omega (arith, few, fewer)))
           go (concat-finishes more) is = by-making _ _ by-concat
-          go {k = k} {p} (call-finishes x body behind called) is =
-              let sound = call-sound bound (i .becomes) (g .here) k p body behind is (i .taken .fit) (g .ready .sound) in
-              by-calling x body behind (kept called) (record {
+          go {k = k} {p} (call-finishes a body behind called) is =
+              let sound = call-sound bound (i .becomes) h k p body behind is (i .taken .fit) (x .begins .sound) in
+              by-calling a body behind (kept called) (record {
                 fit = sound .0;
                 sound = sound .1;
-                single = call-single bound (i .becomes) (g .here) k p body behind is (g .ready .single);
-                entered = g .ready .entered;
+                single = call-single bound (i .becomes) h k p body behind is (x .single);
+                entered = x .entered;
               })
 
-      ending : Ending s t bound codes w₁ v st₁ at (st .top) after (g .here) (o .left .values) (i .finish)
-      ending = record { by = rw floor-inside ends-by; finishing = finishing; sees = rw floor-inside (sees-kept (g .ready .setting .sees) others-inside) }
+      ending : Ending s t bound codes w₁ v st₁ at (st .top) after h (o .left .values) (i .finish)
+      ending = record { by = rw floor-inside ends-by; finishing = finishing; sees = rw floor-inside (sees-kept (x .begins .setting .sees) others-inside) }
 
     -- the nodes inside are evaluated there, in a list of its kind
-    module _ {v′ : View} {kind : Kind} (same : v′ ≡ v) (e : kind ≡ within-of after) where
+    module _ {v′ : View} {kind : Kind} (same : v′ ≡ v) (q : kind ≡ within-of after) where
       inside-ready : Ready s t bound codes w′ args v′ st′ (in-list-of kind at) (f .flat) (f .first) (f .end) inner-nodes inner-here
       inside-ready =
-          let r = g .ready in
+          let r = x .begins in
           let set = r .setting in
-          rw (same, e, i .same, i .state) (record {
+          rw (same, q, i .same, i .state) (record {
             nodes = i .nodes;
             inside = λ is. inside-list (f .first) (i .finishes) .1;
             setting = record { sees = sees-in (i .within) (set .sees); arguments = set .arguments; element-of = inside-list (f .first) (i .finishes) .0 };
             fitting = record { paid = r .fitting .paid; below = r .fitting .below; short = r .fitting .short };
             fit = fits-inside;
             sound = r .sound;
-            single = r .single;
-            entered = r .entered;
+            single = x .single;
+            entered = x .entered;
           })
 
       pub inside-some : SomeReady s t w′ args v′ st′ (in-list-of kind at) (f .flat) (f .first) (f .end)
@@ -217,27 +219,27 @@ module _ {s t : List ℕ} {bound codes : ℕ} {args : List ℕ} {flat : Bool} {e
         met : Met w w₁ st′ inner-held out
         met = rw (i .same) at (answered bound codes inner-nodes inner-here inside-ready)
 
-        pub inside-steps : steps-of out < st₀ .steps
+        pub inside-steps : steps-of out < st .steps
         inside-steps = go out met
           where
-            go : (x : Out) → Met w w₁ st′ inner-held x → steps-of x < st₀ .steps
+            go : (a : Out) → Met w w₁ st′ inner-held a → steps-of a < st .steps
             go (Done st₁) o = omega (arith, inside-fewer, hold-reached (st′ .steps) (st′ .room) _ (o .left) (st₁ .steps) (st₁ .room) (o .is) .1)
-            go (Refused n r) h = omega (arith, inside-fewer)
+            go (Refused n r) q = omega (arith, inside-fewer)
 
         module _ (few : length (v .definitions) ≡ at .scope .defined) {v₁ : View} (kept : v₁ ≡ v′) where
           pub inside-can-end : CanEnd s t w₁ v₁ at (st .top) after out
           inside-can-end = rw (kept, same) (go out met)
             where
-              go : (x : Out) → Met w w₁ st′ inner-held x → CanEnd s t w₁ v at (st .top) after x
-              go (Done st₁) o = record { bound = bound; codes = codes; here = g .here; values = o .left .values; finish = i .finish; ends = ending few o }
-              go (Refused n r) h = tt
+              go : (a : Out) → Met w w₁ st′ inner-held a → CanEnd s t w₁ v at (st .top) after a
+              go (Done st₁) o = record { bound = bound; codes = codes; here = h; values = o .left .values; finish = i .finish; ends = ending few o }
+              go (Refused n r) q = tt
 
           pub inside-ends : (w₂ : List ℕ) (see : Scope → View) (left : Answer) → EndedBy s t w₁ w₂ v₁ see at (st .top) row after out left
-              → LeftBy s t w w₂ see (at .scope) st (held-next g on) left
+              → LeftBy s t w w₂ see (at .scope) st whole left
           inside-ends w₂ see left ended = go out met (rw (kept, same) at ended)
             where
-              go : (x : Out) → Met w w₁ st′ inner-held x → EndedBy s t w₁ w₂ v see at (st .top) row after x left → LeftBy s t w w₂ see (at .scope) st (held-next g on) left
+              go : (a : Out) → Met w w₁ st′ inner-held a → EndedBy s t w₁ w₂ v see at (st .top) row after a left → LeftBy s t w w₂ see (at .scope) st whole left
               go (Done st₁) o l =
                   left-from s t w w₁ w₂ see (at .scope) (left .scope) st st₁ (left .out) (others-inside few o) (floor-inside few o) (held-is ∙ rw (o .is))
-                  (l bound codes (g .here) (o .left .values) (i .finish) (ending few o))
-              go (Refused n r) h l = rw l (held-is ∙ rw h)
+                  (l bound codes h (o .left .values) (i .finish) (ending few o))
+              go (Refused n r) q l = rw l (held-is ∙ rw q)

@@ -7,7 +7,7 @@ use mathlib.Core.Bool.{Bool, true, false, or-comm}
 use native.Mathlib.Omega.{arith}
 use lib.Dec.{eqb}
 use Rattle.spec.specs.Expr.{some, Exprs, none, append}
-use Rattle.spec.specs.Nodes.{Node, Nodes, empty, cons, row as row-of, markers, markers-all}
+use Rattle.spec.specs.Nodes.{Node, Nodes, empty, cons, markers, markers-all}
 use Rattle.spec.specs.Runs.{Held, reached, ceased, hold}
 use Rattle.spec.specs.Plan.{Within, top, element, inner, Here}
 use Rattle.spec.specs.Evaluation.{Left, entering, eval, run-code}
@@ -20,7 +20,7 @@ use Rattle.laws.proofs.Holding.{and-hold-same, and-hold-twice, hold-reached, ho
 use Rattle.rows.specs.Rows.{next, behind, NodeAt, NodesAt}
 use Rattle.rows.specs.Forms.{element-at, past as past-of}
 use Rattle.rows.specs.declared.forms.Node.{Node as Ranged}
-use Rattle.rows.proofs.Nodes.{MoreAt, append-nodes, markers-append, nodes-done, nodes-more, nodes-append, node-row, node-next-in}
+use Rattle.rows.proofs.Nodes.{MoreAt, append-nodes, markers-append, nodes-done, nodes-more, nodes-append, node-next-in}
 use Rattle.rows.proofs.Parts.{element-is, element-past}
 use Rattle.workspace.specs.Completed.{Stand, with-floor, Untouched}
 use Rattle.workspace.specs.declared.values.State.{State}
@@ -32,7 +32,7 @@ use Rattle.rules.specs.declared.here.Within.{Within as Kind}
 use Rattle.rules.specs.declared.here.Here.{Here as Seen}
 use Rattle.rules.proofs.Borne.{some-append}
 use Rattle.rules.proofs.Shown.{arguments-kept}
-use Rattle.evaluator.specs.Listed.{Ready, SomeReady, Over, LeftAt, Beginning}
+use Rattle.evaluator.specs.Listed.{Ready, SomeReady, Over, LeftAt, Evaluating}
 
 -- Where the next expression is evaluated
 
@@ -132,20 +132,23 @@ module _ {s t : List ℕ} {bound codes : ℕ} {args : List ℕ} {flat : Bool} {e
       fits-next : FitsNode bound (going-more .head) × FitsNodes bound (going-more .rest)
       fits-next = subst (λ (es : Nodes). FitsNodes bound es) (going-more .is) (g .ready .fit)
 
-      pub going-fits : FitsNode bound (going-more .head)
+      going-fits : FitsNode bound (going-more .head)
       going-fits = fits-next .0
 
-      pub row-next : row-of (going-more .head) ≡ row
-      row-next = node-row s t flat row (going-more .head) (going-more .node)
-
-      pub going-begins : {node : Ranged} → node ≡ element-at t flat row → Beginning s t bound w args v st at node row (going-more .head) (g .here)
-      going-begins e = rw e (record {
-        is = element-is s t flat row (going-more .head) (going-more .node);
-        setting = g .ready .setting;
-        fitting = g .ready .fitting;
-        fit = going-fits;
-        sound = g .ready .sound;
-      })
+      pub going-evaluates : {node : Ranged} → node ≡ element-at t flat row → Evaluating s t bound codes w args v st at node row (going-more .head) (g .here)
+      going-evaluates e =
+          let r = g .ready in
+          rw e (record {
+            begins = record {
+              is = element-is s t flat row (going-more .head) (going-more .node);
+              setting = r .setting;
+              fitting = r .fitting;
+              fit = going-fits;
+              sound = r .sound;
+            };
+            single = r .single;
+            entered = r .entered;
+          })
 
       -- where it ends
       pub going-past : {node : Ranged} {past : ℕ} → node ≡ element-at t flat row → past ≡ past-of row node → past ≡ behind t flat row

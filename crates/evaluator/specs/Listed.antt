@@ -143,6 +143,24 @@ pub record SomeBeginning (s t w args : List ℕ) (v : View) (st : State) (at : S
   pub here : Here
   pub begins : Beginning s t bound w args v st at node place expression here
 
+-- it is evaluated as a whole, where so many codes more may be entered
+pub record Evaluating (s t : List ℕ) (bound codes : ℕ) (w args : List ℕ) (v : View) (st : State) (at : Seen) (node : Ranged) (place : ℕ) (e : Node) (h : Here) : Type 0 where
+  pub begins : Beginning s t bound w args v st at node place e h
+  pub single : SingleScope bound (h .scope)
+  pub entered : at .frame .depth + codes ≡ 32
+
+pub record SomeEvaluating (s t w args : List ℕ) (v : View) (st : State) (at : Seen) (node : Ranged) (place : ℕ) : Type 0 where
+  pub bound : ℕ
+  pub codes : ℕ
+  pub expression : Node
+  pub here : Here
+  pub evaluates : Evaluating s t bound codes w args v st at node place expression here
+
+abbrev pub EvaluatedBy : List ℕ → List ℕ → List ℕ → List ℕ → List ℕ → View → (Scope → View) → State → Seen → Ranged → ℕ → Answer → Type 0
+EvaluatedBy s t w w′ args v see st at node place left =
+    (bound codes : ℕ) (e : Node) (h : Here) → Evaluating s t bound codes w args v st at node place e h
+    → LeftBy s t w w′ see (at .scope) st (hold (st .steps) (st .room) (eval (run-code codes) e h)) left
+
 -- what was completed, or refused; nothing more is visible
 abbrev pub as-left : Scope → Out → Answer
 as-left sc out = record { out = out; scope = sc }

@@ -30,24 +30,30 @@ ghost use Rattle.rules.specs.Settings.{Sees};
 ghost use Rattle.evaluator.specs.Listed.{as-left, as-step, LeftBy, Begun, Beginning, SomeBeginning, FinishedBy, Finishing, SomeFinishing, Ran};
 ghost use Rattle.evaluator.specs.Performed.{Performs, SomePerforming, Unfolding, SomeUnfolding, Decided};
 
+// An expression of a list: what it is, and its row.
+pub struct Element {
+    pub node: Node,
+    pub row: usize,
+}
+
 // What an expression leaves: the state or a refusal, and what is visible to what follows.
 pub struct Left {
     pub out: Out,
     pub scope: Scope,
 }
 
-// After an expression's step: a refusal's number and row, or it is done, or a list is to be evaluated first.
+// The values of a form's elements, which stand from `start` up to the top; and the form's row.
+pub struct Values {
+    pub state: State,
+    pub start: usize,
+    pub row: usize,
+}
+
+// After an expression's step: a refusal's number and row, or it is done, or a list is to be evaluated first, and what becomes of its values.
 pub enum Step {
     Refused(u32, usize),
-    Leaves {
-        state: State,
-        scope: Scope,
-    },
-    Inside {
-        state: State,
-        list: Form,
-        after: After,
-    },
+    Leaves { state: State, scope: Scope },
+    Inside(State, Form, After),
 }
 
 // What was completed, where nothing is defined.
@@ -88,8 +94,9 @@ fn perform(
         × (view (now (associations .exit)) (now (definitions .exit)) scope ≡ view (now (associations .entry)) (now (definitions .entry)) scope) ⌝ }
 {
     match task {
-        Task::Inside { list, after } => Step::Inside { state, list, after },
+        Task::Inside { list, after } => Step::Inside(state, list, after),
         Task::Refuse(number) => Step::Refused(number, row),
+        // The contract rules it out: `decided` has unfolded it.
         Task::Unfold(_) => Step::Refused(22, row),
         Task::Own => done(values::own(s, table, w, state, atom, row), scope),
         Task::Again { from, to } => {
@@ -135,13 +142,9 @@ fn row_of(table: &[u32], first: usize, steps: u64) -> usize
     row
 }
 
-// What is to be done, and the state it is done in; `atom` is the row of the expression if it is one. Or a refusal's number and row.
+// A task, with the state before it and the row of the expression if it is an atom. Or a refusal's number and row.
 enum Decision {
-    Task {
-        state: State,
-        task: Task,
-        atom: usize,
-    },
+    Task(State, Task, usize),
     Refused(u32, usize),
 }
 
@@ -165,14 +168,15 @@ fn unfolded(
     if steps < n {
         return Decision::Refused(16, row_of(table, flat.first, steps));
     }
-    Decision::Task {
-        state: state.less(n),
-        task: plan::result(s, table, definitions, here, flat),
-        atom: flat.first,
-    }
+    // The steps first: the other way round, the compiler keeps tasks in memory.
+    Decision::Task(
+        state.less(n),
+        plan::result(s, table, definitions, here, flat),
+        flat.first,
+    )
 }
 
-// What is to be done with the expression at a row, whose step is taken.
+// What is to be done with an expression whose step is taken.
 fn decided(
     s: &[u8],
     table: &[u32],
@@ -181,22 +185,19 @@ fn decided(
     definitions: &[u64; 256],
     here: Here,
     state: State,
-    node: Node,
-    row: usize,
+    e: Element,
 ) -> Decision
-    requires { ⌜ ((w : List ℕ) × (st : State) × (state ≡ stepped st) × (0 < st .steps) × SomeBeginning (now s) (now table) w (now args) (view (now associations) (now definitions) (here .scope)) st here node row) ⌝ }
-    ensures { λ r. ⌜ ((bound : ℕ) (w : List ℕ) (st : State) (e : Expression) (h : Known) → state ≡ stepped st → 0 < st .steps
-        → Beginning (now (s .entry)) (now (table .entry)) bound w (now (args .entry)) (view (now (associations .entry)) (now (definitions .entry)) (here .scope)) st here node row e h
-        → Decided (now (s .entry)) (now (table .entry)) bound w (view (now (associations .entry)) (now (definitions .entry)) (here .scope)) (here .scope) st row e h r) ⌝ }
+    requires { ⌜ ((w : List ℕ) × (st : State) × (state ≡ stepped st) × (0 < st .steps) × SomeBeginning (now s) (now table) w (now args) (view (now associations) (now definitions) (here .scope)) st here (e .node) (e .row)) ⌝ }
+    ensures { λ r. ⌜ ((bound : ℕ) (w : List ℕ) (st : State) (x : Expression) (h : Known) → state ≡ stepped st → 0 < st .steps
+        → Beginning (now (s .entry)) (now (table .entry)) bound w (now (args .entry)) (view (now (associations .entry)) (now (definitions .entry)) (here .scope)) st here (e .node) (e .row) x h
+        → Decided (now (s .entry)) (now (table .entry)) bound w (view (now (associations .entry)) (now (definitions .entry)) (here .scope)) (here .scope) st (e .row) x h r) ⌝ }
 {
+    let node = e.node;
+    let row = e.row;
     let task = plan::plan(s, table, associations, args, definitions, here, node, row);
     match task {
         Task::Unfold(flat) => unfolded(s, table, definitions, here, state, flat),
-        _ => Decision::Task {
-            state,
-            task,
-            atom: row,
-        },
+        _ => Decision::Task(state, task, row),
     }
 }
 
@@ -210,68 +211,58 @@ pub fn begin(
     definitions: &mut [u64; 256],
     here: Here,
     state: State,
-    node: Node,
-    row: usize,
+    e: Element,
 ) -> Step
-    requires { ⌜ SomeBeginning (now s) (now table) (now w) (now args) (view (now associations) (now definitions) (here .scope)) state here node row ⌝ }
-    ensures { λ r. ⌜ ((bound : ℕ) (run : Call) (e : Expression) (h : Known)
-        → Beginning (now (s .entry)) (now (table .entry)) bound (now (w .entry)) (now (args .entry)) (view (now (associations .entry)) (now (definitions .entry)) (here .scope)) state here node row e h
+    requires { ⌜ SomeBeginning (now s) (now table) (now w) (now args) (view (now associations) (now definitions) (here .scope)) state here (e .node) (e .row) ⌝ }
+    ensures { λ r. ⌜ ((bound : ℕ) (run : Call) (x : Expression) (h : Known)
+        → Beginning (now (s .entry)) (now (table .entry)) bound (now (w .entry)) (now (args .entry)) (view (now (associations .entry)) (now (definitions .entry)) (here .scope)) state here (e .node) (e .row) x h
         → Begun (now (s .entry)) (now (table .entry)) bound (now (w .entry)) (now (w .exit)) (view (now (associations .entry)) (now (definitions .entry)) (here .scope))
-        (view (now (associations .exit)) (now (definitions .exit))) (here .scope) state e h (hold (state .steps) (state .room) (eval run e h)) r)
+        (view (now (associations .exit)) (now (definitions .exit))) (here .scope) state x h (hold (state .steps) (state .room) (eval run x h)) r)
         × (view (now (associations .exit)) (now (definitions .exit)) (here .scope) ≡ view (now (associations .entry)) (now (definitions .entry)) (here .scope)) ⌝ }
 {
     let scope = here.scope;
+    let row = e.row;
     match state.step(row) {
         Out::Refused(number, at) => Step::Refused(number, at),
-        Out::Done(stepped) => match decided(
-            s,
-            table,
-            associations,
-            args,
-            definitions,
-            here,
-            stepped,
-            node,
-            row,
-        ) {
-            Decision::Refused(number, at) => Step::Refused(number, at),
-            Decision::Task {
-                state: left,
-                task,
-                atom,
-            } => perform(
-                s,
-                table,
-                w,
-                associations,
-                definitions,
-                scope,
-                left,
-                task,
-                atom,
-                row,
-            ),
-        },
+        Out::Done(stepped) => {
+            let decision = decided(s, table, associations, args, definitions, here, stepped, e);
+            match decision {
+                Decision::Refused(number, at) => Step::Refused(number, at),
+                Decision::Task(left, task, atom) => perform(
+                    s,
+                    table,
+                    w,
+                    associations,
+                    definitions,
+                    scope,
+                    left,
+                    task,
+                    atom,
+                    row,
+                ),
+            }
+        }
     }
 }
 
-// The values of a list, from `start` up to the top, made into what the form at a row leaves.
+// The values of a form's elements made into what the form leaves.
 pub fn finish(
     w: &mut [u8],
     definitions: &mut [u64; 256],
     scope: Scope,
-    state: State,
     making: Making,
-    start: usize,
-    row: usize,
+    values: Values,
 ) -> Left
-    requires { ⌜ SomeFinishing (now w) scope state making start ⌝ }
-    ensures { λ r. ⌜ ((s t numbers : List ℕ) (run : Call) (h : Known) (f : Finish) (vs : Exprs) → FinishedBy scope making f → Finishing (now (w .entry)) state start f vs
-        → Sees s t (now (w .entry)) (state .floor) (view numbers (now (definitions .entry)) scope) h
-        → LeftBy s t (now (w .entry)) (now (w .exit)) (view numbers (now (definitions .exit))) scope (with-top state (state .room) start)
-        (hold (state .steps) (state .room) (finished run row h f vs)) r)
+    requires { ⌜ SomeFinishing (now w) scope (values .state) making (values .start) ⌝ }
+    ensures { λ r. ⌜ ((s t numbers : List ℕ) (run : Call) (h : Known) (f : Finish) (vs : Exprs) → FinishedBy scope making f → Finishing (now (w .entry)) (values .state) (values .start) f vs
+        → Sees s t (now (w .entry)) (values .state .floor) (view numbers (now (definitions .entry)) scope) h
+        → LeftBy s t (now (w .entry)) (now (w .exit)) (view numbers (now (definitions .exit))) scope (with-top (values .state) (values .state .room) (values .start))
+        (hold (values .state .steps) (values .state .room) (finished run (values .row) h f vs)) r)
         × ((numbers : List ℕ) → view numbers (now (definitions .exit)) scope ≡ view numbers (now (definitions .entry)) scope) ⌝ }
 {
+    let state = values.state;
+    let start = values.start;
+    let row = values.row;
     match making {
         Making::Form => leaves(made::wrapped(w, state, start, start, row), scope),
         Making::Concat => leaves(made::joined(w, state, start, row), scope),

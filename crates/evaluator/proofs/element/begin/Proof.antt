@@ -23,13 +23,13 @@ module _ (c : tie.After-stepped) where
   abbrev Begins : ℕ → Node → Here → Type 0
   Begins bound e h =
       let a = start .args in
-      Beginning (a .s .now) (a .table .now) bound (a .w .now) (a .args .now) (view (a .associations .now) (a .definitions .now) (a .here .scope)) (a .state) (a .here) (a .node) (a .row) e h
+      Beginning (a .s .now) (a .table .now) bound (a .w .now) (a .args .now) (view (a .associations .now) (a .definitions .now) (a .here .scope)) (a .state) (a .here) (a .e .node) (a .e .row) e h
 
 -- it is decided what is to be done
 decides : (c : tie.After-decided) → let k = c .before .before .before .before in
     let a = start k .args in
     (bound : ℕ) (e : Node) (h : Here) → Begins k bound e h
-    → Decided (a .s .now) (a .table .now) bound (a .w .now) (view (a .associations .now) (a .definitions .now) (a .here .scope)) (a .here .scope) (a .state) (a .row) e h (c .decided .result)
+    → Decided (a .s .now) (a .table .now) bound (a .w .now) (view (a .associations .now) (a .definitions .now) (a .here .scope)) (a .here .scope) (a .state) (a .e .row) e h (c .decided .result)
 decides c bound e h b =
     let k = c .before .before .before .before in
     c .decided .ensures bound (start k .args .w .now) (start k .args .state) e h (taken k .0) (taken k .1) b
@@ -43,7 +43,7 @@ perform-requires : tie.Need-perform-requires
 perform-requires c κs =
     let d = c .before .before .before .before .before .before in
     let some = start (d .before .before .before .before) .pre in
-    let p = rw (c .before .before .before .before .left .given .1) at (decides d (some .bound) (some .expression) (some .here) (some .begins)) in
+    let p = rw (c .before .before .before .before .decision2 .given .1) at (decides d (some .bound) (some .expression) (some .here) (some .begins)) in
     record {
       bound = some .bound;
       state = _;
@@ -63,13 +63,13 @@ returns c =
 
 -- too few for a flat list
 returns-2 : tie.Need-returns-2
-returns-2 c = (λ bound run e h b. rw (c .before .number2 .given .1) at (decides (c .before .before .before) bound e h b) run, refl)
+returns-2 c = (λ bound run e h b. rw (c .before .decision .given .1) at (decides (c .before .before .before) bound e h b) run, refl)
 
 returns-3 : tie.Need-returns-3
 returns-3 c =
     let perform = c .before .before .perform in (
       λ bound run e h b.
-          let p = rw (c .before .before .before .before .before .before .before .left .given .1) at (decides (c .before .before .before .before .before .before .before .before .before) bound e h b) in
+          let p = rw (c .before .before .before .before .before .before .before .decision2 .given .1) at (decides (c .before .before .before .before .before .before .before .before .before) bound e h b) in
           perform .ensures .0 bound _ (p .0) run e h (p .1) (p .2),
       perform .ensures .1,
     )

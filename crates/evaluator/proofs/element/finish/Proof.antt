@@ -21,28 +21,28 @@ finish-spec =
     (tie.spec
     (λ c. search needs)
     -- `wrapped` asks
-    (λ c κs. let some = c .before .before .before .before .pre in let r = some .finishing in ((r .fitting, omega arith), (some .values, r .stand, r .sound .0)))
+    (λ c κs. let some = c .before .before .before .before .before .pre in let r = some .finishing in ((r .fitting, omega arith), (some .values, r .stand, r .sound .0)))
     (λ c κs. search needs)
     (λ c. search needs)
     -- `joined` asks
     (λ c κs.
-    let some = c .before .before .before .before .pre in
+    let some = c .before .before .before .before .before .pre in
     (some .finishing .fitting, can-join (rw (c .before .enum-told2 .given .1) at (some .by)) (some .finishing)))
     (λ c κs. search needs)
     (λ c. search needs)
     -- `stored` asks
-    (λ c κs. let r = c .before .before .before .before .before .pre .finishing in (r .fitting, r .stand .order))
+    (λ c κs. let r = c .before .before .before .before .before .before .pre .finishing in (r .fitting, r .stand .order))
     -- `pack` asks
     (λ c κs.
     let told = c .before .before .before .before .before in
-    let some = told .before .before .before .pre in
+    let some = told .before .before .before .before .pre in
     let fits = some .finishing .fitting in
     let can = can-define (rw (told .making .given .1) at (some .by)) (some .finishing) in
     (omega (arith, c .before .before .stored .ensures .floor, can .0), omega (arith, fits .below, fits .short)))
     -- `add` asks
     (λ c κs.
     let told = c .before .before .before .before .before .before .before in
-    let some = told .before .before .before .pre in
+    let some = told .before .before .before .before .pre in
     can-define (rw (told .making .given .1) at (some .by)) (some .finishing) .1)
     (λ c κs. search needs)
     (λ c. search needs)
@@ -50,7 +50,7 @@ finish-spec =
     (λ c.
     let wrapped = c .before .before .before .wrapped in
     let told = c .before .before .before .before .before in
-    let row = told .before .before .before .args .row in
+    let row = told .before .before .before .before .args .values .row in
     (rw (c .leaves .ensures, told .enum-told .given .1) (form-finished _ (wrapped .last .0) _ _ _ _ row (wrapped .result) (wrapped .ensures)), λ numbers. refl))
     (λ c. search needs)
     -- a join
