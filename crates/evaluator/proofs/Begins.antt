@@ -1,7 +1,7 @@
 -- Laws of an expression's step: what it leaves when its values are completed, its evaluation by its plan, and what each task leaves.
 -- Document 01: "Steps", and "In one expression: 16, 13, 12, 11, 14, 15, 19 (for define, before its value), its contents, then 6, 17." Assumes nothing.
 use Prim.Native.Nat.{ℕ, _+_, _-_, _≤_, _<_}
-use mathlib.Core.Path.{_≡_, refl, ap, sym, _∙_, subst}
+use mathlib.Core.Path.{_≡_, refl, ap, sym, _∙_}
 use mathlib.Core.List.{List}
 use mathlib.Core.Bool.{false}
 use lib.ListN.{length, getD, set}
@@ -9,7 +9,7 @@ use lib.Dec.{eqb}
 use borrow.Author.Tests.{eqb-true, eqb-false}
 use native.Mathlib.Omega.{arith}
 use Rattle.spec.specs.Expr.{if_then_else_, Atom, atom, form, Exprs, none, only}
-use Rattle.spec.specs.Nodes.{Node, leaf, branch, bytecode, Nodes, Outcome, becomes, row as row-of, unnumbered-all, elements}
+use Rattle.spec.specs.Nodes.{Node, leaf, branch, bytecode, Nodes, Outcome, becomes, unnumbered-all, elements}
 use Rattle.spec.specs.Runs.{Held, ceased, hold}
 use Rattle.spec.specs.Plan.{Definition, Namespace, Within, Here, Finish, Plan, refuse, leave, associate, define-function, inside, plan}
 use Rattle.spec.specs.Evaluation.{Left, add-namespace, add-definition, defining, complete, Call, perform, eval, eval-all}

@@ -11,7 +11,7 @@ use Rattle.spec.specs.Plan.{Here}
 use Rattle.spec.specs.Evaluation.{Call, eval}
 use Rattle.laws.specs.Holding.{NoBytecode}
 use Rattle.laws.proofs.Fits.{FitsNode, becomes-other}
-use Rattle.laws.proofs.Holding.{hold-stop, hold-steps, hold-steps-none, rule-fails, rule-becomes, hold-eval, hold-eval-none}
+use Rattle.laws.proofs.Holding.{hold-stop, hold-steps, hold-steps-none, rule-fails, rule-becomes, hold-eval}
 use Rattle.workspace.specs.declared.values.State.{State}
 use Rattle.evaluator.specs.Listed.{Taken}
 

@@ -1,10 +1,9 @@
 -- `evaluator::element::count` meets its contract: so many rows are passed. Assumes nothing.
-use borrow.Author.Needs.{needs}
 use Prim.Native.Nat.{ℕ, _-_, _≤_}
 use mathlib.Core.List.{List}
 use native.Mathlib.Omega.{arith}
 use Rattle.rows.specs.Rows.{RowsAt}
-use Rattle.rows.proofs.Outcomes.{RowsFrom, NextRow, rows-from, rows-past, rows-left, rows-next}
+use Rattle.rows.proofs.Outcomes.{RowsFrom, rows-from, rows-past, rows-left, rows-next}
 use Rattle.evaluator.proofs.element.count.Statement.{statement}
 use Rattle.evaluator.proofs.element.count.Tie as tie
 
