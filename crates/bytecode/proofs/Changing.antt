@@ -131,8 +131,8 @@ module _ {t t' : List ℕ} {from to : ℕ} (c : Aside t t' from to) where
   pub aside-changed : Changed t t' 0 to
   aside-changed = record { same-length = c .same-length; same-rows = c .same-rows; before = λ r h. absurd (omega arith); behind = c .behind }
 
-  pub plain-kept : (r : ℕ) → r < from → Unlisted t r → Unlisted t' r
-  plain-kept r h p k = let e = c .before r h p in rw (e .0) (p (sym (c .same-rows r .same-kind) ∙ k))
+  pub unlisted-kept : (r : ℕ) → r < from → Unlisted t r → Unlisted t' r
+  unlisted-kept r h p k = let e = c .before r h p in rw (e .0) (p (sym (c .same-rows r .same-kind) ∙ k))
 
   pub aside-wider : (a b : ℕ) → a ≤ from → to ≤ b → Aside t t' a b
   aside-wider a b h g = record {
@@ -156,7 +156,7 @@ module _ {t t' : List ℕ} {from to : ℕ} (c : Aside t t' from to) where
     same-length = d .same-length ∙ c .same-length;
     same-rows = λ r. same-row-then (c .same-rows r) (d .same-rows r);
     before = λ r h p. let e = c .before r h p in
-        let g = d .before r h (plain-kept r h p) in
+        let g = d .before r h (unlisted-kept r h p) in
         (g .0 ∙ e .0, g .1 ∙ e .1);
     behind = λ r h. same-then (c .behind r h) (d .behind r h);
   }

@@ -206,13 +206,13 @@ module _ {s t t' : List ℕ} {row last bit to key : ℕ} {node : ℕ → ℕ} (x
       go : Sought s t 0 key (Vacant last bit) → ⊥
       go (vacant way free) = let m = way-last w way e .1 in omega (arith, m .marked, p (ap (kind t) z ∙ key-kind (m .key)), ap (mark t) z)
 
-  plain-joined : (r : ℕ) → Unlisted t r → (mark t' r ≡ mark t r) × (link t' r ≡ link t r)
-  plain-joined r p = (x .marks r, x .links r (λ e. omega (arith, high, p (ap (kind t) e ∙ key-kind y), ap (mark t) e)) (last-other r p))
+  unlisted-joined : (r : ℕ) → Unlisted t r → (mark t' r ≡ mark t r) × (link t' r ≡ link t r)
+  unlisted-joined r p = (x .marks r, x .links r (λ e. omega (arith, high, p (ap (kind t) e ∙ key-kind y), ap (mark t) e)) (last-other r p))
 
   pub joined-aside : (end : ℕ) → row < end → Aside t t' end end
   joined-aside end l =
       let below = sought-vacant w v in
-      aside-by end (x .changed) (λ r h p. plain-joined r p)
+      aside-by end (x .changed) (λ r h p. unlisted-joined r p)
       (λ r h. (
         x .marks r,
         x .links r (λ e. omega arith) (λ e z. omega (arith, below .1)),
@@ -226,5 +226,5 @@ module _ {s t t' : List ℕ} {row last bit to key : ℕ} {node : ℕ → ℕ} (x
     changed = x .changed;
     nodes = hung-before joined-hung w later;
     marks = λ r k j z h. (rw (x .marks r) h, λ n. x .marks r);
-    plain = λ r j p. plain-joined r p;
+    plain = λ r j p. unlisted-joined r p;
   }

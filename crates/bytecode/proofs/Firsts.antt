@@ -11,14 +11,14 @@ use Rattle.spec.specs.Bytecode.{Operator}
 use Rattle.spec.proofs.Made.{keep}
 use Rattle.spec.proofs.Flat.{Role, operator, operand, role, by-operand, by-operator, operator-leaf, without, foremost, others}
 use Rattle.rows.specs.Rows.{mark, link, next, ReferenceAt, WrittenAt, WrittenAll, is-made, written, form-at}
-use Rattle.rows.specs.Forms.{element-at}
+use Rattle.rows.specs.Forms.{element-at, leads}
 use Rattle.rows.specs.declared.forms.Form.{Form}
 use Rattle.rows.specs.declared.forms.Node.{Node as Ranged}
 use Rattle.rows.specs.declared.forms.Node.the-variants.{Leaf, Branch}
 use Rattle.rows.proofs.Nodes.{written-order, written-row}
 use Rattle.rows.proofs.Parts.{leaf-element, opens-element}
 use Rattle.bytecode.specs.Frames.{operators-in, Frame, Goal, Holds, going-on, inside}
-use Rattle.bytecode.specs.Scanned.{Fresh, leads}
+use Rattle.bytecode.specs.Scanned.{Fresh}
 use Rattle.bytecode.proofs.Changing.{changed-none}
 use Rattle.bytecode.proofs.Flattening.{clash, NoBytecode}
 use Rattle.bytecode.proofs.Goals.{FirstAt, first-at, form-first, goal-form, goal-made}

@@ -9,15 +9,16 @@ use Rattle.spec.specs.Nodes.{Node, branch, Nodes, empty, cons, tail}
 use Rattle.spec.specs.Bytecode.{prefix, prefix*, is-name, Operator, Around, all, Arities, listed, ill-formed, operators}
 use Rattle.spec.proofs.Flat.{by-operand, none-listed, foremost, others as others-in, refusal-any, arity-list}
 use Rattle.rows.specs.Rows.{kind, mark, link, next, WrittenAll, form-at}
+use Rattle.rows.specs.Forms.{leads}
 use Rattle.rows.specs.declared.forms.Form.{Form}
 use Rattle.rows.proofs.Nodes.{written-order}
 use Rattle.bytecode.specs.Numbers.{Changed, Unlisted, Aside}
 use Rattle.bytecode.specs.Named.{Nested}
 use Rattle.bytecode.specs.Gathered.{GatheredAt, beyond}
 use Rattle.bytecode.specs.Frames.{Mode, plain, flat, is-flat, operators-in, Frame, Goal, Holds, going-on, inside}
-use Rattle.bytecode.specs.Scanned.{Descends, here, Nearest, AroundAt, Fresh, leads, Framed, Stacked, Goals, Moved, FormChanged, flat-frame, Judged, refused, fine, Starred}
+use Rattle.bytecode.specs.Scanned.{Descends, here, Nearest, AroundAt, Fresh, Framed, Stacked, Goals, Moved, FormChanged, flat-frame, Judged, refused, fine, Starred}
 use Rattle.bytecode.specs.declared.scan.Scan.{Scan}
-use Rattle.bytecode.proofs.Changing.{changed-then, aside-none, aside-changed, plain-kept, aside-wider, aside-then}
+use Rattle.bytecode.proofs.Changing.{changed-then, aside-none, aside-changed, unlisted-kept, aside-wider, aside-then}
 use Rattle.bytecode.proofs.Lists.{some-around, descends-nested, ends-kept, descends-kept, around-low, around-later, descends-then, nearest-only}
 use Rattle.bytecode.proofs.Flattening.{refusal-small, clash, NoBytecode, Flattens, star, nested}
 use Rattle.bytecode.proofs.Goals.{FirstAt, first-at, goal-done, goal-leaf, goal-ill-formed, goal-refused, goal-fine}
@@ -278,7 +279,7 @@ module _ (s t : List ℕ) (scan : Scan) (list end : ℕ) (fs : List Frame) (few 
           | yes e ↦ rw (← e) (d .before (form .first) past (λ k. small) .1 ∙ c .made (f .made e) ∙ sym (f .made e))
           | no n ↦
               let low : frame .first < form .first = omega (arith, f .low, n) in
-              d .before (frame .first) (omega arith) (plain-kept (c .changed) (frame .first) low plain-first) .1 ∙ c .changed .before (frame .first) low plain-first .1
+              d .before (frame .first) (omega arith) (unlisted-kept (c .changed) (frame .first) low plain-first) .1 ∙ c .changed .before (frame .first) low plain-first .1
         ]
 
         changed-on : Changed t u 0 end

@@ -18,7 +18,7 @@ use Rattle.bytecode.specs.Named.{role-of, role-by, role-at, KeyAt, Membe
 use Rattle.bytecode.specs.declared.tree.Place.the-variants.{Taken, Vacant}
 use Rattle.bytecode.specs.declared.arities.Role.{Role}
 use Rattle.bytecode.specs.declared.arities.Role.the-variants.{Operator as As, Operand}
-use Rattle.bytecode.proofs.Changing.{changed-none, changed-back, aside-none, aside-changed, aside-then, plain-kept}
+use Rattle.bytecode.proofs.Changing.{changed-none, changed-back, aside-none, aside-changed, aside-then, unlisted-kept}
 use Rattle.bytecode.proofs.Roles.{role-append}
 use Rattle.bytecode.proofs.Named.{role-some, role-operator, role-at-same, key-same, key-kind, key-kept, tree-found, tree-kept, sought-some, sought-found, adding, adding-new, adding-others, Hung, tree-hung, hung-before}
 use Rattle.bytecode.proofs.Arounds.{reference-kept, nested-kept, nested-begins, Inner, nested-inner}
@@ -281,8 +281,8 @@ module _ {s t : List ℕ} {list : ℕ} {os : List Operator} {around : Around} (g
         inside = omega (arith, on, g .inside, c .same-length);
         low = g .lists .low;
         begins = omega (arith, on, begins);
-        head = plain-kept (e .aside) (list - 1) (omega (arith, begins)) (g .head);
-        form = plain-kept (e .aside) list begins (g .form);
+        head = unlisted-kept (e .aside) (list - 1) (omega (arith, begins)) (g .head);
+        form = unlisted-kept (e .aside) list begins (g .form);
       }
 
 -- Leaving

@@ -13,18 +13,18 @@ use Rattle.spec.specs.Nodes.{Nodes, cons, tail}
 use Rattle.spec.specs.Bytecode.{prefix, prefix*, Around, all}
 use Rattle.spec.proofs.Flat.{arity-list}
 use Rattle.rows.specs.Rows.{WrittenAll}
-use Rattle.rows.specs.Forms.{element-at}
+use Rattle.rows.specs.Forms.{element-at, HeadAt, leads}
 use Rattle.rows.specs.declared.forms.Form.{Form}
 use Rattle.rows.specs.declared.forms.Node.{Node as Ranged}
 use Rattle.rows.specs.declared.forms.Node.the-variants.{Leaf, Branch}
 use Rattle.rows.proofs.Nodes.{written-whole}
-use Rattle.rows.proofs.Parts.{form-unflat}
+use Rattle.rows.proofs.Parts.{form-unflat, written-head}
 use Rattle.bytecode.specs.Frames.{Frame}
-use Rattle.bytecode.specs.Scanned.{Nearest, HeadedAt, Enclosed, leads, HeadKey, Standing, Moved, Judged, Starred, FormChanged}
+use Rattle.bytecode.specs.Scanned.{Nearest, HeadedAt, Enclosed, Standing, Moved, Judged, Starred, FormChanged}
 use Rattle.bytecode.specs.declared.scan.Scan.{Scan}
 use Rattle.bytecode.proofs.Lists.{none-around, around-later}
 use Rattle.bytecode.proofs.Flattening.{NoBytecode}
-use Rattle.bytecode.proofs.Heads.{no-bytecode}
+use Rattle.bytecode.proofs.Heads.{HeadKey, no-bytecode}
 use Rattle.bytecode.proofs.Firsts.{AtomAt, FormAt, View, an-atom, a-form, view}
 use Rattle.bytecode.proofs.Scanned.{here-at, Found, found-here, row-order, form-ends, form-low, visited-atom, visited-plain, visited-star, visited-nested}
 
@@ -55,8 +55,10 @@ module _ (s t : List ℕ) (scan : Scan) (near end : ℕ) (fs : List Frame) (few 
         go : View s t (here .frame) (here .first) (here .others) (Branch form) → FormAt s t (here .frame) (here .first) (here .others) form
         go (a-form f a) = a
 
-    pub form-flat : form .flat ≡ false
-    form-flat = ap (λ (x : Form). x .flat) (form-here .form-is) ∙ form-unflat s t true (here .frame .first)
+    pub form-head : HeadAt s t form (form-here .elements)
+    form-head =
+        let unflat : form .flat ≡ false = ap (λ (x : Form). x .flat) (form-here .form-is) ∙ form-unflat s t true (here .frame .first) in
+        written-head s t form unflat (form-here .elements) (form-here .written)
 
     ends : form .end ≤ here .frame .end
     ends = form-ends s t scan near end fs few here form form-here

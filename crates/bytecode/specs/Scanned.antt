@@ -2,11 +2,11 @@
 use Prim.Native.Nat.{ℕ, suc, _+_, _-_, _≤_, _<_}
 use mathlib.Core.Path.{_≡_}
 use mathlib.Core.List.{List, [], _∷_}
-use mathlib.Core.Bool.{Bool, true, false}
+use mathlib.Core.Bool.{true}
 use lib.Dec.{eqb}
 use Rattle.spec.specs.Expr.{if_then_else_}
-use Rattle.spec.specs.Nodes.{Node, Nodes, empty, cons, tail}
-use Rattle.spec.specs.Bytecode.{prefix, prefix*, is-name, Operator, Around, listed, ill-formed, Arities, nodes-deepest}
+use Rattle.spec.specs.Nodes.{Node, Nodes, tail}
+use Rattle.spec.specs.Bytecode.{prefix*, is-name, Operator, Around, listed, ill-formed, Arities, nodes-deepest}
 use Rattle.spec.proofs.Flat.{refusal}
 use Rattle.rows.specs.Rows.{cell, kind, mark, link, next, ReferenceAt, WrittenAt, WrittenAll}
 use Rattle.rows.specs.declared.forms.Form.{Form}
@@ -59,16 +59,6 @@ pub record HeadedAt (s t : List ℕ) (form : Form) (es : Nodes) : Type 0 where
 pub record Enclosed (s t : List ℕ) (form : Form) (list : ℕ) (around : Around) : Type 0 where
   pub lists : AroundAt s t (form .first) list around
   pub lasts : 0 < list → form .end ≤ link t (list - 1)
-
--- whether these elements are headed by a core name
-abbrev pub leads : ℕ → Nodes → Bool
-leads n empty = false
-leads n (cons e es) = is-name n e
-
--- a key tells whether it is `prefix*`, and whether it is `prefix`
-pub record HeadKey (key : ℕ) (es : Nodes) : Type 0 where
-  pub star : eqb key 0x2031 ≡ leads prefix* es
-  pub nested : eqb key 0x2030 ≡ leads prefix es
 
 -- the flat list of a form, from a row on
 abbrev pub flat-frame : Form → ℕ → List Operator → Nodes → Around → ℕ → Frame

@@ -13,10 +13,9 @@ ghost use mathlib.Core.Bool.{true, false, not};
 ghost use Prim.Native.Nat.{ℕ, _+_, _≤_, _<_};
 ghost use Rattle.spec.specs.Expr.{if_then_else_};
 ghost use Rattle.spec.specs.Nodes.{Node as Expression, Nodes};
-ghost use Rattle.spec.specs.Bytecode.{Operator as Listed, led-by-name, short};
+ghost use Rattle.spec.specs.Bytecode.{Operator as Listed, short};
 ghost use Rattle.spec.proofs.Flat.{refusal};
 ghost use Rattle.rows.specs.Rows.{WrittenAll};
-ghost use Rattle.rows.specs.Forms.{HeadAt, SomeHead};
 ghost use Rattle.bytecode.specs.Numbers.{Changed};
 ghost use Rattle.bytecode.specs.Gathered.{SameMarks, beyond, lacks, GatheredAt, FlatAt, IsPiece, judged};
 
@@ -65,17 +64,6 @@ fn gather(s: &[u8], table: &mut [u32], arities: Arities, flat: Form) -> bool
     true
 }
 
-// Whether a form is headed by a function name or a bytecode name.
-fn is_led_by_name(s: &[u8], table: &[u32], form: Form) -> bool
-    requires { ⌜ SomeHead (now s) (now table) form ⌝ }
-    ensures { λ r. ⌜ ((es : Nodes) → HeadAt (now (s .entry)) (now (table .entry)) form es → r ≡ led-by-name es) ⌝ }
-{
-    if form.is_named(table) {
-        return Core::is_reserved(table::key(s, table, form.first));
-    }
-    false
-}
-
 // The refusal that a result is given; 0 if none.
 fn judge(s: &[u8], table: &[u32], result: Node) -> u32
     requires { ⌜ ((e : Expression) × IsPiece (now s) (now table) result e) ⌝ }
@@ -84,7 +72,7 @@ fn judge(s: &[u8], table: &[u32], result: Node) -> u32
     match result {
         Node::Leaf => 0,
         Node::Branch(form) => {
-            if is_led_by_name(s, table, form) {
+            if Core::is_reserved(form.head_key(s, table)) {
                 return 22;
             }
             if heights::is_deep(table, form) {

@@ -12,7 +12,7 @@ use rows::table;
 use rows::words::Core;
 ghost use mathlib.Core.Path.{_≡_};
 ghost use mathlib.Core.List.{List};
-ghost use mathlib.Core.Bool.{true, false};
+ghost use mathlib.Core.Bool.{false};
 ghost use Prim.Native.Nat.{ℕ, _+_, _*_, _≤_, _<_};
 ghost use lib.ListN.{length};
 ghost use lib.Dec.{eqb};
@@ -24,7 +24,7 @@ ghost use Rattle.spec.proofs.Flat.{arity-list};
 ghost use Rattle.rows.specs.Rows.{mark, link, WrittenAll, NodesAt};
 ghost use Rattle.bytecode.specs.Numbers.{Changed};
 ghost use Rattle.bytecode.specs.Frames.{Frame};
-ghost use Rattle.bytecode.specs.Scanned.{AroundAt, Nearest, HeadedAt, Enclosed, HeadKey, Standing, Moved, StarRefusal, Judged, Starred, FormChanged, Readable};
+ghost use Rattle.bytecode.specs.Scanned.{AroundAt, Nearest, HeadedAt, Enclosed, Standing, Moved, StarRefusal, Judged, Starred, FormChanged, Readable};
 
 // The row that comes next, and the arity list of the nearest `prefix*` form around it; 0 if there is none.
 struct Scan {
@@ -123,17 +123,6 @@ fn nearest(s: &[u8], table: &mut [u32], around: usize, row: usize) -> usize
     0
 }
 
-// The key of a form's head; 0 if no reference heads it.
-fn head_key(s: &[u8], table: &[u32], form: Form) -> u32
-    requires { ⌜ (form .flat ≡ false) × ((es : Nodes) × WrittenAll (now s) (now table) (form .first) (form .end) es) ⌝ }
-    ensures { λ r. ⌜ ((es : Nodes) → WrittenAll (now (s .entry)) (now (table .entry)) (form .first) (form .end) es → HeadKey r es) ⌝ }
-{
-    if form.is_named(table) {
-        return table::key(s, table, form.first);
-    }
-    0
-}
-
 // The expression at a row.
 fn visit(s: &[u8], table: &mut [u32], scan: Scan) -> Scan
     requires { ⌜ ((end : ℕ) × (fs : List Frame) × Standing (now s) (now table) scan end fs × (scan .row < end)) ⌝ }
@@ -149,7 +138,7 @@ fn visit(s: &[u8], table: &mut [u32], scan: Scan) -> Scan
     match forms::element(table, true, row) {
         Node::Leaf => inside,
         Node::Branch(form) => {
-            let key = head_key(s, table, form);
+            let key = form.head_key(s, table);
             if key == Core::PREFIX_STAR {
                 return star(s, table, form, around);
             }

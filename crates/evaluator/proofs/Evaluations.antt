@@ -6,13 +6,12 @@ use mathlib.Core.List.{List, [], _∷_, _++_}
 use mathlib.Core.Bool.{Bool, true, false, not, _&&_}
 use lib.ListN.{length, take, drop, length-append, length-take, take-append-drop}
 use lib.Seq.{take-append-le}
-use lib.Dec.{eqb}
 use borrow.Author.Tests.{not-false}
 use native.Mathlib.Decide.{decLt}
 use native.Mathlib.Omega.{arith}
-use Rattle.spec.specs.Expr.{if_then_else_, same, nil, array, int, ref, Expr, atom, form, Exprs, none, more, if-ref, rows, rows-all, depth, deepest, marker-bytes, canonical}
+use Rattle.spec.specs.Expr.{if_then_else_, same, int, ref, Expr, atom, form, Exprs, none, more, rows, rows-all, depth, deepest, marker-bytes, canonical}
 use Rattle.spec.specs.Reading.{Row, row-width, readable}
-use Rattle.spec.specs.Nodes.{core, version, Node, leaf, branch, bytecode, Nodes, empty, cons, number, number-all, elements, markers-all}
+use Rattle.spec.specs.Nodes.{core, version, Node, bytecode, Nodes, empty, number, number-all, elements, markers-all}
 use Rattle.spec.specs.Bytecode.{node-depth, nodes-deepest, transform-all}
 use Rattle.spec.specs.Runs.{End, stopped, give, Held, reached, ceased, hold-events, hold, forget, cut, steps-in}
 use Rattle.spec.specs.Evaluation.{Left, run-code, start, run, result}
@@ -26,14 +25,12 @@ use Rattle.laws.proofs.Reading.{read-readable, read-first, Meant, meant}
 use Rattle.laws.proofs.Values.{stream-fits, run-proper}
 use Rattle.laws.proofs.Holding.{hold-bind, hold-reached, hold-ceased-row, hold-run}
 use Rattle.laws.proofs.Calls.{unversioned, wrong-version, runs, evaluation-answered, cut-refused, not-accepted, rows-fit, filled-length}
-use Rattle.rows.specs.Rows.{cell, start as start-of, next, LeafAt, WrittenAt, WrittenAll, NodeAt, NodesAt, led-by-reference, key-of}
-use Rattle.rows.specs.Forms.{IsElement, an-atom}
+use Rattle.rows.specs.Rows.{cell, start as start-of, next, WrittenAt, WrittenAll, NodeAt, NodesAt}
+use Rattle.rows.specs.Forms.{leads, IsElement, an-atom}
 use Rattle.rows.specs.declared.forms.Node.the-variants.{Leaf}
-use Rattle.rows.proofs.Nodes.{leaf-fits, written-whole, nodes-first}
+use Rattle.rows.proofs.Nodes.{written-whole, nodes-first}
 use Rattle.rows.proofs.Written.{written-each}
 use Rattle.rows.proofs.Filled.{filled-starts, filled-written, filled-plain, filled-nodes}
-use Rattle.rows.proofs.Keys.{key-test}
-use Rattle.rows.proofs.Parts.{LedBy}
 use Rattle.rows.proofs.Same.{same-equal}
 use Rattle.workspace.specs.declared.values.State.{State}
 use Rattle.workspace.specs.declared.values.Out.{Out}
@@ -49,14 +46,7 @@ use Rattle.evaluator.specs.declared.Result.the-variants.{Is, Refused}
 
 -- The first expression
 
--- whether a form's elements are headed by `version`
-abbrev pub versioned : Nodes → Bool
-versioned empty = false
-versioned (cons (leaf r a) es) = if-ref a (λ m n. eqb m core && eqb n version) false
-versioned (cons (branch r fs) es) = false
-versioned (cons (bytecode r fs o) es) = false
-
-first-versioned : (e : Expr) (es : Exprs) → versioned (elements (number 0 e)) ≡ is-versioned (more e es)
+first-versioned : (e : Expr) (es : Exprs) → leads version (elements (number 0 e)) ≡ is-versioned (more e es)
 unfolding number
 first-versioned (atom a) es = refl
 first-versioned (form none) es = refl
@@ -70,27 +60,13 @@ module _ (s u : List ℕ) (n : ℕ) where
   versioned-none (more e es) at h = absurd (omega (arith, nodes-first s u false 0 n (number 0 e) (number-all (0 + rows e) es) at .0))
 
   pub versioned-first : (es : Exprs) → NodesAt s u false 0 n (number-all 0 es) → 0 < n
-      → (head : Node) × NodeAt s u false 0 head × (versioned (elements head) ≡ is-versioned es)
+      → (head : Node) × NodeAt s u false 0 head × (leads version (elements head) ≡ is-versioned es)
   unfolding number NodeAt
   versioned-first none at h = absurd (omega (arith, at))
   versioned-first (more e es) at h = (number 0 e, nodes-first s u false 0 n (number 0 e) (number-all (0 + rows e) es) at .1, first-versioned e es)
 
-pub versioned-leaf : {s u : List ℕ} {r : ℕ} {e : Node} → IsElement s u r Leaf e → false ≡ versioned (elements e)
+pub versioned-leaf : {s u : List ℕ} {r : ℕ} {e : Node} → IsElement s u r Leaf e → false ≡ leads version (elements e)
 versioned-leaf (an-atom a l) = refl
-
-pub versioned-unled : (es : Nodes) → false ≡ led-by-reference es → false ≡ versioned es
-versioned-unled empty h = refl
-versioned-unled (cons (leaf r nil) es) h = refl
-versioned-unled (cons (leaf r (array bs)) es) h = refl
-versioned-unled (cons (leaf r (int v)) es) h = refl
-versioned-unled (cons (leaf r (ref m n)) es) h = impossible (cc)
-versioned-unled (cons (branch r fs) es) h = refl
-versioned-unled (cons (bytecode r fs o) es) h = refl
-
-pub versioned-led : {s u : List ℕ} {r : ℕ} {es : Nodes} (k : ℕ) → Bytes s → LedBy s u r es → ((m n : ℕ) → LeafAt s u r (ref m n) → k ≡ key-of m n)
-    → eqb k (key-of core version) ≡ versioned es
-versioned-led k b l is =
-    rw (l .is, is (l .marker) (l .name) (l .here)) (key-test (l .marker) (l .name) core version (leaf-fits b (l .here) .2) (omega arith))
 
 -- The version form
 

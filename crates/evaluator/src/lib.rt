@@ -51,12 +51,7 @@ fn is_versioned(s: &[u8], table: &[u32], rows: usize) -> bool
     }
     match forms::at(table, 0) {
         Node::Leaf => false,
-        Node::Branch(form) => {
-            if !form.is_named(table) {
-                return false;
-            }
-            table::key(s, table, form.first) == Core::VERSION
-        }
+        Node::Branch(form) => form.head_key(s, table) == Core::VERSION,
     }
 }
 

@@ -8,18 +8,18 @@ use lib.Dec.{ltb, leb, eqb}
 use borrow.Author.Tests.{leb-true, leb-false, lt-ltb, le-ltb, ne-eqb}
 use native.Mathlib.Omega.{arith}
 use Rattle.spec.specs.Expr.{if_then_else_, some, Atom, nil, array, int, ref}
-use Rattle.spec.specs.Nodes.{plain, is, Node, leaf, branch, bytecode, Nodes, empty, cons, Outcome, fails, becomes, row, elements, head-word}
+use Rattle.spec.specs.Nodes.{core, word, plain, is, Node, leaf, branch, bytecode, Nodes, empty, cons, Outcome, fails, becomes, row, elements, head-word}
 use Rattle.spec.specs.Bytecode.{led-by-name}
 use Rattle.laws.specs.Demands.{Bytes}
 use Rattle.laws.proofs.Basics.{impossible}
 use Rattle.rows.specs.Rows.{kind, mark, link, next, LeafAt, WrittenAt, WrittenAll, is-made, behind, written, form-at, Opens, led-by-reference, NodeAt, NodesAt, OutcomeAt, parts-of, key-of}
-use Rattle.rows.specs.Forms.{reserved, element-at, past, is-named, HeadInside, HeadAt, IsElement, an-atom, a-form, a-bytecode}
+use Rattle.rows.specs.Forms.{reserved, element-at, past, is-named, HeadInside, HeadAt, head-key, leads, IsElement, an-atom, a-form, a-bytecode}
 use Rattle.rows.specs.declared.forms.Form.{Form}
 use Rattle.rows.specs.declared.forms.Node.{Node as Ranged}
 use Rattle.rows.specs.declared.forms.Node.the-variants.{Leaf, Branch}
 use Rattle.rows.specs.declared.forms.Parts.{Parts}
 use Rattle.rows.proofs.Nodes.{kind-ref, no-form, leaf-kind, leaf-fits, opens-whole, written-more, written-whole, written-leaf, nodes-first, node-row, kind-leaf}
-use Rattle.rows.proofs.Keys.{word-of, word-again, reserved-again}
+use Rattle.rows.proofs.Keys.{word-of, word-again, key-test, reserved-again}
 
 -- References
 
@@ -61,25 +61,18 @@ pub record LedBy (s t : List ℕ) (r : ℕ) (es : Nodes) : Type 0 where
   pub is : es ≡ cons (leaf place (ref marker name)) rest
   pub here : LeafAt s t r (ref marker name)
 
--- one that is none
-pub unled : (es : Nodes) → false ≡ led-by-reference es → plain ≡ head-word es
-unled empty h = refl
-unled (cons (leaf q nil) es) h = refl
-unled (cons (leaf q (array bs)) es) h = refl
-unled (cons (leaf q (int v)) es) h = refl
-unled (cons (leaf q (ref m n)) es) h = impossible (cc)
-unled (cons (branch q fs) es) h = refl
-unled (cons (bytecode q fs o) es) h = refl
+-- its key, and that of one that is none
+pub led-key : {s t : List ℕ} {r : ℕ} {es : Nodes} → LedBy s t r es → (k : ℕ) → ((m n : ℕ) → LeafAt s t r (ref m n) → k ≡ key-of m n) → k ≡ head-key es
+led-key l k f = f (l .marker) (l .name) (l .here) ∙ sym (ap head-key (l .is))
 
-pub unled-named : (es : Nodes) → false ≡ led-by-reference es → false ≡ led-by-name es
-unfolding some
-unled-named empty h = refl
-unled-named (cons (leaf q nil) es) h = refl
-unled-named (cons (leaf q (array bs)) es) h = refl
-unled-named (cons (leaf q (int v)) es) h = refl
-unled-named (cons (leaf q (ref m n)) es) h = impossible (cc)
-unled-named (cons (branch q fs) es) h = refl
-unled-named (cons (bytecode q fs o) es) h = refl
+pub unled-key : (es : Nodes) → false ≡ led-by-reference es → 0 ≡ head-key es
+unled-key empty h = refl
+unled-key (cons (leaf q nil) es) h = refl
+unled-key (cons (leaf q (array bs)) es) h = refl
+unled-key (cons (leaf q (int v)) es) h = refl
+unled-key (cons (leaf q (ref m n)) es) h = impossible (cc)
+unled-key (cons (branch q fs) es) h = refl
+unled-key (cons (bytecode q fs o) es) h = refl
 
 pub unnamed-kind : (t : List ℕ) (f : Form) → (kind t (f .first) ≡ 4 → ⊥) → is-named t f ≡ false
 unnamed-kind t f h = rw (ne-eqb (kind t (f .first)) 4 h) (and-false (ltb (f .first) (f .end) && not (is-made t (f .flat) (f .first))))
@@ -144,13 +137,37 @@ module _ (s t : List ℕ) (f : Form) where
   outcome-marked place (fails w) h = omega (arith, h .0, h .1)
   outcome-marked place (becomes rows e) h = h .0
 
--- its word, and whether it is a name, by what is the key of every reference there
-module _ {s t : List ℕ} {r : ℕ} {es : Nodes} (b : Bytes s) (l : LedBy s t r es) (k : ℕ) (f : (m n : ℕ) → LeafAt s t r (ref m n) → k ≡ key-of m n) where
-  pub led-word : word-of k ≡ head-word es
-  led-word = rw (l .is, f (l .marker) (l .name) (l .here)) (word-again (l .marker) (l .name) (leaf-fits b (l .here) .2))
+-- what a head's key tells: its word, whether it is a function name or a bytecode name, and which core name it is
+module _ (s t : List ℕ) (f : Form) (b : Bytes s) where
+  pub head-worded : (es : Nodes) → HeadAt s t f es → word-of (head-key es) ≡ head-word es
+  unfolding HeadAt word
+  head-worded empty h = refl
+  head-worded (cons (leaf q nil) es) h = refl
+  head-worded (cons (leaf q (array bs)) es) h = refl
+  head-worded (cons (leaf q (int v)) es) h = refl
+  head-worded (cons (leaf q (ref m n)) es) h = word-again m n (leaf-fits b (h .2) .2)
+  head-worded (cons (branch q fs) es) h = refl
+  head-worded (cons (bytecode q fs o) es) h = refl
 
-  pub led-named : reserved k ≡ led-by-name es
-  led-named = rw (l .is, f (l .marker) (l .name) (l .here)) (reserved-again (l .place) (l .marker) (l .name) (l .rest) (leaf-fits b (l .here) .2))
+  pub head-reserved : (es : Nodes) → HeadAt s t f es → reserved (head-key es) ≡ led-by-name es
+  unfolding HeadAt word some
+  head-reserved empty h = refl
+  head-reserved (cons (leaf q nil) es) h = refl
+  head-reserved (cons (leaf q (array bs)) es) h = refl
+  head-reserved (cons (leaf q (int v)) es) h = refl
+  head-reserved (cons (leaf q (ref m n)) es) h = reserved-again q m n es (leaf-fits b (h .2) .2)
+  head-reserved (cons (branch q fs) es) h = refl
+  head-reserved (cons (bytecode q fs o) es) h = refl
+
+  pub head-core : (k : ℕ) → k < 256 → (es : Nodes) → HeadAt s t f es → eqb (head-key es) (key-of core k) ≡ leads k es
+  unfolding HeadAt
+  head-core k l empty h = ne-eqb 0 (key-of core k) (λ e. omega arith)
+  head-core k l (cons (leaf q nil) es) h = ne-eqb 0 (key-of core k) (λ e. omega arith)
+  head-core k l (cons (leaf q (array bs)) es) h = ne-eqb 0 (key-of core k) (λ e. omega arith)
+  head-core k l (cons (leaf q (int v)) es) h = ne-eqb 0 (key-of core k) (λ e. omega arith)
+  head-core k l (cons (leaf q (ref m n)) es) h = key-test m n core k (leaf-fits b (h .2) .2) l
+  head-core k l (cons (branch q fs) es) h = ne-eqb 0 (key-of core k) (λ e. omega arith)
+  head-core k l (cons (bytecode q fs o) es) h = ne-eqb 0 (key-of core k) (λ e. omega arith)
 
 -- nodes led by a reference
 pub record LedAt (s t : List ℕ) (flat : Bool) (r end : ℕ) (es : Nodes) : Type 0 where

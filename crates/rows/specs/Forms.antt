@@ -5,11 +5,11 @@ use mathlib.Core.List.{List}
 use mathlib.Core.Bool.{Bool, true, false, not, _&&_, _||_}
 use lib.ListN.{length}
 use lib.Dec.{eqb, ltb}
-use Rattle.spec.specs.Expr.{if_then_else_, some, Atom}
+use Rattle.spec.specs.Expr.{if_then_else_, some, Atom, if-ref}
 use Rattle.spec.specs.Reading.{row-width}
 use Rattle.spec.specs.Nodes.{core, Word, ns, define, concat, subst, arg, rest, plain, is, word, Node, leaf, branch, bytecode, Nodes, empty, cons, Outcome, head-word}
-use Rattle.spec.specs.Bytecode.{bytecode-names}
-use Rattle.rows.specs.Rows.{kind, LeafAt, WrittenAll, is-made, written, form-at, single, NodesAt, led-by-reference, Unmarked, OutcomeAt}
+use Rattle.spec.specs.Bytecode.{bytecode-names, is-name}
+use Rattle.rows.specs.Rows.{kind, LeafAt, WrittenAll, is-made, written, form-at, single, NodesAt, led-by-reference, Unmarked, OutcomeAt, key-of}
 use Rattle.rows.specs.declared.words.Word.{Word as Coded}
 use Rattle.rows.specs.declared.words.Word.the-variants.{Ns, Define, Concat, Subst, Arg, Rest, Plain}
 use Rattle.rows.specs.declared.forms.Form.{Form}
@@ -71,6 +71,18 @@ HeadAt s t f (cons (bytecode q fs o) es) = (f .first < f .end) × HeadInside t f
 pub record SomeHead (s t : List ℕ) (f : Form) : Type 0 where
   pub nodes : Nodes
   pub at : HeadAt s t f nodes
+
+-- the key of the reference that heads a form, 0 if none does
+abbrev pub head-key : Nodes → ℕ
+head-key empty = 0
+head-key (cons (leaf r a) es) = if-ref a key-of 0
+head-key (cons (branch r fs) es) = 0
+head-key (cons (bytecode r fs o) es) = 0
+
+-- whether a form is headed by a core name
+abbrev pub leads : ℕ → Nodes → Bool
+leads n empty = false
+leads n (cons e es) = is-name n e
 
 -- the code's node is the definition's: the element at a row of a list
 pub data IsElement (s t : List ℕ) (r : ℕ) : Ranged → Node → Type 0 where

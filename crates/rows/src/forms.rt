@@ -13,7 +13,7 @@ ghost use Rattle.spec.specs.Reading.{row-width};
 ghost use Rattle.spec.specs.Nodes.{Node as Expression, Nodes, elements, head-word};
 ghost use Rattle.spec.specs.Evaluation.{one-value};
 ghost use Rattle.rows.specs.Rows.{is-made, behind, written, NodeAt, NodesAt, parts-of};
-ghost use Rattle.rows.specs.Forms.{meant, starting-at, flattened, element-at, past, result-at, is-named, HeadInside, HeadAt, SomeHead};
+ghost use Rattle.rows.specs.Forms.{meant, starting-at, flattened, element-at, past, result-at, is-named, HeadInside, HeadAt, SomeHead, head-key};
 
 // The elements of a form: those from row `first` up to row `end`. In a flat list operators stand for the forms that are made of them and their
 // operands.
@@ -190,15 +190,23 @@ impl Form {
         !is_made(table, self.flat, self.first)
     }
 
+    // The key of the reference that heads the form; 0 if none does.
+    pub fn head_key(self, s: &[u8], table: &[u32]) -> u32
+        requires { ⌜ SomeHead (now s) (now table) self ⌝ }
+        ensures { λ r. ⌜ ((es : Nodes) → HeadAt (now (s .entry)) (now (table .entry)) self es → r ≡ head-key es) ⌝ }
+    {
+        if self.is_named(table) {
+            return table::key(s, table, self.first);
+        }
+        0
+    }
+
     // The word that heads the form; plain if no reference does.
     pub fn word(self, s: &[u8], table: &[u32]) -> Word
         requires { ⌜ SomeHead (now s) (now table) self ⌝ }
         ensures { λ r. ⌜ ((es : Nodes) → HeadAt (now (s .entry)) (now (table .entry)) self es → meant r ≡ head-word es) ⌝ }
     {
-        if self.is_named(table) {
-            return Core::word(table::key(s, table, self.first));
-        }
-        Word::Plain
+        Core::word(self.head_key(s, table))
     }
 
     // The elements behind the head.

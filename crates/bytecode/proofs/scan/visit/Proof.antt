@@ -1,10 +1,11 @@
 -- `bytecode::scan::visit` meets its contract, by what the code finds (`proofs/Visits.antt`). Assumes nothing.
 use borrow.Author.Needs.{needs}
-use Prim.Native.Nat.{ℕ, _<_}
+use Prim.Native.Nat.{ℕ, _≤_, _<_}
 use mathlib.Core.Path.{_≡_, sym, _∙_}
 use mathlib.Core.List.{List}
 use mathlib.Core.Bool.{true}
 use native.Mathlib.Omega.{arith}
+use Rattle.laws.proofs.Steps.{all-bytes}
 use Rattle.rows.specs.Forms.{element-at}
 use Rattle.rows.specs.declared.forms.Node.the-variants.{Branch}
 use Rattle.spec.specs.Nodes.{tail}
@@ -12,8 +13,9 @@ use Rattle.bytecode.specs.Frames.{Frame}
 use Rattle.bytecode.specs.Numbers.{Aside}
 use Rattle.bytecode.specs.Scanned.{Standing, Moved}
 use Rattle.bytecode.specs.declared.scan.Scan.{Scan}
+use Rattle.bytecode.proofs.Heads.{HeadKey, key-told}
 use Rattle.bytecode.proofs.Scanned.{Found, moved-then}
-use Rattle.bytecode.proofs.Visits.{found, row-whole, form-here, form-flat, headed-star, headed-nested, visit-atom, enclosed, visit-other, visit-outside, visit-star, visit-nested}
+use Rattle.bytecode.proofs.Visits.{found, row-whole, form-here, form-head, headed-star, headed-nested, visit-atom, enclosed, visit-other, visit-outside, visit-star, visit-nested}
 use Rattle.bytecode.proofs.scan.visit.Statement.{statement}
 use Rattle.bytecode.proofs.scan.visit.Tie as tie
 
@@ -56,8 +58,18 @@ head-key-requires c κs =
     let form = c .before .before in
     let few = start (near form) .pre .2 .few in
     let h = asked (near form) in
-    let f = form-here _ _ (start (near form) .args .scan) _ _ _ few h _ (seen form) in
-    (form-flat _ _ (start (near form) .args .scan) _ _ _ few h _ (seen form), (f .elements, f .written))
+    record { nodes = form-here _ _ (start (near form) .args .scan) _ _ _ few h _ (seen form) .elements; at = form-head _ _ (start (near form) .args .scan) _ _ _ few h _ (seen form) }
+
+-- what the key of its head tells
+told : {end : ℕ} {fs : List Frame} (c : tie.After-head-key) → let form = c .before .before .before in let n = near form in (few : end ≤ 65536)
+    (h : Found (start n .args .s .now) (n .nearest .last .1 .0) (start n .args .scan .row) (n .nearest .result) end fs)
+    → HeadKey (c .head-key .result) (form-here _ _ (start n .args .scan) _ _ _ few h _ (seen form) .elements)
+told c few h =
+    let form = c .before .before .before in
+    let n = near form in
+    let known = n .before .before .before in
+    let head = form-head _ _ (start n .args .scan) _ _ _ few h _ (seen form) in
+    key-told _ _ _ (all-bytes (known .before .args .s .now) (λ i. known .shared-slice-known .given i .fits)) _ head _ (c .head-key .ensures _ head)
 
 star-requires : tie.Need-star-requires
 star-requires c κs =
@@ -66,7 +78,7 @@ star-requires c κs =
     let few = start (near form) .pre .2 .few in
     let h = asked (near form) in
     let f = form-here _ _ (start (near form) .args .scan) _ _ _ few h _ (seen form) in (
-      (tail (f .elements), headed-star _ _ (start (near form) .args .scan) _ _ _ few h _ (seen form) _ (key .head-key .ensures (f .elements) (f .written)) (c .before .if1 .taken)),
+      (tail (f .elements), headed-star _ _ (start (near form) .args .scan) _ _ _ few h _ (seen form) _ (told key few h) (c .before .if1 .taken)),
       (h .frame .around, enclosed _ _ (start (near form) .args .scan) _ _ _ few h _ (seen form)),
     )
 
@@ -76,7 +88,7 @@ returns c end fs k l =
     let form = c .before .before .before .before .before .before .before .before in
     let h = at (near form) end fs k l in
     let f = form-here _ _ (start (near form) .args .scan) _ _ _ (k .few) h _ (seen form) in
-    let head = key .head-key .ensures (f .elements) (f .written) in
+    let head = told key (k .few) h in
     let star = c .before .before .star .ensures in
     let taken = c .before .before .before .before .if1 .taken in
     then (near form) l (visit-star _ _ (start (near form) .args .scan) _ _ _ (k .few) h _ (seen form) _ head (star .0) taken
@@ -87,14 +99,14 @@ returns-2 c end fs k l =
     let form = c .before .before .before .before .before in
     let h = at (near form) end fs k l in
     let f = form-here _ _ (start (near form) .args .scan) _ _ _ (k .few) h _ (seen form) in
-    then (near form) l (visit-other _ _ (start (near form) .args .scan) _ _ _ (k .few) h _ (seen form) _ (c .before .before .head-key .ensures (f .elements) (f .written)) (c .before .if1 .left) (c .if2 .taken))
+    then (near form) l (visit-other _ _ (start (near form) .args .scan) _ _ _ (k .few) h _ (seen form) _ (told (c .before .before) (k .few) h) (c .before .if1 .left) (c .if2 .taken))
 
 returns-3 : tie.Need-returns-3
 returns-3 c end fs k l =
     let form = c .before .before .before .before .before .before in
     let h = at (near form) end fs k l in
     let f = form-here _ _ (start (near form) .args .scan) _ _ _ (k .few) h _ (seen form) in
-    then (near form) l (visit-outside _ _ (start (near form) .args .scan) _ _ _ (k .few) h _ (seen form) _ (c .before .before .before .head-key .ensures (f .elements) (f .written)) (c .before .before .if1 .left) (c .if3 .taken))
+    then (near form) l (visit-outside _ _ (start (near form) .args .scan) _ _ _ (k .few) h _ (seen form) _ (told (c .before .before .before) (k .few) h) (c .before .before .if1 .left) (c .if3 .taken))
 
 nested-requires : tie.Need-nested-requires
 nested-requires c κs =
@@ -103,7 +115,7 @@ nested-requires c κs =
     let few = start (near form) .pre .2 .few in
     let h = asked (near form) in
     let f = form-here _ _ (start (near form) .args .scan) _ _ _ few h _ (seen form) in (
-      (tail (f .elements), headed-nested _ _ (start (near form) .args .scan) _ _ _ few h _ (seen form) _ (key .head-key .ensures (f .elements) (f .written)) (c .before .before .if2 .left)),
+      (tail (f .elements), headed-nested _ _ (start (near form) .args .scan) _ _ _ few h _ (seen form) _ (told key few h) (c .before .before .if2 .left)),
       (h .frame .around, enclosed _ _ (start (near form) .args .scan) _ _ _ few h _ (seen form)),
     )
 
@@ -118,7 +130,7 @@ returns-5 c end fs k l =
     let form = c .before .before .before .before .before .before .before .before .before .before in
     let h = at (near form) end fs k l in
     let f = form-here _ _ (start (near form) .args .scan) _ _ _ (k .few) h _ (seen form) in
-    let head = key .head-key .ensures (f .elements) (f .written) in
+    let head = told key (k .few) h in
     let nested = c .before .before .nested .ensures in
     let is = c .before .before .before .before .before .if2 .left in
     then (near form) l (visit-nested _ _ (start (near form) .args .scan) _ _ _ (k .few) h _ (seen form) _ head (nested .0) (c .before .before .before .before .before .before .if1 .left) is (c .before .before .before .before .if3 .left)
