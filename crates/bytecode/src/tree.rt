@@ -1,4 +1,4 @@
-// Trees of references by the bits of their keys, the lowest first, so that one is found in at most as many turns as a key has bits. The second
+// Trees of references by the bits of their keys, the lowest first, so that a search has at most one turn more than a key has bits. The second
 // child of a row is the first reference of its tree; a reference's children lead to those with a bit of 0 and of 1.
 use crate::numbers;
 use rows::table;
