@@ -10,8 +10,9 @@ use Rattle.spec.specs.Runs.{hold-events, steps-in}
 use Rattle.spec.specs.Plan.{look-up, plan-form, plan-atom}
 use Rattle.spec.specs.Evaluation.{join, in-order, rule, run-code, top-level, run, result}
 use Rattle.spec.specs.Calls.{Answer, put-out, run-answer, Read, Write, Evaluate, Buffer, Part, item, Item}
+use Rattle.spec.specs.Backlog.{streams, some-below, last-end, is-23, in-turn, Backlogged, Backlog}
 
--- A call. Every buffer but a stream is given by its length, and holds EE before.
+-- A call. Every buffer but those of streams and of ends is given by its length, and holds EE before.
 pub data Request : Type 0 where
   -- stream, table
   reads : List ℕ → ℕ → Request
@@ -27,12 +28,18 @@ pub data Request : Type 0 where
   fills : List ℕ → ℕ → ℕ → ℕ → ℕ → Request
   -- stream, result, which, k
   items : List ℕ → List ℕ → Buffer → ℕ → Request
+  -- streams, ends, table, workspace, output, steps, answers: the answers and the output that Backlog leaves
+  backlogs : List ℕ → List ℕ → ℕ → ℕ → ℕ → ℕ → ℕ → Request
+  -- the same: the answers and the table that it leaves
+  backlog-fills : List ℕ → List ℕ → ℕ → ℕ → ℕ → ℕ → ℕ → Request
 
 pub data Told : Type 0 where
   -- number, place, rows or length, steps; and afterwards the table or the output
   told : ℕ → ℕ → ℕ → ℕ → List ℕ → Told
   meaning : Exprs → Told
   item-is : Part → Told
+  -- number, place, total length; and afterwards the answers, and the output or the table
+  told-each : ℕ → ℕ → ℕ → List ℕ → List ℕ → Told
 
 infix 5 _gives_
 pub data Case : Type 0 where
@@ -47,6 +54,12 @@ with-table a = told (a .number) (a .place) (a .given) (a .steps) (a .table)
 abbrev pub with-output : Answer → Told
 with-output a = told (a .number) (a .place) (a .given) (a .steps) (a .output)
 
+abbrev pub each-with-table : Backlogged → Told
+each-with-table b = told-each (b .own .number) (b .own .place) (b .own .given) (b .answers) (b .own .table)
+
+abbrev pub each-with-output : Backlogged → Told
+each-with-output b = told-each (b .own .number) (b .own .place) (b .own .given) (b .answers) (b .own .output)
+
 abbrev pub meant : Reading → Told
 meant (refused w p) = told w p 0 0 []
 meant (readable rows es) = meaning es
@@ -59,6 +72,8 @@ answer (evaluates s w o n) = with-output (Evaluate s (before 4200) w (before o) 
 answer (rewrites s t o) = with-table (Write s (before t) (before o))
 answer (fills s t w o n) = with-table (Evaluate s (before t) w (before o) n)
 answer (items s r b k) = item-is (Item s r b k)
+answer (backlogs s es t w o n a) = each-with-output (Backlog s es (before t) w (before o) n (before a))
+answer (backlog-fills s es t w o n a) = each-with-table (Backlog s es (before t) w (before o) n (before a))
 
 abbrev pub asked : Case → Told
 asked (q gives a) = answer q
@@ -68,7 +83,7 @@ expected (q gives a) = a
 
 -- all that a table's answers are computed by
 unfoldable pub answers : List Case → List Told
-unfolding same some append size first without rows depth array-head marker-bytes atom-bytes bytes take-bytes natural plain-length length-expr marker name read-atom token tokens check lists ends rows-of next-row numbers read among word number unnumbered markers if-listed series arities all short node-depth nodes transformed-all gathered linked transform hold-events steps-in look-up plan-form plan-atom join in-order rule run-code top-level run result put-out run-answer Read Write Evaluate item Item
+unfolding same some append size first without rows depth array-head marker-bytes atom-bytes bytes take-bytes natural plain-length length-expr marker name read-atom token tokens check lists ends rows-of next-row numbers read among word number unnumbered markers if-listed series arities all short node-depth nodes transformed-all gathered linked transform hold-events steps-in look-up plan-form plan-atom join in-order rule run-code top-level run result put-out run-answer Read Write Evaluate item Item streams some-below last-end is-23 in-turn Backlog
 answers cases = map asked cases
 
 -- Parts of answers and of streams

@@ -6,3 +6,4 @@ pub mod Runs
 pub mod Plan
 pub mod Evaluation
 pub mod Calls
+pub mod Backlog
