@@ -4,7 +4,7 @@ use mathlib.Core.Path.{_≡_, refl, ap}
 use mathlib.Core.List.{List, []}
 use mathlib.Core.Bool.{Bool, true, false, not}
 use lib.ListN.{length, take, drop, length-append, length-drop}
-use lib.Seq.{take-append-seam}
+use lib.Seq.{take-append-seam, drop-append-seam}
 use lib.Dec.{ltb}
 use borrow.Author.Tests.{ltb-true, ltb-false, le-ltb}
 use native.Mathlib.Omega.{arith}
@@ -78,10 +78,10 @@ module _ {s t o : List ℕ} {W : List Row → Exprs → ℕ → ℕ → Type 0} 
   put-answers rs es e w a (fits l) = accepts rs es e a l
 
   pub answers-kept : {a : Answer} → Answers s t o W A a → Kept t o a
-  answers-kept (not-read v p e) = record { tables = refl; outputs = refl; refused = λ z. refl }
-  answers-kept (refuses rs es e w) = record { tables = filled-length s t rs es e; outputs = refl; refused = λ z. refl }
+  answers-kept (not-read v p e) = record { tables = refl; outputs = refl; past = refl; refused = λ z. refl }
+  answers-kept (refuses rs es e w) = record { tables = filled-length s t rs es e; outputs = refl; past = refl; refused = λ z. refl }
   answers-kept (accepts {bs} rs es e w room) =
-      record { tables = filled-length s t rs es e; outputs = over-length bs o room; refused = λ z. absurd (z refl) }
+      record { tables = filled-length s t rs es e; outputs = over-length bs o room; past = drop-append-seam bs (drop (length bs) o); refused = λ z. absurd (z refl) }
 
   -- no more bytes are given than the output has
   pub answers-fit : {a : Answer} → Answers s t o W A a → a .given ≤ length o

@@ -22,3 +22,4 @@ pub mod Calls
 pub mod Retry
 pub mod Count
 pub mod Theorems
+pub mod Backlogs

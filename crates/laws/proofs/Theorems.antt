@@ -54,8 +54,8 @@ evaluation-table s l = answers-table (evaluation-answers s l)
 
 pub read-keeps : (s t : List ℕ) → Kept t [] (Read s t)
 read-keeps s t =
-    read-cases (Kept t []) s t (λ v p e. record { tables = refl; outputs = refl; refused = λ z. refl })
-    (λ rs es e. record { tables = filled-length s t rs es e; outputs = refl; refused = λ z. refl })
+    read-cases (Kept t []) s t (λ v p e. record { tables = refl; outputs = refl; past = refl; refused = λ z. refl })
+    (λ rs es e. record { tables = filled-length s t rs es e; outputs = refl; past = refl; refused = λ z. refl })
 
 pub write-keeps : (s t o : List ℕ) → Kept t o (Write s t o)
 write-keeps s t o = answers-kept (write-answers s t o)
@@ -273,7 +273,7 @@ read-contents s t t′ h = rw (reads-same s t t′ h) (go (reading s t))
 
 -- "The count is always the one that document 01 defines, never above the steps given."
 
-pub count : (s : List ℕ) (l : Lent) → Bytes s → Counted s l
+pub count : (s : List ℕ) (l : Lent) → Bytes s → Counted s l (evaluation s l)
 count s l b = record {
   accepted = λ h. taken h ∙ ran-all-steps s l (ran s l b h);
   of-run = λ h. taken h ∙ ap (λ (es : Exprs). steps-in (run es .events)) (ran-means s l b h);

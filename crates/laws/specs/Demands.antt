@@ -3,7 +3,7 @@ use Prim.Native.Nat.{ℕ, _-_, _*_, _≤_, _<_, min}
 use mathlib.Core.Path.{_≡_}
 use mathlib.Core.List.{List, [], _∷_, _++_, map}
 use mathlib.Core.Bool.{not}
-use lib.ListN.{length, take}
+use lib.ListN.{length, take, drop}
 use lib.Dec.{ltb}
 use Rattle.spec.specs.Expr.{if_then_else_, same, Exprs, size, first, canonical}
 use Rattle.spec.specs.Reading.{tokens, meaning, rows-of, row-width, Reading, refused, readable, read}
@@ -21,11 +21,12 @@ pub record Begins (s front : List ℕ) : Type 0 where
   pub back : List ℕ
   pub is : s ≡ front ++ back
 
--- "the output buffer is then unchanged": an answer to a call with this table and output leaves both as long as they were, and on a refusal
--- the output as it was
+-- "the output buffer is then unchanged": an answer to a call with this table and output leaves both as long as they were, past the bytes
+-- given the output as it was, and on a refusal all of it
 pub record Kept (table output : List ℕ) (a : Answer) : Type 0 where
   pub tables : length (a .table) ≡ length table
   pub outputs : length (a .output) ≡ length output
+  pub past : drop (a .given) (a .output) ≡ drop (a .given) output
   pub refused : (a .number ≡ 0 → ⊥) → a .output ≡ output
 
 -- what a stream is evaluated with; of the workspace its length
@@ -133,12 +134,13 @@ step-places s table work = step-places-once-read s work (reading s table)
 abbrev pub all-steps : List ℕ → Lent → List ℕ
 all-steps s l = step-places s (l .table) (l .work)
 
--- "The count is always the one that document 01 defines, never above the steps given": "the steps taken on acceptance, else zero"
-pub record Counted (s : List ℕ) (l : Lent) : Type 0 where
-  pub accepted : evaluation s l .number ≡ 0 → evaluation s l .steps ≡ length (all-steps s l)
-  pub of-run : evaluation s l .number ≡ 0 → evaluation s l .steps ≡ steps-in (run (meaning-of s) .events)
-  pub refused : (evaluation s l .number ≡ 0 → ⊥) → evaluation s l .steps ≡ 0
-  pub bounded : evaluation s l .steps ≤ l .steps
+-- "The count is always the one that document 01 defines, never above the steps given": "the steps taken on acceptance, else zero"; of an
+-- answer to the evaluation of a stream
+pub record Counted (s : List ℕ) (l : Lent) (a : Answer) : Type 0 where
+  pub accepted : a .number ≡ 0 → a .steps ≡ length (all-steps s l)
+  pub of-run : a .number ≡ 0 → a .steps ≡ steps-in (run (meaning-of s) .events)
+  pub refused : (a .number ≡ 0 → ⊥) → a .steps ≡ 0
+  pub bounded : a .steps ≤ l .steps
 
 -- "these give the same bytes in both, and the result bytes of every run that accepts either stream begin with them"
 pub record SamePrefix (q : ℕ) (s t : List ℕ) : Type 0 where

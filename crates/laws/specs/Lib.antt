@@ -1,4 +1,5 @@
 pub mod Demands
+pub mod Backlogs
 pub mod Grammar
 pub mod Holding
 pub mod Sanity
