@@ -36,10 +36,10 @@ evaluate-call s t w o steps r t′ o′ h = record { answer = r; table = t′; o
 
 -- What a call answers is decided by the definition's number, place, length and count.
 
-abbrev given-by : Answer → Given
+abbrev pub given-by : Answer → Given
 given-by a = if eqb (a .number) 0 then Accepted (a .given) else Refused (a .number) (a .place)
 
-abbrev evaluation-by : Answer → Evaluation
+abbrev pub evaluation-by : Answer → Evaluation
 evaluation-by a = if eqb (a .number) 0 then Result (a .given) (a .steps) else Refusal (a .number) (a .place)
 
 given-decided : (r : Given) (t o : List ℕ) → Numbered r → r ≡ given-by (stated r t o)
@@ -51,14 +51,14 @@ evaluation-decided (Result n k) t o h = refl
 evaluation-decided (Refusal w p) t o h = rw (ne-eqb w 0 (λ e. omega arith))
 
 module _ {a : Answer} (x : Call a) where
-  decided : x .answer ≡ given-by a
+  pub decided : x .answer ≡ given-by a
   decided = given-decided (x .answer) (x .table) (x .output) (x .told .numbered) ∙ ap given-by (x .told .is)
 
   accepted-as : (n : ℕ) → x .answer ≡ Accepted n → acceptance n 0 (x .table) (x .output) ≡ a
   accepted-as n h = rw h at (x .told .is)
 
 module _ {s : List ℕ} {l : Lent} (x : EvaluateCall s l) where
-  decided-evaluation : x .answer ≡ evaluation-by (evaluation s l)
+  pub decided-evaluation : x .answer ≡ evaluation-by (evaluation s l)
   decided-evaluation = evaluation-decided (x .answer) (x .table) (x .output) (x .told .numbered) ∙ ap evaluation-by (x .told .is)
 
   result-as : (n k : ℕ) → x .answer ≡ Result n k → acceptance n k (x .table) (x .output) ≡ evaluation s l
@@ -144,10 +144,10 @@ write-same s s′ t t′ o o′ b b′ x y n n′ a a′ =
     rw (written-bytes s t o x n a, written-bytes s′ t′ o′ y n′ a′) (laws.write-same s s′ t t′ o o′ b b′ (is-written s t o x n a) (is-written s′ t′ o′ y n′ a′))
 
 module _ (s : List ℕ) (l : Lent) (x : EvaluateCall s l) (n k : ℕ) (accepted : x .answer ≡ Result n k) where
-  is-accepted : evaluation s l .number ≡ 0
+  pub is-accepted : evaluation s l .number ≡ 0
   is-accepted = is-zero n k (x .table) (x .output) (result-as x n k accepted)
 
-  left-bytes : take n (x .output) ≡ result-bytes (evaluation s l)
+  pub left-bytes : take n (x .output) ≡ result-bytes (evaluation s l)
   left-bytes = ap result-bytes (result-as x n k accepted)
 
   -- What `evaluate` leaves in the output, as many bytes as it gives, is the canonical stream of the values left.

@@ -6,6 +6,7 @@ use mathlib.Core.List.{List, []}
 use lib.ListN.{length, take, drop}
 use denote.Ref.{RefT}
 use Rattle.spec.specs.Calls.{Answer, refusal, acceptance, Buffer, of-stream, of-result, Part, part, no-part, chosen}
+use Rattle.spec.specs.Backlog.{four-numbers, Backlogged}
 use Rattle.bulk.specs.declared.Answer.{Answer as Given}
 use Rattle.bulk.specs.declared.Answer.the-variants.{Accepted, Refused}
 use Rattle.bulk.specs.declared.Evaluation.{Evaluation}
@@ -44,6 +45,19 @@ NumberedEvaluation (Refusal number place) = 1 ≤ number
 pub record AnsweredEvaluation (a : Answer) (r : Evaluation) (table output : List ℕ) : Type 0 where
   pub is : stated-evaluation r table output ≡ a
   pub numbered : NumberedEvaluation r
+
+-- the four numbers that a backlog gives for a stream that `evaluate` answers so
+abbrev pub told-numbers : Evaluation → List ℕ
+told-numbers r = four-numbers (stated-evaluation r [] [])
+
+-- the length of its result
+abbrev pub told-length : Evaluation → ℕ
+told-length r = stated-evaluation r [] [] .given
+
+-- Backlog has answered as the definition does, and left that list of answers
+pub record AnsweredBacklog (a : Backlogged) (r : Given) (table output answers : List ℕ) : Type 0 where
+  pub own : Answered (a .own) r table output
+  pub list : answers ≡ a .answers
 
 -- "which of the two"
 abbrev pub asked : Which → Buffer

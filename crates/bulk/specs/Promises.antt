@@ -1,6 +1,6 @@
 -- The words in which the demands are stated of the public calls. A call stands here as its contract has it: the code's answer, and table and
 -- output afterwards, that have answered as the definition does. Assumes nothing.
-use Prim.Native.Nat.{ℕ, _≤_}
+use Prim.Native.Nat.{ℕ, _≤_, _<_}
 use mathlib.Core.Path.{_≡_}
 use mathlib.Core.List.{List}
 use lib.ListN.{length, take}
@@ -9,8 +9,10 @@ use Rattle.spec.specs.Expr.{Exprs, size}
 use Rattle.spec.specs.Reading.{Row, refused, readable, read}
 use Rattle.spec.specs.Calls.{Answer, Item}
 use Rattle.laws.specs.Demands.{Begins, Lent, evaluation, bytes-of-first}
-use Rattle.bulk.specs.Answers.{Answered, AnsweredEvaluation, asked, PartItself}
+use Rattle.laws.specs.Backlogs.{Night, backlog, stream-at, left-by-lengths, said-of}
+use Rattle.bulk.specs.Answers.{Answered, AnsweredEvaluation, AnsweredBacklog, asked, PartItself}
 use Rattle.bulk.specs.declared.Answer.{Answer as Given}
+use Rattle.bulk.specs.declared.Answer.the-variants.{Accepted}
 use Rattle.bulk.specs.declared.Buffer.{Buffer as Which}
 use Rattle.bulk.specs.declared.Evaluation.{Evaluation}
 use Rattle.bulk.specs.declared.Evaluation.the-variants.{Accepted as Result, Refused as Refusal}
@@ -28,6 +30,38 @@ pub record EvaluateCall (s : List ℕ) (l : Lent) : Type 0 where
   pub table : List ℕ
   pub output : List ℕ
   pub told : AnsweredEvaluation (evaluation s l) answer table output
+
+-- a call of `backlog` with what it was given
+pub record BacklogCall (n : Night) : Type 0 where
+  pub answer : Given
+  pub table : List ℕ
+  pub output : List ℕ
+  pub answers : List ℕ
+  pub told : AnsweredBacklog (backlog n) answer table output answers
+
+-- what a call says of stream i
+abbrev pub said-by : {n : Night} → BacklogCall n → ℕ → Answer
+said-by x i = said-of (x .answers) (x .table) (x .output) i
+
+-- a stream of a backlog in which 23 didn't arise
+pub record InBacklog (n : Night) : Type 0 where
+  pub call : BacklogCall n
+  pub total : ℕ
+  pub accepts : call .answer ≡ Accepted total
+  pub i : ℕ
+  pub there : i < length (n .ends)
+
+module _ {n : Night} (x : InBacklog n) where
+  abbrev pub stream-of : List ℕ
+  stream-of = stream-at n (x .i)
+
+  -- "with the output left to it", as the list of answers tells
+  abbrev pub lent-to : Lent
+  lent-to = left-by-lengths n (x .call .answers) (x .i)
+
+  -- what the call says of it
+  abbrev pub said-in : Answer
+  said-in = said-by (x .call) (x .i)
 
 -- a call of `item` with two lent buffers, and the part that it gave
 pub record ItemCall (stream result : RefT (List ℕ)) (which : Which) (k : ℕ) : Type 0 where

@@ -1,16 +1,18 @@
-// The public calls: document 01, "The calls" and "How much the contracts must say". Each answers for every input, asks nothing of its caller, and
-// assumes nothing.
+// The public calls: document 01, "The calls" and "How much the contracts must say", and document 02, §2. Each answers for every input, asks nothing of
+// its caller, and assumes nothing.
 use evaluator::Result;
 use reader::Checked;
 use reader::Found;
 ghost use mathlib.Core.Path.{_≡_};
-ghost use mathlib.Core.List.{List, []};
-ghost use Prim.Native.Nat.{ℕ};
+ghost use mathlib.Core.List.{List, [], _∷_};
+ghost use Prim.Native.Nat.{ℕ, _+_, _*_, _≤_};
 ghost use lib.ListN.{length};
+ghost use lib.Seq.{sets};
 ghost use denote.Ref.{RefT};
 ghost use Rattle.spec.specs.Reading.{read};
 ghost use Rattle.spec.specs.Calls.{Read, Write, Evaluate, Item, Buffer as Chosen, item-read};
-ghost use Rattle.bulk.specs.Answers.{Answered, AnsweredEvaluation, asked, of-buffer, lent, PartItself};
+ghost use Rattle.spec.specs.Backlog.{misplaced, answer-width, Backlog};
+ghost use Rattle.bulk.specs.Answers.{Answered, AnsweredEvaluation, AnsweredBacklog, told-numbers, told-length, asked, of-buffer, lent, PartItself};
 
 // The bytes of the longest stream.
 pub const STREAM_LIMIT: usize = reader::STREAM_LIMIT;
@@ -24,7 +26,10 @@ pub const TABLE_LIMIT: usize = ROW_WIDTH * STREAM_LIMIT;
 // The bytes that count of a workspace: no result is longer.
 pub const WORKSPACE_LIMIT: usize = evaluator::WORKSPACE_LIMIT;
 
-// What Read and Write answer: the number of rows or the length, or a refusal's number and place.
+// The numbers that a backlog gives for a stream: number, place, length and steps.
+pub const ANSWER_WIDTH: usize = 4;
+
+// What Read, Write and Backlog answer: the number of rows or the length, or a refusal's number and place.
 pub enum Answer {
     Accepted { given: usize },
     Refused { number: u32, place: usize },
@@ -123,6 +128,97 @@ pub fn evaluate(
             }
         }
     }
+}
+
+// Whether an end is below the one before, or the last is not the length.
+fn misplaced(ends: &[u64], length: usize) -> bool
+    ensures { λ r. ⌜ r ≡ misplaced (now (ends .entry)) length ⌝ }
+{
+    let mut before: u64 = 0;
+    let mut i: usize = 0;
+    while i < ends.len() {
+        if ends[i] < before {
+            return true;
+        }
+        before = ends[i];
+        i += 1;
+    }
+    before != length as u64
+}
+
+// Stores two numbers, from a place on.
+fn put(numbers: &mut [u64], at: usize, first: u64, second: u64)
+    requires { ⌜ at + 2 ≤ length (now numbers) ⌝ }
+    ensures { λ _. ⌜ now (numbers .exit) ≡ sets (now (numbers .entry)) at (first ∷ second ∷ []) ⌝ }
+{
+    numbers[at] = first;
+    numbers[at + 1] = second;
+}
+
+// Stores number, place, length and steps of a stream's answer. Gives the length.
+fn store(answers: &mut [u64], stream: usize, answer: Evaluation) -> usize
+    requires { ⌜ answer-width * stream + answer-width ≤ length (now answers) ⌝ }
+    ensures { λ r. ⌜ (now (answers .exit) ≡ sets (now (answers .entry)) (answer-width * stream) (told-numbers answer)) × (r ≡ told-length answer) ⌝ }
+{
+    let at = ANSWER_WIDTH * stream;
+    match answer {
+        Evaluation::Accepted { length, steps } => {
+            put(answers, at, 0, 0);
+            put(answers, at + 2, length as u64, steps);
+            length
+        }
+        Evaluation::Refused { number, place } => {
+            put(answers, at, number as u64, place as u64);
+            put(answers, at + 2, 0, 0);
+            0
+        }
+    }
+}
+
+// Evaluates streams that stand end to end in a buffer, one after another, each with the output left by those before and so many steps. Gives the
+// results' length in all, and in the lent list the four numbers of each. A refused stream leaves the output to the next. If the ends don't fit the
+// buffer, or the list has no place for all answers, nothing is written.
+pub fn backlog(
+    buffer: &[u8],
+    ends: &[u64],
+    table: &mut [u32],
+    workspace: &mut [u8],
+    output: &mut [u8],
+    steps: u64,
+    answers: &mut [u64],
+) -> Answer
+    ensures { λ r.
+        ⌜ AnsweredBacklog (Backlog (now (buffer .entry)) (now (ends .entry)) (now (table .entry)) (length (now (workspace .entry))) (now (output .entry)) steps (now (answers .entry))) r (now (table .exit)) (now (output .exit)) (now (answers .exit)) ⌝ }
+{
+    if misplaced(ends, buffer.len()) {
+        return Answer::Refused {
+            number: 23,
+            place: 0,
+        };
+    }
+    if answers.len() / ANSWER_WIDTH < ends.len() {
+        return Answer::Refused {
+            number: 23,
+            place: 0,
+        };
+    }
+    let mut start: usize = 0;
+    let mut used: usize = 0;
+    let mut i: usize = 0;
+    while i < ends.len() {
+        let end = ends[i] as usize;
+        let answer = evaluate(
+            &buffer[start..end],
+            table,
+            workspace,
+            &mut output[used..],
+            steps,
+        );
+        used += store(answers, i, answer);
+        start = end;
+        i += 1;
+    }
+    Answer::Accepted { given: used }
 }
 
 // Item k of a buffer.
