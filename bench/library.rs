@@ -28,6 +28,21 @@ mod linked {
             output_length: usize,
             steps: u64,
         ) -> usize;
+        pub fn bulk_bench_backlog(
+            buffer: *const u8,
+            buffer_length: usize,
+            ends: *const u64,
+            ends_length: usize,
+            table: *mut u32,
+            table_length: usize,
+            workspace: *mut u8,
+            workspace_length: usize,
+            output: *mut u8,
+            output_length: usize,
+            steps: u64,
+            answers: *mut u64,
+            answers_length: usize,
+        ) -> usize;
     }
 }
 
@@ -79,6 +94,35 @@ pub fn evaluate(
             output.as_mut_ptr(),
             output.len(),
             steps,
+        )
+    }
+}
+
+/// Gives the results' length in all, 0 on a refusal, and four numbers for each stream.
+pub fn backlog(
+    (buffer, ends): (&[u8], &[u64]),
+    table: &mut [u32],
+    workspace: &mut [u8],
+    output: &mut [u8],
+    steps: u64,
+    answers: &mut [u64],
+) -> usize {
+    // As above.
+    unsafe {
+        linked::bulk_bench_backlog(
+            buffer.as_ptr(),
+            buffer.len(),
+            ends.as_ptr(),
+            ends.len(),
+            table.as_mut_ptr(),
+            table.len(),
+            workspace.as_mut_ptr(),
+            workspace.len(),
+            output.as_mut_ptr(),
+            output.len(),
+            steps,
+            answers.as_mut_ptr(),
+            answers.len(),
         )
     }
 }

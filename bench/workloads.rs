@@ -9,12 +9,12 @@ pub struct Workload {
     pub large_array: bool,
 }
 
-/// A port call: a vocabulary, two words, an arrival and a delay.
-fn message() -> Vec<u8> {
+/// A ship's port call: a vocabulary, two words, an arrival and a delay.
+fn message(ship: &str) -> Vec<u8> {
     let word = |k: u8, text: &str| define(k, &array(text.as_bytes()));
     let fact = |k: u8, time: &str| form(&[&name(k), &name(1), &name(2), &array(time.as_bytes())]);
     [
-        word(1, "Halvard Strand"),
+        word(1, ship),
         word(2, "Kesterhaven 4"),
         fact(16, "2031-04-17T05:30Z"),
         fact(17, "2031-04-17T07:45Z"),
@@ -61,7 +61,7 @@ fn bodies() -> Vec<(&'static str, Vec<u8>)> {
     let calls = call(1, &[&array(b"Strand")[..], &[0x81, 0x82]].concat());
     let longer = (0..3_600).flat_map(|way| written_longer(b"pilot on board", way));
     vec![
-        ("small message", message()),
+        ("small message", message("Halvard Strand")),
         ("large message", facts.repeat(1_000)),
         ("one large array", array(&large)),
         (
@@ -99,4 +99,12 @@ pub fn all() -> Vec<Workload> {
         large_array: false,
     };
     bodies().into_iter().map(whole).chain([nils]).collect()
+}
+
+/// The small message of so many ships, whose names have 14 bytes too.
+pub fn small_messages(count: usize) -> Vec<Vec<u8>> {
+    let ships = (0..count).map(|k| format!("Halvard {k:06}"));
+    ships
+        .map(|ship| [beginning(), message(&ship)].concat())
+        .collect()
 }

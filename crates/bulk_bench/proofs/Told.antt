@@ -3,12 +3,13 @@ use mathlib.Core.Path.{_≡_, ap, _∙_}
 use mathlib.Core.List.{List}
 use Prim.Native.Nat.{ℕ}
 use Rattle.spec.specs.Calls.{Answer, refusal, acceptance}
-use Rattle.bulk.specs.Answers.{Answered, AnsweredEvaluation}
+use Rattle.spec.specs.Backlog.{Backlogged}
+use Rattle.bulk.specs.Answers.{Answered, AnsweredEvaluation, AnsweredBacklog}
 use Rattle.bulk.specs.declared.Answer.{Answer as Given}
 use Rattle.bulk.specs.declared.Answer.the-variants.{Accepted, Refused}
 use Rattle.bulk.specs.declared.Evaluation.{Evaluation}
 use Rattle.bulk.specs.declared.Evaluation.the-variants.{Accepted as Result, Refused as Refusal}
-use Rattle.bulk_bench.specs.Given.{given, result, Gives}
+use Rattle.bulk_bench.specs.Given.{given, result, Gives, GivesBacklog}
 
 -- an answer's parts, where it is as stated
 parts : (a b : Answer) (r : ℕ) → r ≡ b .given → b ≡ a → Gives a r (b .table) (b .output)
@@ -25,3 +26,7 @@ given-is a (Refused w p) n t o e h = parts a (refusal w p t o) n e (h .is)
 pub result-is : (a : Answer) (r : Evaluation) (n : ℕ) (t o : List ℕ) → n ≡ result r → AnsweredEvaluation a r t o → Gives a n t o
 result-is a (Result size steps) n t o e h = parts a (acceptance size steps t o) n e (h .is)
 result-is a (Refusal w p) n t o e h = parts a (refusal w p t o) n e (h .is)
+
+pub backlog-is :
+    (a : Backlogged) (r : Given) (n : ℕ) (t o l : List ℕ) → n ≡ given r → AnsweredBacklog a r t o l → GivesBacklog a n t o l
+backlog-is a r n t o l e h = record { own = given-is (a .own) r n t o e (h .own); list = h .list }

@@ -1,9 +1,10 @@
--- What an answer gives: rows, the length, or the result's length. Document 01: "A refusal gives number and place, counts zero."
+-- What an answer gives: rows, the length, the result's length, or that of all results. Document 01: "A refusal gives number and place, counts zero."
 -- Assumes nothing.
 use Prim.Native.Nat.{ℕ}
 use mathlib.Core.Path.{_≡_}
 use mathlib.Core.List.{List}
 use Rattle.spec.specs.Calls.{Answer as Stated}
+use Rattle.spec.specs.Backlog.{Backlogged}
 use Rattle.bulk.specs.declared.Answer.{Answer}
 use Rattle.bulk.specs.declared.Answer.the-variants.{Accepted, Refused}
 use Rattle.bulk.specs.declared.Evaluation.{Evaluation}
@@ -22,3 +23,8 @@ pub record Gives (a : Stated) (r : ℕ) (table output : List ℕ) : Type 0 where
   pub number : r ≡ a .given
   pub rows : table ≡ a .table
   pub bytes : output ≡ a .output
+
+-- as `Gives`, and the list of answers is the definition's
+pub record GivesBacklog (a : Backlogged) (r : ℕ) (table output answers : List ℕ) : Type 0 where
+  pub own : Gives (a .own) r table output
+  pub list : answers ≡ a .answers

@@ -1,14 +1,15 @@
 // The calls as functions that C and Rust can call, for the benchmark (`bench/`): each gives document 01's rows or length, which is 0 on a refusal,
-// and leaves table and output as document 01 says.
+// and leaves table and output as document 01 says. A backlog, of document 02, §2, gives the results' length in all, and the list of answers.
 use bulk::Answer;
 use bulk::Evaluation;
 ghost use mathlib.Core.Path.{_≡_};
 ghost use mathlib.Core.List.{[]};
 ghost use lib.ListN.{length};
 ghost use Rattle.spec.specs.Calls.{Read, Write, Evaluate};
-ghost use Rattle.bulk_bench.specs.Given.{given, result, Gives};
+ghost use Rattle.spec.specs.Backlog.{Backlog};
+ghost use Rattle.bulk_bench.specs.Given.{given, result, Gives, GivesBacklog};
 
-// What Read or Write gives.
+// What Read, Write or Backlog gives.
 fn given(answer: Answer) -> usize
     ensures { λ r. ⌜ r ≡ given answer ⌝ }
 {
@@ -60,4 +61,20 @@ pub extern "C" fn bulk_bench_evaluate(
         ⌜ Gives (Evaluate (now (stream .entry)) (now (table .entry)) (length (now (workspace .entry))) (now (output .entry)) steps) r (now (table .exit)) (now (output .exit)) ⌝ }
 {
     result(bulk::evaluate(stream, table, workspace, output, steps))
+}
+
+#[no_mangle]
+pub extern "C" fn bulk_bench_backlog(
+    buffer: &[u8],
+    ends: &[u64],
+    table: &mut [u32],
+    workspace: &mut [u8],
+    output: &mut [u8],
+    steps: u64,
+    answers: &mut [u64],
+) -> usize
+    ensures { λ r.
+        ⌜ GivesBacklog (Backlog (now (buffer .entry)) (now (ends .entry)) (now (table .entry)) (length (now (workspace .entry))) (now (output .entry)) steps (now (answers .entry))) r (now (table .exit)) (now (output .exit)) (now (answers .exit)) ⌝ }
+{
+    given(bulk::backlog(buffer, ends, table, workspace, output, steps, answers))
 }
