@@ -85,6 +85,38 @@ pub fn evaluated(buffer: &mut Buffer, used: usize, output: &[u8], given: usize, 
     result(buffer, past_steps, output, given)
 }
 
+// A space and a number, for each of these.
+fn numbers(buffer: &mut Buffer, used: usize, numbers: &[u64]) -> usize
+    requires { ⌜ used ≤ buffer-size ⌝ }
+    ensures { λ r. ⌜ r ≤ buffer-size ⌝ }
+{
+    let mut at = used;
+    let mut i: usize = 0;
+    while i < numbers.len() {
+        let past_space = text::byte(buffer, at, b' ');
+        at = text::decimal(buffer, past_space, numbers[i]);
+        i += 1;
+    }
+    at
+}
+
+pub fn backlog(buffer: &mut Buffer, used: usize, told: &[u64], output: &[u8], given: usize) -> usize
+    requires { ⌜ (used ≤ buffer-size) × (given ≤ length (now output)) ⌝ }
+    ensures { λ r. ⌜ r ≤ buffer-size ⌝ }
+{
+    let past_word = text::bytes(buffer, used, b"ok");
+    let past_numbers = numbers(buffer, past_word, told);
+    result(buffer, past_numbers, output, given)
+}
+
+// The call can't be made with what the program can lend.
+pub fn too_long(buffer: &mut Buffer, used: usize) -> usize
+    requires { ⌜ used ≤ buffer-size ⌝ }
+    ensures { λ r. ⌜ r ≤ buffer-size ⌝ }
+{
+    text::bytes(buffer, used, b"too long\n")
+}
+
 pub fn no_part(buffer: &mut Buffer, used: usize) -> usize
     requires { ⌜ used ≤ buffer-size ⌝ }
     ensures { λ r. ⌜ r ≤ buffer-size ⌝ }

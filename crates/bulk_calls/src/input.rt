@@ -3,18 +3,18 @@ ghost use mathlib.Core.Path.{_≡_};
 ghost use Prim.Native.Nat.{_-_, _≤_};
 use libc::STDIN_FILENO;
 
-pub const SOURCE_SIZE: usize = 65536;
+pub const SOURCE_SIZE: usize = 4096;
 
 pub type Source = [u8; SOURCE_SIZE];
 
-// Where the input stands. A place of 16 bits is inside the buffer whatever it is.
+// Where the input stands.
 pub struct Input {
     // The byte at hand; at the input's end a newline.
     pub byte: u8,
     // Whether what was taken of the line so far can begin a request.
     pub good: bool,
     // The place in the buffer of the byte after the one at hand, and how many have been read from there on.
-    pub next: u16,
+    pub next: usize,
     pub ready: usize,
     // How many bytes can still be taken, the one at hand counted: 0 at the input's end. A proved loop has to end, and nothing says that
     // the input does, so this starts at a number that no run uses up.
@@ -65,11 +65,12 @@ pub fn advance(source: &mut Source, input: Input) -> Input
         return ended(input.good);
     }
     if 0 < input.ready {
-        let at = input.next as usize;
+        // Taken so, a place is inside the buffer whatever it is.
+        let at = input.next % SOURCE_SIZE;
         return Input {
             byte: source[at],
             good: input.good,
-            next: std::num::wrapping_add_u16(input.next, 1),
+            next: at + 1,
             ready: input.ready - 1,
             left: input.left - 1,
         };

@@ -24,25 +24,27 @@ fn before_reading(buffer: &Buffer, used: usize, ready: usize) -> usize
 fn main() {
     let mut source = [0u8; input::SOURCE_SIZE];
     let mut stream = [0u8; words::KEPT_SIZE];
-    let mut result = [0u8; words::KEPT_SIZE];
+    let mut ends = [0u64; words::ENDS_SIZE];
     let mut table = [0u32; bulk::TABLE_LIMIT];
     let mut workspace = [0u8; calls::WORKSPACE_SIZE];
-    let mut output = [0u8; bulk::STREAM_LIMIT];
+    let mut output = [0u8; words::KEPT_SIZE];
+    let mut answers = [0u64; calls::ANSWERS_SIZE];
     let mut buffer = [0u8; text::BUFFER_SIZE];
     let mut used: usize = 0;
     let mut at = input::advance(&mut source, input::start());
     while 0 < at.left {
-        let line = requests::next(&mut source, at, &mut stream, &mut result);
+        let line = requests::next(&mut source, at, &mut stream, &mut ends, &mut output);
         let request = line.request;
         used = calls::answer(
             &mut buffer,
             used,
             request,
             &stream,
-            &result,
+            &ends,
             &mut table,
             &mut workspace,
             &mut output,
+            &mut answers,
         );
         let line_end = line.input;
         used = before_reading(&buffer, used, line_end.ready);

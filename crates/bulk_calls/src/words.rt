@@ -6,10 +6,15 @@ use crate::input::Source;
 use crate::input::advance;
 use crate::input::judged;
 
-// How many bytes of a word are kept: one more than a stream may have, so that to drop the others changes no answer.
-pub const KEPT_SIZE: usize = bulk::STREAM_LIMIT + 1;
+// How many bytes of a word are kept: as many as three of the longest streams have. A stream of which others were dropped is still too long.
+pub const KEPT_SIZE: usize = 3 * bulk::STREAM_LIMIT;
 
 pub type Kept = [u8; KEPT_SIZE];
+
+// How many ends are kept.
+pub const ENDS_SIZE: usize = 2048;
+
+pub type Ends = [u64; ENDS_SIZE];
 
 // What a word says, and the input behind it.
 pub struct Word {
@@ -73,11 +78,11 @@ pub fn line_end(source: &mut Source, from: Input) -> Input
     input
 }
 
-// A decimal number.
-pub fn number(source: &mut Source, from: Input) -> Word
+// The digits of a decimal number.
+fn decimal(source: &mut Source, from: Input) -> Word
     ensures { λ r. ⌜ r .input .left ≤ from .left ⌝ }
 {
-    let mut input = space(source, from);
+    let mut input = from;
     let mut value: u64 = 0;
     let mut digits: bool = false;
     while 0 < input.left {
@@ -98,6 +103,44 @@ pub fn number(source: &mut Source, from: Input) -> Word
     Word {
         value,
         input: judged(input, false),
+    }
+}
+
+// A decimal number.
+pub fn number(source: &mut Source, from: Input) -> Word
+    ensures { λ r. ⌜ r .input .left ≤ from .left ⌝ }
+{
+    let input = space(source, from);
+    decimal(source, input)
+}
+
+// Decimal numbers parted by commas, or `-` for none. Gives how many there are; the first `ENDS_SIZE` are kept.
+pub fn ends(source: &mut Source, from: Input, kept: &mut Ends) -> Word
+    ensures { λ r. ⌜ r .input .left ≤ from .left ⌝ }
+{
+    let mut input = space(source, from);
+    if input.byte == b'-' {
+        return Word {
+            value: 0,
+            input: advance(source, input),
+        };
+    }
+    let mut count: usize = 0;
+    while 0 < input.left {
+        let end = decimal(source, input);
+        if count < ENDS_SIZE {
+            kept[count] = end.value;
+        }
+        count += 1;
+        input = end.input;
+        if input.byte != b',' {
+            break;
+        }
+        input = advance(source, input);
+    }
+    Word {
+        value: count as u64,
+        input,
     }
 }
 
@@ -157,7 +200,7 @@ fn hex_byte(source: &mut Source, from: Input) -> Word
     }
 }
 
-// Bytes in hexadecimal, or `-` for none. Gives how many were kept.
+// Bytes in hexadecimal, or `-` for none. Gives how many there are; the first `KEPT_SIZE` are kept.
 pub fn hex(source: &mut Source, from: Input, kept: &mut Kept) -> Word
     ensures { λ r. ⌜ r .input .left ≤ from .left ⌝ }
 {
@@ -176,8 +219,8 @@ pub fn hex(source: &mut Source, from: Input, kept: &mut Kept) -> Word
         let byte = hex_byte(source, input);
         if length < KEPT_SIZE {
             kept[length] = byte.value as u8;
-            length += 1;
         }
+        length += 1;
         input = byte.input;
     }
     if length == 0 {

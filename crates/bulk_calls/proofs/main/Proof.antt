@@ -6,10 +6,10 @@ use Rattle.bulk_calls.proofs.main.Statement.{statement}
 use Rattle.bulk_calls.proofs.main.Tie as tie
 
 abbrev Inv-loop : tie.InvT-loop
-Inv-loop source₀ stream₀ result₀ table₀ workspace₀ output₀ buffer₀ used₀ at₀ source stream result table workspace output buffer used at = used ≤ buffer-size
+Inv-loop source₀ stream₀ ends₀ table₀ workspace₀ output₀ answers₀ buffer₀ used₀ at₀ source stream ends table workspace output answers buffer used at = used ≤ buffer-size
 
 abbrev μ-loop : tie.MeasureT-loop
-μ-loop source₀ stream₀ result₀ table₀ workspace₀ output₀ buffer₀ used₀ at₀ source stream result table workspace output buffer used at = at .left
+μ-loop source₀ stream₀ ends₀ table₀ workspace₀ output₀ answers₀ buffer₀ used₀ at₀ source stream ends table workspace output answers buffer used at = at .left
 
 pub main-spec : {M : Type 1} → statement M
 main-spec =
