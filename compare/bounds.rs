@@ -22,10 +22,10 @@ pub struct Bounds {
 /// What an evaluation takes up to its end or its refusal, as the second program tells.
 pub struct Needs {
     rows: u64,
-    steps: u64,
+    pub steps: u64,
     charged: u64,
     /// The result's length, if there is one.
-    length: Option<u64>,
+    pub length: Option<u64>,
 }
 
 impl Needs {
@@ -70,19 +70,23 @@ pub fn requests(random: &mut Random, stream: &[u8], needs: Option<Needs>) -> Vec
 }
 
 fn random_request(random: &mut Random, stream: &[u8], needs: Option<&Needs>) -> Request {
-    let guess = stream.len() as u64;
-    let needed = |part: fn(&Needs) -> u64| needs.map_or(guess, part) as usize;
+    let bounds = random_bounds(random, stream.len(), needs);
+    Request::new(spoiled_at_times(random, evaluate_line(stream, bounds)))
+}
+
+/// For a stream of that length.
+pub fn random_bounds(random: &mut Random, length: usize, needs: Option<&Needs>) -> Bounds {
+    let needed = |part: fn(&Needs) -> u64| needs.map_or(length, |needs| part(needs) as usize);
     let mut size = |needed: usize| match random.one_in(3) {
         true => random_size(random, needed),
         false => random.pick(&LARGE_NUMBERS),
     };
-    let bounds = Bounds {
+    Bounds {
         table: size(4 * needed(|needs| needs.rows)),
         workspace: size(needed(|needs| needs.charged)),
         output: size(needed(|needs| needs.length.unwrap_or(0))),
         steps: size(needed(|needs| needs.steps)),
-    };
-    Request::new(spoiled_at_times(random, evaluate_line(stream, bounds)))
+    }
 }
 
 /// "If they accept or refuse within the steps given, that is the answer; if they would

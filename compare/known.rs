@@ -1,5 +1,6 @@
-//! Document 01's "Streams to try", and requests for each.
+//! Document 01's "Streams to try", and requests for each and for all at once.
 
+use crate::backlogs::Backlog;
 use crate::bounds::{self, Bounds};
 use crate::requests::{evaluate_line, item_line, read_line, write_line, Request};
 use std::collections::BTreeSet;
@@ -14,22 +15,24 @@ const LARGE: u64 = 65_536;
 /// More than any known stream needs of one bound in its evaluation, 64 forms apart.
 const ENOUGH: u64 = 30;
 
-/// Requests of every call for every known stream.
+/// Requests of every call for every known stream, and backlogs of all.
 pub fn requests() -> Vec<Request> {
     let mut lines = Vec::new();
-    for stream in known_streams() {
-        add_requests(&stream, &mut lines);
-        add_evaluations(&stream, &mut lines);
+    let streams = known_streams();
+    for stream in &streams {
+        add_requests(stream, &mut lines);
+        add_evaluations(&mut lines, |bounds| evaluate_line(stream, bounds));
     }
+    add_evaluations(&mut lines, |bounds| Backlog::new(&streams, bounds).line());
     lines.into_iter().map(Request::new).collect()
 }
 
 /// With large bounds, and with one that is small.
-fn add_evaluations(stream: &[u8], lines: &mut Vec<Vec<u8>>) {
+fn add_evaluations(lines: &mut Vec<Vec<u8>>, line: impl Fn(Bounds) -> Vec<u8>) {
     let mut add = |change: fn(&mut Bounds, u64), size| {
         let mut changed = bounds::LARGE;
         change(&mut changed, size);
-        lines.push(evaluate_line(stream, changed));
+        lines.push(line(changed));
     };
     for table in TABLES {
         add(|bounds, size| bounds.table = size, table);

@@ -1,6 +1,7 @@
 //! Evaluations at the limits, each with the answer that document 01 gives. Of a result that
 //! is accepted, its length and the steps are stated.
 
+pub mod backlog;
 mod bytecode;
 
 use crate::bounds::{self, Bounds};
@@ -24,7 +25,9 @@ pub fn requests() -> Vec<Request> {
         let line = evaluate_line(&limit.stream, limit.bounds);
         Request::expecting(line, limit.expected)
     };
-    limits().into_iter().map(request).collect()
+    let mut requests: Vec<Request> = limits().into_iter().map(request).collect();
+    requests.extend(backlog::requests());
+    requests
 }
 
 pub fn limits() -> Vec<Limit> {
@@ -234,6 +237,12 @@ fn full(before: &[u8], unit: &[u8], after: &[u8]) -> Vec<u8> {
     [before, &unit.repeat(room / unit.len()), &nils, after].concat()
 }
 
+/// One that is accepted, with a result of 65,532 bytes.
+fn longest() -> Vec<u8> {
+    let array = [&[0x03, 0xC6, 0, 0, 0, 0, 0xFF, 0xF2][..], &[0xAA; 65_522]].concat();
+    full(&VERSION, &array, &[])
+}
+
 /// Of every kind of content.
 fn full_streams() -> Vec<Limit> {
     let mut all = full_of_atoms();
@@ -245,13 +254,12 @@ fn full_streams() -> Vec<Limit> {
 fn full_of_atoms() -> Vec<Limit> {
     let of = |unit: &[u8], expected| large(full(&VERSION, unit, &[]), expected);
     let largest_marker = [&[0x7F][..], &[0xFF; 256], &[0x80, 0x00]].concat();
-    let one_array = [&[0x03, 0xC6, 0, 0, 0, 0, 0xFF, 0xF2][..], &[0xAA; 65_522]].concat();
     vec![
         of(&[0x00], "refused 17 65532"),
         of(&[0x85], "refused 17 65532"),
         of(&[0xC1, 0xAA], "refused 17 65532"),
         of(&[0x03, 0xC2, 0, 1, 0xAA], "ok 26218 13110"),
-        of(&one_array, "ok 65532 5"),
+        large(longest(), "ok 65532 5"),
         of(&long_length(1_000), "ok 276 209"),
         of(&[0x21, 0x05], "refused 17 65532"),
         of(&largest_marker, "refused 17 65274"),

@@ -5,6 +5,7 @@
 //! bound stops an evaluation that is given less than it needs.
 
 mod arguments;
+mod backlogs;
 mod bounds;
 mod bytecode_times;
 mod evaluations;
@@ -23,6 +24,7 @@ mod tally;
 mod times;
 mod unchanged;
 
+use backlogs::{Backlog, Message};
 use options::{Mode, Options, USAGE};
 use programs::{named, start};
 use random::Random;
@@ -74,11 +76,12 @@ fn print_requests(options: &Options) -> ExitCode {
     }
 }
 
-/// With no second program at hand, a stream is evaluated with large bounds.
+/// With no second program at hand, streams are evaluated with large bounds.
 fn whole(draft: Draft) -> Request {
     match draft {
         Draft::Request(request) => request,
         Draft::Evaluation(stream) => Request::new(evaluate_line(&stream, bounds::LARGE)),
+        Draft::Backlog(streams) => Request::new(Backlog::new(&streams, backlogs::LARGE).line()),
     }
 }
 
@@ -87,6 +90,7 @@ fn compare(options: &Options, report: &mut Report) -> io::Result<()> {
     if let Some(paths) = &options.single {
         compare_single(paths, options, report)?;
         check_arguments(&paths[2], report)?;
+        check_too_long(&options.paths[0], report)?;
     }
     report.tally.print();
     report.check_answers_arisen(options.single.is_some());
@@ -167,6 +171,16 @@ fn check_arguments(path: &str, report: &mut Report) -> io::Result<()> {
     Ok(())
 }
 
+/// `bulk_calls` says so of what it cannot keep, and goes on. The second program keeps all.
+fn check_too_long(path: &str, report: &mut Report) -> io::Result<()> {
+    for line in limits::backlog::too_long() {
+        let input = [&line[..], b"\n", LAST_REQUEST].concat();
+        let output = programs::run(path, &[], &input)?;
+        report.check_output(&line, &output, b"too long\nok 1 0 0 1 1\n");
+    }
+    Ok(())
+}
+
 /// Requests for document 01's streams, those at the limits, the files' requests, those for
 /// huge streams, random ones, and the last.
 fn all_requests(options: &Options) -> io::Result<Vec<Request>> {
@@ -185,17 +199,20 @@ fn all_requests(options: &Options) -> io::Result<Vec<Request>> {
 
 /// The second program is asked what each stream to evaluate needs.
 fn with_bounds(drafts: Vec<Draft>, options: &Options) -> io::Result<Vec<Request>> {
-    let asked = drafts.iter().filter_map(|draft| match draft {
-        Draft::Request(_) => None,
-        Draft::Evaluation(stream) => Some(bounds::needs_request(stream)),
-    });
+    let streams = drafts.iter().flat_map(Draft::streams);
+    let asked = streams.map(|stream| bounds::needs_request(stream));
     let mut second = start(&options.paths[1], &Arc::new(asked.collect()))?;
+    let mut needs = || bounds::needs(&second.next_answer().unwrap_or_default());
     let mut random = Random::new(options.seed);
     let expanded = drafts.into_iter().flat_map(|draft| match draft {
         Draft::Request(request) => vec![request],
-        Draft::Evaluation(stream) => {
-            let answer = second.next_answer().unwrap_or_default();
-            bounds::requests(&mut random, &stream, bounds::needs(&answer))
+        Draft::Evaluation(stream) => bounds::requests(&mut random, &stream, needs()),
+        Draft::Backlog(streams) => {
+            let message = |stream| Message {
+                stream,
+                needs: needs(),
+            };
+            backlogs::requests(&mut random, streams.into_iter().map(message).collect())
         }
     });
     Ok(expanded.collect())

@@ -7,15 +7,15 @@ pub const USAGE: &str = "usage: compare FIRST SECOND [FILE-OR-FOLDER ..] [--sing
        compare --print-known
        compare --print-random [--seed N] [--count N]
 FIRST and SECOND are the programs to compare. Each line of a file is a request; of a
-folder, every file is taken, in the order of names. COUNT random requests, and streams
-to evaluate, are made from SEED; each of these streams gets one to five requests. Without
-these, the seed is 1 and the count 100000.
+folder, every file is taken, in the order of names. COUNT random requests, streams to
+evaluate and backlogs are made from SEED; each of these streams gets one to five requests,
+each backlog two or three. Without these, the seed is 1 and the count 100000.
 LIST, WRITE and EVAL are three more programs, each run on one stream at a time: document
 01's, some at the limits, and random ones from SEED. LIST must print the rows, WRITE the
 bytes and EVAL the result that SECOND answers to `read`, `write` and `evaluate` for that
-stream, or its refusal.
-With --times, nothing is compared: FIRST evaluates streams of three sizes, and its time
-must be linear; some other streams have a time of their own.
+stream, or its refusal. FIRST must then answer `too long` to a backlog above its limits.
+With --times, nothing is compared: FIRST evaluates streams and backlogs of three sizes, and
+its time must be linear; some other streams have a time of their own.
 With --unchanged, COUNT streams in which no form is headed by prefix* are evaluated, and
 SECOND answers `base`, which keeps all bytecode as data.";
 

@@ -1,10 +1,12 @@
 //! Request lines: their spelling, random ones, and malformed ones.
 
+use crate::backlogs;
 use crate::bounds::{self, Bounds};
 use crate::evaluations::{random_evaluation, with_version};
 use crate::random::Random;
 use crate::streams::{huge_stream, huge_streams, random_stream, Stream};
 use std::borrow::Cow;
+use std::slice;
 
 pub const LARGE_NUMBERS: [u64; 7] = [
     16_384,
@@ -29,6 +31,9 @@ const MALFORMED_WORDS: [&str; 24] = [
     "", "+4", "-4", "-", "--", "4.", "0x4", "4_0", "1e3", "2", "00", "01", "4\t", "\r", "\0",
     "4\r", "A0", "a", "0g", "aA", "٤", "list", "Read", "reads",
 ];
+
+/// One random draft in so many is a backlog.
+const BACKLOG_RATE: usize = 40;
 
 /// A request line, and with what words its answer must begin, whatever the second program
 /// answers.
@@ -61,10 +66,22 @@ impl Request {
     }
 }
 
-/// A random request, or a stream to evaluate, whose bounds wait for what it needs.
+/// A random request, or a stream or several to evaluate, whose bounds wait for what they
+/// need.
 pub enum Draft {
     Request(Request),
     Evaluation(Vec<u8>),
+    Backlog(Vec<Vec<u8>>),
+}
+
+impl Draft {
+    pub fn streams(&self) -> &[Vec<u8>] {
+        match self {
+            Draft::Request(_) => &[],
+            Draft::Evaluation(stream) => slice::from_ref(stream),
+            Draft::Backlog(streams) => streams,
+        }
+    }
 }
 
 pub fn read_line(stream: &[u8], table: u64) -> Vec<u8> {
@@ -131,14 +148,17 @@ pub fn huge_requests() -> Vec<Request> {
     lines.into_iter().map(Request::new).collect()
 }
 
-/// So many requests and streams to evaluate, about as many of these as of those; the same
-/// ones for the same seed.
+/// So many requests and streams to evaluate, about as many of these as of those, and a few
+/// backlogs; the same ones for the same seed.
 pub fn random_drafts(seed: u64, count: usize) -> Vec<Draft> {
     let mut random = Random::new(seed);
     (0..count).map(|_| random_draft(&mut random)).collect()
 }
 
 fn random_draft(random: &mut Random) -> Draft {
+    if random.one_in(BACKLOG_RATE) {
+        return Draft::Backlog(backlogs::random_streams(random));
+    }
     let huge = random.one_in(2_000);
     match random.one_in(2) {
         true if huge => Draft::Evaluation(with_version(huge_stream(random).bytes)),
@@ -224,15 +244,34 @@ pub fn random_size(random: &mut Random, needed: usize) -> u64 {
 /// A request with a number written in an unusual way.
 fn unusual(random: &mut Random, line: Vec<u8>) -> Vec<u8> {
     let mut words = words(&line);
-    // All calls have a number last; write has two, evaluate four.
-    let from_end = match &words[0][..] {
+    // All calls have a number last; write has two, evaluate four, and a backlog five, with
+    // its ends before them.
+    let numbers = match &words[0][..] {
         b"write" => 2,
         b"evaluate" => 4,
+        b"backlog" => 6,
         _ => 1,
     };
-    let at = words.len() - random.between(1, from_end);
-    words[at] = random.pick(&UNUSUAL_NUMBERS).as_bytes().to_vec();
+    let from_end = random.between(1, numbers);
+    let at = words.len() - from_end;
+    let number = random.pick(&UNUSUAL_NUMBERS).as_bytes();
+    words[at] = match from_end {
+        6 => unusual_end(random, &words[at], number),
+        _ => number.to_vec(),
+    };
     words.join(&b' ')
+}
+
+/// With such a number for one end, or with zeros before the first.
+fn unusual_end(random: &mut Random, ends: &[u8], number: &[u8]) -> Vec<u8> {
+    let mut ends: Vec<&[u8]> = ends.split(|byte| *byte == b',').collect();
+    let at = random.below(ends.len());
+    let zeros = [b"00", ends[0]].concat();
+    match random.one_in(2) {
+        true => ends[at] = number,
+        false => ends[0] = &zeros,
+    }
+    ends.join(&b',')
 }
 
 /// A request with a word or some bytes spoiled. Now and then it is one all the same.
@@ -244,7 +283,24 @@ fn malformed(random: &mut Random, line: Vec<u8>) -> Vec<u8> {
             words[3] = random.pick(&MALFORMED_WHICH).as_bytes().to_vec();
             words.join(&b' ')
         }
+        5..=7 if words[0] == b"backlog" => {
+            spoil_ends(random, &mut words[2]);
+            words.join(&b' ')
+        }
         _ => with_spoiled_bytes(random, line),
+    }
+}
+
+/// A comma too many, or what is no digit.
+fn spoil_ends(random: &mut Random, ends: &mut Vec<u8>) {
+    let at = random.below(ends.len() + 1);
+    let comma = ends.iter().position(|byte| *byte == b',');
+    match random.below(5) {
+        0 => ends.push(b','),
+        1 => ends.insert(0, b','),
+        2 => ends.insert(comma.unwrap_or(at), b','),
+        3 => ends.extend(b",-"),
+        _ => ends.insert(at, random.pick(b"-+.;:aAfx")),
     }
 }
 

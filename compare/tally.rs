@@ -5,6 +5,8 @@ use std::collections::BTreeMap;
 
 /// A line that is no request, whatever it begins with.
 const NO_REQUEST: &str = "no request";
+/// One of the streams of a backlog that is accepted.
+const IN_BACKLOG: &str = "in backlog";
 
 /// The calls and programs, and the numbers that can arise for each; 0 is acceptance.
 const NUMBERS: &[(&str, &[u8])] = &[
@@ -12,6 +14,13 @@ const NUMBERS: &[(&str, &[u8])] = &[
     ("write", &[0, 1, 2, 3, 4, 5, 6, 7, 8, 18]),
     (
         "evaluate",
+        &[
+            0, 1, 2, 3, 4, 5, 6, 7, 8, 9, 10, 11, 12, 13, 14, 15, 16, 17, 18, 19, 22,
+        ],
+    ),
+    ("backlog", &[0, 23]),
+    (
+        IN_BACKLOG,
         &[
             0, 1, 2, 3, 4, 5, 6, 7, 8, 9, 10, 11, 12, 13, 14, 15, 16, 17, 18, 19, 22,
         ],
@@ -66,11 +75,33 @@ pub struct Tally {
 
 impl Tally {
     pub fn count(&mut self, request: &[u8], answer: &[u8]) {
-        let answer = answer_class(answer);
-        let call = match answer.as_str() {
+        let class = answer_class(answer);
+        let call = match class.as_str() {
             "bad request" => NO_REQUEST.to_string(),
             _ => call_class(request),
         };
+        if call == "backlog" && class == "ok" {
+            self.count_streams(answer);
+        }
+        self.add(call, class);
+    }
+
+    /// By the first of each stream's four numbers.
+    fn count_streams(&mut self, answer: &[u8]) {
+        let words: Vec<&[u8]> = answer.split(|byte| *byte == b' ').collect();
+        let [_, numbers @ .., _] = &words[..] else {
+            return;
+        };
+        for number in numbers.iter().step_by(4) {
+            let class = match *number {
+                b"0" => "ok".to_string(),
+                _ => format!("refused {}", String::from_utf8_lossy(number)),
+            };
+            self.add(IN_BACKLOG.to_string(), class);
+        }
+    }
+
+    fn add(&mut self, call: String, answer: String) {
         *self.counts.entry((call, answer)).or_insert(0) += 1;
     }
 

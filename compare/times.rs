@@ -1,10 +1,11 @@
-//! Whether time is linear in a stream's bytes, the steps taken and the bytes charged: as much
-//! work in streams of three sizes takes as much time.
+//! Whether time is linear in a stream's bytes, the steps taken and the bytes charged, and in
+//! those of all streams of a backlog: as much work in three sizes takes as much time.
 
+use crate::backlogs::{self, Backlog};
 use crate::bounds::{self, Needs};
 use crate::bytecode_times;
 use crate::pieces::{
-    arg, array, beginning, call, define, form, function, long_length, nested, ns, rest, subst,
+    arg, array, beginning, call, define, form, function, long_length, name, nested, ns, rest, subst,
 };
 use crate::programs::start;
 use crate::report::Report;
@@ -22,6 +23,9 @@ const MOST: u32 = 3;
 /// The least time of so many rounds counts.
 const ROUNDS: usize = 3;
 const MOST_ROUNDS: usize = 12;
+
+/// Of a backlog of the smallest size; of the largest, `bulk_calls` keeps all ends and bytes.
+const MESSAGES: usize = 64;
 
 /// Of each stream with as many arity lists around as there can be.
 const DEEPEST_RUNS: u32 = 5;
@@ -114,21 +118,36 @@ pub fn after_beginning(rest: &[u8]) -> Vec<u8> {
     [&beginning()[..], rest].concat()
 }
 
+/// For each size the requests that are so much work.
+type Sizes = Vec<Arc<Vec<Request>>>;
+
 /// Measures every kind with the first program; the second tells how much work a stream is.
 pub fn measure(first: &str, second: &str, report: &mut Report) -> io::Result<()> {
     for kind in KINDS.iter().chain(&bytecode_times::KINDS) {
-        let Some(sizes) = sizes(kind, second)? else {
-            report.fail(&format!("{}: not accepted", kind.name));
-            continue;
-        };
-        let times = least_times(first, &sizes, is_linear, report)?;
-        println!("{:<40}{times:>12.1?}", kind.name);
-        match is_linear(&times) {
-            true => report.pass(),
-            false => report.fail(&format!("{}: not linear", kind.name)),
-        }
+        measure_sizes(kind.name, sizes(kind, second)?, first, report)?;
     }
+    let backlogs = backlog_sizes(second)?;
+    measure_sizes("a backlog of many messages", backlogs, first, report)?;
     measure_deepest(first, report)
+}
+
+fn measure_sizes(
+    name: &str,
+    sizes: Option<Sizes>,
+    path: &str,
+    report: &mut Report,
+) -> io::Result<()> {
+    let Some(sizes) = sizes else {
+        report.fail(&format!("{name}: not accepted"));
+        return Ok(());
+    };
+    let times = least_times(path, &sizes, is_linear, report)?;
+    println!("{name:<40}{times:>12.1?}");
+    match is_linear(&times) {
+        true => report.pass(),
+        false => report.fail(&format!("{name}: not linear")),
+    }
+    Ok(())
 }
 
 /// As many arity lists around as there can be: no three sizes, but a bound of their own.
@@ -146,22 +165,45 @@ fn measure_deepest(path: &str, report: &mut Report) -> io::Result<()> {
     Ok(())
 }
 
-/// For each size the requests that are so much work; none if a stream isn't accepted.
-fn sizes(kind: &Kind, second: &str) -> io::Result<Option<Vec<Arc<Vec<Request>>>>> {
+/// None if a stream isn't accepted.
+fn sizes(kind: &Kind, second: &str) -> io::Result<Option<Sizes>> {
     let streams = MULTIPLES.map(kind.stream);
     let asked = streams.iter().map(|stream| bounds::needs_request(stream));
     let mut told = start(second, &Arc::new(asked.collect()))?;
     let requests = streams.iter().map(|stream| {
         let needs = bounds::needs(&told.next_answer().unwrap_or_default())?;
-        Some(Arc::new(requests(stream, &needs)?))
+        let line = evaluate_line(stream, bounds::LARGE);
+        Some(repeated(&line, "ok", work(stream, &needs)?))
     });
     Ok(requests.collect())
 }
 
-fn requests(stream: &[u8], needs: &Needs) -> Option<Vec<Request>> {
-    let work = stream.len() as u64 + needs.steps_and_charges()?;
-    let request = || Request::expecting(evaluate_line(stream, bounds::LARGE), "ok");
-    Some((0..WORK.div_ceil(work)).map(|_| request()).collect())
+/// The same message, more and more often.
+fn backlog_sizes(second: &str) -> io::Result<Option<Sizes>> {
+    let message = after_beginning(&[define(0, &[0x85]), name(0).repeat(50)].concat());
+    let mut told = start(second, &Arc::new(vec![bounds::needs_request(&message)]))?;
+    let needs = bounds::needs(&told.next_answer().unwrap_or_default());
+    let requests = MULTIPLES.map(|size| {
+        let needs = needs.as_ref()?;
+        let count = MESSAGES * size;
+        let backlog = Backlog::new(&vec![message.clone(); count], backlogs::LARGE);
+        let answer = format!(" 0 0 {} {}", needs.length?, needs.steps);
+        let expected = format!("ok{}", answer.repeat(count));
+        let work = work(&message, needs)? * count as u64;
+        Some(repeated(&backlog.line(), &expected, work))
+    });
+    Ok(requests.into_iter().collect())
+}
+
+/// Bytes, steps and charges, if it is accepted.
+fn work(stream: &[u8], needs: &Needs) -> Option<u64> {
+    Some(stream.len() as u64 + needs.steps_and_charges()?)
+}
+
+/// A request as often as makes so much work in all.
+fn repeated(line: &[u8], expected: &str, work: u64) -> Arc<Vec<Request>> {
+    let request = |_| Request::expecting(line.to_vec(), expected.to_string());
+    Arc::new((0..WORK.div_ceil(work)).map(request).collect())
 }
 
 /// Some rounds, and more as long as noise may be what makes them bad.
@@ -204,7 +246,5 @@ fn is_linear(times: &[Duration]) -> bool {
 
 /// Of all runs of one of the deepest.
 fn is_short(times: &[Duration]) -> bool {
-    times
-        .iter()
-        .all(|time| *time < DEEPEST_MOST * DEEPEST_RUNS)
+    times.iter().all(|time| *time < DEEPEST_MOST * DEEPEST_RUNS)
 }

@@ -17,30 +17,28 @@ const DEFINITIONS_LIMIT: usize = 256;
 const NAMESPACES_LIMIT: usize = 64;
 const CODES_LIMIT: usize = 32;
 
+/// The rows and bytes lent, and a number of steps.
+#[derive(Clone, Copy)]
+pub struct Bounds {
+    pub rows: u64,
+    pub workspace: u64,
+    pub output: u64,
+    pub steps: u64,
+}
+
 /// Gives the result and the steps taken.
-pub fn evaluate(
-    stream: &[u8],
-    rows: u64,
-    workspace: u64,
-    output: u64,
-    steps: u64,
-) -> Result<(Vec<u8>, u64), Refusal> {
-    let mut list = tree::read(stream, rows)?;
-    let evaluator = Evaluator::new(&list, steps, workspace);
+pub fn evaluate(stream: &[u8], bounds: Bounds) -> Result<(Vec<u8>, u64), Refusal> {
+    let mut list = tree::read(stream, bounds.rows)?;
+    let evaluator = Evaluator::new(&list, bounds.steps, bounds.workspace);
     bytecode::transform(&mut list);
-    evaluator.run(stream, &list, output)
+    evaluator.run(stream, &list, bounds.output)
 }
 
 /// As document 01 alone has it: bytecode is "kept as data".
-pub fn evaluate_base(
-    stream: &[u8],
-    rows: u64,
-    workspace: u64,
-    output: u64,
-    steps: u64,
-) -> Result<(Vec<u8>, u64), Refusal> {
-    let list = tree::read(stream, rows)?;
-    Evaluator::new(&list, steps, workspace).run(stream, &list, output)
+pub fn evaluate_base(stream: &[u8], bounds: Bounds) -> Result<(Vec<u8>, u64), Refusal> {
+    let list = tree::read(stream, bounds.rows)?;
+    let evaluator = Evaluator::new(&list, bounds.steps, bounds.workspace);
+    evaluator.run(stream, &list, bounds.output)
 }
 
 /// What an evaluation takes that no bound stops but the workspace's, up to its end or to

@@ -2,6 +2,7 @@
 //! to be compared with the library. Requests come on standard input, one a line,
 //! and each is answered by one line.
 
+mod backlog;
 mod bytecode;
 mod evaluate;
 mod names;

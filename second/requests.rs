@@ -1,7 +1,9 @@
 //! The request lines and their answers.
 
+use crate::backlog::{self, Answers};
+use crate::evaluate::{self, Bounds};
 use crate::tree::Refusal;
-use crate::{evaluate, tree, write};
+use crate::{tree, write};
 use std::fmt::Write as _;
 use std::io::{self, BufRead, BufWriter, Write};
 
@@ -50,10 +52,13 @@ fn request(line: &[u8]) -> Option<Result<String, Refusal>> {
                 b"base" => evaluate::evaluate_base,
                 _ => evaluate::evaluate,
             };
-            let rows = number(table)? / NUMBERS_IN_A_ROW;
-            let (workspace, output) = (number(workspace)?, number(output)?);
-            let (stream, steps) = (bytes(stream)?, number(steps)?);
-            Some(evaluate(&stream, rows, workspace, output, steps).map(evaluated))
+            let bounds = bounds([table, workspace, output, steps])?;
+            Some(evaluate(&bytes(stream)?, bounds).map(evaluated))
+        }
+        [b"backlog", buffer, ends, table, workspace, output, steps, answers] => {
+            let bounds = bounds([table, workspace, output, steps])?;
+            let (buffer, ends, answers) = (bytes(buffer)?, numbers(ends)?, number(answers)?);
+            Some(backlog::evaluate(&buffer, &ends, answers, bounds).map(|all| answered(&all)))
         }
         [b"needs", stream] => Some(needs(&bytes(stream)?)),
         _ => None,
@@ -92,6 +97,16 @@ fn evaluated((result, taken): (Vec<u8>, u64)) -> String {
     format!("ok {} {taken} {}", result.len(), hex(&result))
 }
 
+/// The four numbers of each stream, and all results.
+fn answered(answers: &Answers) -> String {
+    let mut line = "ok".to_string();
+    for [number, place, length, steps] in &answers.streams {
+        // Writing to a String cannot fail.
+        let _ = write!(line, " {number} {place} {length} {steps}");
+    }
+    format!("{line} {}", hex(&answers.results))
+}
+
 /// What the comparison takes exact bounds from. The library has no such call, nor `base`.
 fn needs(stream: &[u8]) -> Result<String, Refusal> {
     let needs = evaluate::needs(stream)?;
@@ -100,6 +115,24 @@ fn needs(stream: &[u8]) -> Result<String, Refusal> {
         Some(length) => format!("accepted {rows} {steps} {charged} {length}"),
         None => format!("stopped {rows} {steps} {charged}"),
     })
+}
+
+/// A table's length, a workspace's, an output's, and a number of steps.
+fn bounds([table, workspace, output, steps]: [&[u8]; 4]) -> Option<Bounds> {
+    Some(Bounds {
+        rows: number(table)? / NUMBERS_IN_A_ROW,
+        workspace: number(workspace)?,
+        output: number(output)?,
+        steps: number(steps)?,
+    })
+}
+
+/// Numbers parted by commas, or `-` for none.
+fn numbers(word: &[u8]) -> Option<Vec<u64>> {
+    match word {
+        b"-" => Some(Vec::new()),
+        _ => word.split(|byte| *byte == b',').map(number).collect(),
+    }
 }
 
 /// One or more digits; a value above the largest counts as the largest.

@@ -476,7 +476,7 @@ const LONG_IN_A_CODE: usize = 59;
 /// pairs of made forms instead of the one: 26 lists. A code is one list more, and the innermost
 /// form of each but one has a call in the place of `OPERATOR`. So 1 + 2 + 33 * 62 * 3 + 206 * 23
 /// lists are open at once, 10,879, and 32 calls. The value of so many forms is then too deep.
-fn deepest() -> Vec<u8> {
+pub fn deepest() -> Vec<u8> {
     let long = |k: u8| {
         let before = usize::from(k) * LONG_IN_A_CODE;
         LONG.saturating_sub(before).min(LONG_IN_A_CODE)
