@@ -1,12 +1,13 @@
 -- A backlog's streams, evaluated one by one: what was done before a turn, and what is left to do. Document 02, §2: "one evaluation after another".
 -- Assumes nothing.
 use Prim.Native.Nat.{ℕ, _+_, _-_, _*_, _/_, _≤_, _<_}
-use mathlib.Core.Path.{_≡_, refl, sym, ap, _∙_}
+use mathlib.Core.Path.{_≡_, refl, sym, ap, _∙_, subst}
 use mathlib.Core.Bool.{Bool, true, false, not}
-use mathlib.Core.List.{List, [], _++_, append-assoc, append-nil}
+use mathlib.Core.List.{List, [], _∷_, _++_, append-assoc, append-nil}
 use native.Mathlib.Omega.{arith}
+use native.Mathlib.Numerals.{towards-suc}
 use native.Mathlib.Nat.{zero-add, add-assoc, add-zero}
-use lib.ListN.{length, take, drop, getD, length-append, length-drop, take-append-drop}
+use lib.ListN.{length, take, drop, getD, set, length-append, length-drop, take-append-drop}
 use borrow.Rule.Slice.PartAt.{part-to-end}
 use borrow.Rule.Slice.PartMut.{midOf, putMid, post-is}
 use lib.Seq.{take-append-seam, take-append-add, drop-append-add, drop-drop, drop-length, length-take-le, sets, sets-eq, length-sets}
@@ -155,6 +156,15 @@ module _ (n : Night) where
     turn-next more r table′ left′ x =
         rw (post-is used (length output) output (h .inside), drop-length output, append-nil left′)
         (turn-told more r table′ left′ (rw (part-to-end output used) at x))
+
+    -- its four numbers as they are stored
+    pub turn-stored : (r : Evaluation) (at : ℕ) {number place size taken : ℕ} → number ∷ place ∷ size ∷ taken ∷ [] ≡ told-numbers r
+        → (table′ output′ : List ℕ) {start′ i′ : ℕ} → Turn table′ output′ (sets answers at (told-numbers r)) start′ (used + told-length r) i′
+        → Turn table′ output′ (set (set (set (set answers at number) (at + 1) place) (at + 2) size) (at + 3) taken) start′ (used + size) i′
+    turn-stored r at {number} {place} {size} {taken} e table′ output′ {start′} {i′} t =
+        let stored : sets answers at (number ∷ place ∷ size ∷ taken ∷ []) ≡ set (set (set (set answers at number) (at + 1) place) (at + 2) size) (at + 3) taken = simp towards-suc in
+        subst (λ (l : List ℕ). Turn table′ output′ l start′ (used + size) i′) stored
+        (subst (λ (l : List ℕ). Turn table′ output′ (sets answers at l) start′ (used + getD l 2 0) i′) (sym e) t)
 
     -- after the last turn
     pub turn-last : length (n .ends) ≤ i → (evaluations n ≡ record { answers = h .done; given = used; table = table; output = output })

@@ -5,14 +5,13 @@ use reader::Checked;
 use reader::Found;
 ghost use mathlib.Core.Path.{_≡_};
 ghost use mathlib.Core.List.{List, [], _∷_};
-ghost use Prim.Native.Nat.{ℕ, _+_, _*_, _≤_};
+ghost use Prim.Native.Nat.{ℕ};
 ghost use lib.ListN.{length};
-ghost use lib.Seq.{sets};
 ghost use denote.Ref.{RefT};
 ghost use Rattle.spec.specs.Reading.{read};
 ghost use Rattle.spec.specs.Calls.{Read, Write, Evaluate, Item, Buffer as Chosen, item-read};
-ghost use Rattle.spec.specs.Backlog.{misplaced, answer-width, Backlog};
-ghost use Rattle.bulk.specs.Answers.{Answered, AnsweredEvaluation, AnsweredBacklog, told-numbers, told-length, asked, of-buffer, lent, PartItself};
+ghost use Rattle.spec.specs.Backlog.{misplaced, Backlog};
+ghost use Rattle.bulk.specs.Answers.{Answered, AnsweredEvaluation, AnsweredBacklog, told-numbers, asked, of-buffer, lent, PartItself};
 
 // The bytes of the longest stream.
 pub const STREAM_LIMIT: usize = reader::STREAM_LIMIT;
@@ -146,31 +145,33 @@ fn misplaced(ends: &[u64], length: usize) -> bool
     before != length as u64
 }
 
-// Stores two numbers, from a place on.
-fn put(numbers: &mut [u64], at: usize, first: u64, second: u64)
-    requires { ⌜ at + 2 ≤ length (now numbers) ⌝ }
-    ensures { λ _. ⌜ now (numbers .exit) ≡ sets (now (numbers .entry)) at (first ∷ second ∷ []) ⌝ }
-{
-    numbers[at] = first;
-    numbers[at + 1] = second;
+// What a backlog tells of a stream.
+struct Numbers {
+    number: u64,
+    place: u64,
+    length: usize,
+    steps: u64,
 }
 
-// Stores number, place, length and steps of a stream's answer. Gives the length.
-fn store(answers: &mut [u64], stream: usize, answer: Evaluation) -> usize
-    requires { ⌜ answer-width * stream + answer-width ≤ length (now answers) ⌝ }
-    ensures { λ r. ⌜ (now (answers .exit) ≡ sets (now (answers .entry)) (answer-width * stream) (told-numbers answer)) × (r ≡ told-length answer) ⌝ }
+fn told(answer: Evaluation) -> Numbers
+    ensures { λ r. ⌜ r .number ∷ r .place ∷ r .length ∷ r .steps ∷ [] ≡ told-numbers answer ⌝ }
 {
-    let at = ANSWER_WIDTH * stream;
     match answer {
         Evaluation::Accepted { length, steps } => {
-            put(answers, at, 0, 0);
-            put(answers, at + 2, length as u64, steps);
-            length
+            Numbers {
+                number: 0,
+                place: 0,
+                length,
+                steps,
+            }
         }
         Evaluation::Refused { number, place } => {
-            put(answers, at, number as u64, place as u64);
-            put(answers, at + 2, 0, 0);
-            0
+            Numbers {
+                number: number as u64,
+                place: place as u64,
+                length: 0,
+                steps: 0,
+            }
         }
     }
 }
@@ -214,7 +215,13 @@ pub fn backlog(
             &mut output[used..],
             steps,
         );
-        used += store(answers, i, answer);
+        let stream = told(answer);
+        let at = ANSWER_WIDTH * i;
+        answers[at] = stream.number;
+        answers[at + 1] = stream.place;
+        answers[at + 2] = stream.length as u64;
+        answers[at + 3] = stream.steps;
+        used += stream.length;
         start = end;
         i += 1;
     }

@@ -1,15 +1,18 @@
 -- `bulk::backlog` meets its contract. The invariant is `Turn`, which each stream's evaluation keeps. Assumes nothing.
 use borrow.Author.Needs.{needs}
-use Prim.Native.Nat.{_+_, _-_, _*_}
-use mathlib.Core.Path.{_≡_, refl, sym, _∙_}
+use Prim.Native.Nat.{ℕ, _+_, _-_, _*_, _≤_}
+use mathlib.Core.Path.{_≡_, refl, sym, ap, _∙_}
+use mathlib.Core.List.{List}
 use native.Mathlib.Omega.{arith}
-use lib.ListN.{length, getD}
+use lib.ListN.{length, getD, length-set}
 use lib.Seq.{sets}
+use mir.Syntax.{w64}
+use mir.Val.{Fits}
 use borrow.Rule.Slice.PartMut.{putMid}
 use Rattle.spec.specs.Backlog.{answer-width}
 use Rattle.laws.specs.Backlogs.{Night}
 use Rattle.bulk.specs.Answers.{told-numbers, told-length}
-use Rattle.bulk.proofs.Turns.{night, Turn, turn-room, turn-ends, turn-next, misplaced-refused, short-refused, Fitting, turns, turns-answered}
+use Rattle.bulk.proofs.Turns.{night, Turn, turn-room, turn-ends, turn-next, turn-stored, misplaced-refused, short-refused, Fitting, turns, turns-answered}
 use Rattle.bulk.proofs.backlog.Statement.{statement}
 use Rattle.bulk.proofs.backlog.Tie as tie
 
@@ -56,10 +59,6 @@ part-evaluate-start-2 c = omega (arith, c .before .before .before .before .befor
 part-evaluate-end-2 : tie.Need-part-evaluate-end-2 Inv-loop μ-loop
 part-evaluate-end-2 c = search needs
 
-store-requires : tie.Need-store-requires Inv-loop μ-loop
-store-requires c κs =
-    omega (arith, turn-room _ (c .before .before .before .before .before .before .before .before .before .before .before .before .before .before .loop .inv .0) (c .before .before .before .before .before .before .before .before .before .before .before .before .before .loop-test .taken))
-
 -- the turn that a stream's evaluation makes
 abbrev Turned : tie.After-evaluate Inv-loop μ-loop → Type 0
 Turned c =
@@ -73,17 +72,43 @@ Turned c =
 turned : (c : tie.After-evaluate Inv-loop μ-loop) → Turned c
 turned c = turn-next _ (c .before .before .before .before .before .before .before .loop .inv .0) (c .before .before .before .before .before .before .loop-test .taken) _ _ _ (rw (c .before .before .before .before .before .before .before .loop .inv .1) at (c .evaluate .ensures))
 
+-- the numbers of a turn have their place
+room : (c : tie.After-told Inv-loop μ-loop) → let l = c .before .before .before .before .before .before .before .before .before .before .before .before .before .before .loop in answer-width * l .i + answer-width ≤ length (l .answers)
+room c = turn-room _ (c .before .before .before .before .before .before .before .before .before .before .before .before .before .before .loop .inv .0) (c .before .before .before .before .before .before .before .before .before .before .before .before .before .loop-test .taken)
+
+-- so has the byte behind them
+behind : (c : tie.After-told Inv-loop μ-loop) → Fits w64 ((answer-width * c .before .before .before .before .before .before .before .before .before .before .before .before .before .before .loop .i + answer-width) * 8)
+behind c =
+    let there = room c in
+    let list = c .before .before .before .before .before .before .before .before .before .before .before .before .before .before .loop .inv .0 .lists in
+    let size = c .before .before .before .before .before .before .before .before .before .before .before .before .before .before .before .before .before .before .before .before .before .before .before .before .good .1 .1 .1 .1 .1 .1 .0 in
+    search needs
+
+slice-write-answers : tie.Need-slice-write-answers Inv-loop μ-loop
+slice-write-answers c = omega (arith, room c)
+
+slice-write-answers-2 : tie.Need-slice-write-answers-2 Inv-loop μ-loop
+slice-write-answers-2 c = simp length-set (omega (arith, room c))
+
+slice-write-answers-3 : tie.Need-slice-write-answers-3 Inv-loop μ-loop
+slice-write-answers-3 c = simp length-set (omega (arith, room c))
+
+slice-write-answers-4 : tie.Need-slice-write-answers-4 Inv-loop μ-loop
+slice-write-answers-4 c = simp length-set (omega (arith, room c))
+
 add-used : tie.Need-add-used Inv-loop μ-loop
 add-used c =
-    let turn = turned (c .before .before .before .before .before .before .before .before .before .before) in
-    let few = rw (← c .before .before .store .ensures .1) at (turn .inside) in
+    let turn = turned (c .before .before .before .before .before .before .before .before) in
+    let result : c .before .told .result .length ≡ told-length (c .before .before .before .before .before .before .before .before .evaluate .result) = ap (λ (l : List ℕ). getD l 2 0) (c .before .told .ensures) in
+    let few = rw (← result) at (turn .inside) in
     let long = turn .outputs in
+    let size = c .before .before .before .before .before .before .before .before .before .before .before .before .before .before .before .before .before .before .before .before .before .before .before .before .before .good .1 .1 .1 .1 .0 in
     search needs
 
 loop-again : tie.Need-loop-again Inv-loop μ-loop
 loop-again c =
-    let stored = c .before .before .store .ensures in
-    (rw (stored .0, stored .1) (turned (c .before .before .before .before .before .before .before .before .before .before)), c .before .before .before .before .before .before .before .workspace .given ∙ c .before .before .before .before .before .before .before .before .before .before .before .before .before .before .before .before .before .loop .inv .1)
+    let evaluated = c .before .before .before .before .before .before .before .before in
+    (turn-stored _ (c .before .before .before .before .before .before .before .before .before .before .before .before .before .before .before .loop .inv .0) (evaluated .evaluate .result) _ (c .before .told .ensures) _ _ (turned evaluated), c .before .before .before .before .before .workspace .given ∙ c .before .before .before .before .before .before .before .before .before .before .before .before .before .before .before .loop .inv .1)
 
 same-length : tie.Need-same-length Inv-loop μ-loop
 same-length c = c .before .loop .inv .0 .tables
@@ -119,7 +144,19 @@ backlog-spec =
     part-evaluate-start-2
     part-evaluate-end-2
     (λ c κs. search needs)
-    store-requires
+    (λ c κs. search needs)
+    (λ c. record { fits = omega (arith, behind c .fits) })
+    (λ c. record { fits = omega (arith, behind c .fits) })
+    slice-write-answers
+    (λ c. record { fits = omega (arith, behind c .fits) })
+    (λ c. record { fits = omega (arith, behind c .fits) })
+    slice-write-answers-2
+    (λ c. record { fits = omega (arith, behind c .fits) })
+    (λ c. record { fits = omega (arith, behind c .fits) })
+    slice-write-answers-3
+    (λ c. record { fits = omega (arith, behind c .fits) })
+    (λ c. record { fits = omega (arith, behind c .fits) })
+    slice-write-answers-4
     add-used
     (λ c. search needs)
     (λ c. search needs)
