@@ -43,7 +43,7 @@ module _ {n : Night} (x : BacklogCall n) where
 
   -- Every other caller is given the length of all results.
   pub backlog-fit : is-23 (n .buffer) (n .ends) (n .answers) ≡ false → x .answer ≡ Accepted (backlog n .own .given)
-  backlog-fit e = decided own ∙ rw (laws.backlog-accepted n e .0)
+  backlog-fit e = decided own ∙ rw (laws.backlog-accepted n e)
 
   goes : (total : ℕ) → x .answer ≡ Accepted total → backlog n .own .number ≡ 0
   goes total e = let is : acceptance total 0 (x .table) (x .output) ≡ backlog n .own = rw e at (x .told .own .is) in ap (λ (a : Answer). a .number) (sym is)

@@ -1,8 +1,8 @@
 -- A backlog's streams, evaluated one by one: what was done before a turn, and what is left to do. Document 02, §2: "one evaluation after another".
 -- Assumes nothing.
-use Prim.Native.Nat.{ℕ, _+_, _-_, _*_, _/_, _≤_, _<_}
+use Prim.Native.Nat.{ℕ, _+_, _-_, _*_, _≤_, _<_}
 use mathlib.Core.Path.{_≡_, refl, sym, ap, _∙_, subst}
-use mathlib.Core.Bool.{Bool, true, false, not}
+use mathlib.Core.Bool.{true, false}
 use mathlib.Core.List.{List, [], _∷_, _++_, append-assoc, append-nil}
 use native.Mathlib.Omega.{arith}
 use native.Mathlib.Numerals.{towards-suc}
@@ -11,19 +11,18 @@ use lib.ListN.{length, take, drop, getD, set, length-append, length-drop, take-a
 use borrow.Rule.Slice.PartAt.{part-to-end}
 use borrow.Rule.Slice.PartMut.{midOf, putMid, post-is}
 use lib.Seq.{take-append-seam, take-append-add, drop-append-add, drop-drop, drop-length, length-take-le, sets, sets-eq, length-sets}
-use borrow.Author.Tests.{lt-ltb, le-ltb, eqb-true}
 use Rattle.spec.specs.Calls.{Answer, over, Evaluate}
-use Rattle.spec.specs.Backlog.{streams, misplaced, is-23, answer-width, four-numbers, Evaluations, followed, in-turn, Backlog}
+use Rattle.spec.specs.Backlog.{streams, is-23, answer-width, four-numbers, Evaluations, followed, in-turn}
 use Rattle.laws.specs.Demands.{Kept, Lent, evaluation}
 use Rattle.laws.specs.Backlogs.{Night, backlog, evaluations}
-use Rattle.laws.proofs.Basics.{both-false}
 use Rattle.laws.proofs.Steps.{none-left}
 use Rattle.laws.proofs.Theorems.{evaluation-keeps, evaluation-fits}
+use Rattle.laws.proofs.Backlogs.{places, backlog-refused, backlog-accepted}
 use Rattle.bulk.specs.Answers.{AnsweredEvaluation, AnsweredBacklog, told-numbers, told-length}
 use Rattle.bulk.specs.declared.Answer.the-variants.{Accepted, Refused}
 use Rattle.bulk.specs.declared.Evaluation.{Evaluation}
 use Rattle.bulk.specs.declared.Evaluation.the-variants.{Accepted as Result, Refused as Refusal}
-use Rattle.bulk.proofs.Ends.{here, Ordered, ordered-next, ordered-last}
+use Rattle.bulk.proofs.Ends.{here, Ordered, ordered-next, ordered-last, not-23}
 
 -- Evaluations that gave these numbers and whose results are the first bytes of an output, then others that had the rest of it
 abbrev preceded : List ℕ → ℕ → List ℕ → Evaluations → Evaluations
@@ -176,38 +175,18 @@ module _ (n : Night) where
 
 -- What the call answers
 
-not-false : (b : Bool) → not b ≡ false → b ≡ true
-not-false true e = refl
-not-false false e = sym e
-
 module _ (n : Night) where
-  pub misplaced-refused : misplaced (n .ends) (length (n .buffer)) ≡ true → AnsweredBacklog (backlog n) (Refused 23 0) (n .lent .table) (n .lent .output) (n .answers)
-  unfolding Backlog is-23
-  misplaced-refused e = record { own = record { is = rw e; numbered = omega arith }; list = rw e }
+  pub answered-23 : is-23 (n .buffer) (n .ends) (n .answers) ≡ true → AnsweredBacklog (backlog n) (Refused 23 0) (n .lent .table) (n .lent .output) (n .answers)
+  answered-23 e = let is = backlog-refused n e in record { own = record { is = rw is; numbered = omega arith }; list = rw is }
 
-  pub short-refused : misplaced (n .ends) (length (n .buffer)) ≡ false → length (n .answers) / answer-width < length (n .ends)
-      → AnsweredBacklog (backlog n) (Refused 23 0) (n .lent .table) (n .lent .output) (n .answers)
-  unfolding Backlog is-23
-  short-refused placed l =
-      let short = lt-ltb (length (n .answers) / answer-width) (length (n .ends)) l in
-      record { own = record { is = rw (placed, short); numbered = omega arith }; list = rw (placed, short) }
-
-  -- the ends are those of streams in the buffer, and there is a place for each answer
-  pub record Fitting : Type 0 where
-    pub placed : misplaced (n .ends) (length (n .buffer)) ≡ false
-    pub long : length (n .ends) ≤ length (n .answers) / answer-width
-
-  module _ (f : Fitting) where
+  module _ (fits : is-23 (n .buffer) (n .ends) (n .answers) ≡ false) where
     pub turns : Turn n (n .lent .table) (n .lent .output) (n .answers) 0 0 0
-    turns =
-        let e = both-false _ _ (f .placed) in
-        turn-first n (record { rises = e .0; ends-at = eqb-true _ _ (not-false _ (e .1)) }) (omega (arith, f .long))
+    turns = turn-first n (not-23 (n .buffer) (n .ends) (n .answers) fits) (places n fits)
 
     pub turns-answered : {table′ output′ answers′ : List ℕ} {start used i : ℕ}
         → Turn n table′ output′ answers′ start used i → length (n .ends) ≤ i
         → AnsweredBacklog (backlog n) (Accepted used) table′ output′ answers′
-    unfolding Backlog is-23
     turns-answered h l =
-        let enough = le-ltb (length (n .answers) / answer-width) (length (n .ends)) (f .long) in
+        let is = backlog-accepted n fits in
         let all = turn-last n h l in
-        record { own = record { is = rw (f .placed, enough, all); numbered = tt }; list = rw (f .placed, enough, all) (h .answers-are) }
+        record { own = record { is = rw (is, all); numbered = tt }; list = rw (is, all) (h .answers-are) }

@@ -10,7 +10,7 @@ ghost use lib.ListN.{length};
 ghost use denote.Ref.{RefT};
 ghost use Rattle.spec.specs.Reading.{read};
 ghost use Rattle.spec.specs.Calls.{Read, Write, Evaluate, Item, Buffer as Chosen, item-read};
-ghost use Rattle.spec.specs.Backlog.{misplaced, Backlog};
+ghost use Rattle.spec.specs.Backlog.{is-23, Backlog};
 ghost use Rattle.bulk.specs.Answers.{Answered, AnsweredEvaluation, AnsweredBacklog, told-numbers, asked, of-buffer, lent, PartItself};
 
 // The bytes of the longest stream.
@@ -129,10 +129,13 @@ pub fn evaluate(
     }
 }
 
-// Whether an end is below the one before, or the last is not the length.
-fn misplaced(ends: &[u64], length: usize) -> bool
-    ensures { λ r. ⌜ r ≡ misplaced (now (ends .entry)) length ⌝ }
+// Whether the ends are not those of streams in the buffer, or the list has too few places for their answers.
+fn is_23(buffer: &[u8], ends: &[u64], answers: &[u64]) -> bool
+    ensures { λ r. ⌜ r ≡ is-23 (now (buffer .entry)) (now (ends .entry)) (now (answers .entry)) ⌝ }
 {
+    if answers.len() / ANSWER_WIDTH < ends.len() {
+        return true;
+    }
     let mut before: u64 = 0;
     let mut i: usize = 0;
     while i < ends.len() {
@@ -142,7 +145,7 @@ fn misplaced(ends: &[u64], length: usize) -> bool
         before = ends[i];
         i += 1;
     }
-    before != length as u64
+    before != buffer.len() as u64
 }
 
 // What a backlog tells of a stream.
@@ -191,13 +194,7 @@ pub fn backlog(
     ensures { λ r.
         ⌜ AnsweredBacklog (Backlog (now (buffer .entry)) (now (ends .entry)) (now (table .entry)) (length (now (workspace .entry))) (now (output .entry)) steps (now (answers .entry))) r (now (table .exit)) (now (output .exit)) (now (answers .exit)) ⌝ }
 {
-    if misplaced(ends, buffer.len()) {
-        return Answer::Refused {
-            number: 23,
-            place: 0,
-        };
-    }
-    if answers.len() / ANSWER_WIDTH < ends.len() {
+    if is_23(buffer, ends, answers) {
         return Answer::Refused {
             number: 23,
             place: 0,

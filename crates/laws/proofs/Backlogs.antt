@@ -163,7 +163,7 @@ module _ (n : Night) where
   backlog-answers = by-test Answers (is-23 (n .buffer) (n .ends) (n .answers)) refuses accepts
 
   -- there is a place for each answer
-  places : is-23 (n .buffer) (n .ends) (n .answers) ≡ false → answer-width * length (n .ends) ≤ length (n .answers)
+  pub places : is-23 (n .buffer) (n .ends) (n .answers) ≡ false → answer-width * length (n .ends) ≤ length (n .answers)
   unfolding is-23
   places e = omega (arith, ltb-false (length (n .answers) / answer-width) (length (n .ends)) (both-false (misplaced (n .ends) (length (n .buffer))) _ e .1))
 
@@ -182,9 +182,9 @@ module _ (n : Night) where
   unfolding Backlog
   backlog-refused e = rw e
 
-  pub backlog-accepted : is-23 (n .buffer) (n .ends) (n .answers) ≡ false → (backlog n .own .number ≡ 0) × (backlog n .own .place ≡ 0)
+  pub backlog-accepted : is-23 (n .buffer) (n .ends) (n .answers) ≡ false → backlog n ≡ accepted (evaluations n) (n .answers)
   unfolding Backlog
-  backlog-accepted e = (rw e, rw e)
+  backlog-accepted e = rw e
 
   pub backlog-goes : backlog n .own .number ≡ 0 → is-23 (n .buffer) (n .ends) (n .answers) ≡ false
   backlog-goes z = go backlog-answers z

@@ -9,10 +9,11 @@ use lib.Seq.{sets}
 use mir.Syntax.{w64}
 use mir.Val.{Fits}
 use borrow.Rule.Slice.PartMut.{putMid}
-use Rattle.spec.specs.Backlog.{answer-width}
+use mathlib.Core.Bool.{false}
+use Rattle.spec.specs.Backlog.{is-23, answer-width}
 use Rattle.laws.specs.Backlogs.{Night}
 use Rattle.bulk.specs.Answers.{told-numbers, told-length}
-use Rattle.bulk.proofs.Turns.{night, Turn, turn-room, turn-ends, turn-next, turn-stored, misplaced-refused, short-refused, Fitting, turns, turns-answered}
+use Rattle.bulk.proofs.Turns.{night, Turn, turn-room, turn-ends, turn-next, turn-stored, answered-23, turns, turns-answered}
 use Rattle.bulk.proofs.backlog.Statement.{statement}
 use Rattle.bulk.proofs.backlog.Tie as tie
 
@@ -24,28 +25,25 @@ abbrev μ-loop : tie.MeasureT-loop
 μ-loop buffer ends table₀ workspace₀ output₀ steps answers₀ start₀ used₀ i₀ table workspace output answers start used i = length ends - i
 
 returns : tie.Need-returns Inv-loop μ-loop
-returns c = misplaced-refused _ (sym (c .before .misplaced .ensures) ∙ c .if1 .taken)
-
-returns-2 : tie.Need-returns-2 Inv-loop μ-loop
-returns-2 c = short-refused _ (sym (c .before .before .misplaced .ensures) ∙ c .before .if1 .left) (c .if2 .taken)
+returns c = answered-23 _ (sym (c .before .is-23 .ensures) ∙ c .if1 .taken)
 
 abbrev given : tie.Start Inv-loop μ-loop → Night
 given c =
     let a = c .args in
     night (a .buffer .now) (a .ends .now) (a .table .now) (a .workspace .now) (a .output .now) (a .steps) (a .answers .now)
 
--- the ends fit
-fits : (c : tie.Else2 Inv-loop μ-loop) → Fitting (given (c .before .before .before .before .before .before .before .before .before))
-fits c = record { placed = sym (c .before .before .misplaced .ensures) ∙ c .before .if1 .left; long = c .if2 .left }
+-- 23 has not come
+fits : (c : tie.Else1 Inv-loop μ-loop) → let n = given (c .before .before .before .before .before .before .before .before .before) in is-23 (n .buffer) (n .ends) (n .answers) ≡ false
+fits c = sym (c .before .is-23 .ensures) ∙ c .if1 .left
 
 loop-holds : tie.Need-loop-holds Inv-loop μ-loop
 loop-holds c = (turns _ (fits c), refl)
 
 sub-evaluate : tie.Need-sub-evaluate Inv-loop μ-loop
-sub-evaluate c = turn-ends _ (c .before .before .loop .inv .0) (c .before .loop-test .taken) .0
+sub-evaluate c = omega (arith, turn-ends _ (c .before .before .loop .inv .0) (c .before .loop-test .taken) .0)
 
 part-evaluate-start : tie.Need-part-evaluate-start Inv-loop μ-loop
-part-evaluate-start c = turn-ends _ (c .before .before .loop .inv .0) (c .before .loop-test .taken) .0
+part-evaluate-start c = omega (arith, turn-ends _ (c .before .before .loop .inv .0) (c .before .loop-test .taken) .0)
 
 part-evaluate-end : tie.Need-part-evaluate-end Inv-loop μ-loop
 part-evaluate-end c = turn-ends _ (c .before .before .loop .inv .0) (c .before .loop-test .taken) .1
@@ -110,20 +108,20 @@ loop-again c =
     let evaluated = c .before .before .before .before .before .before .before .before in
     (turn-stored _ (c .before .before .before .before .before .before .before .before .before .before .before .before .before .before .before .loop .inv .0) (evaluated .evaluate .result) _ (c .before .told .ensures) _ _ (turned evaluated), c .before .before .before .before .before .workspace .given ∙ c .before .before .before .before .before .before .before .before .before .before .before .before .before .before .before .loop .inv .1)
 
-same-length : tie.Need-same-length Inv-loop μ-loop
-same-length c = c .before .loop .inv .0 .tables
-
 same-length-2 : tie.Need-same-length-2 Inv-loop μ-loop
-same-length-2 c = c .before .loop .inv .1
+same-length-2 c = c .before .loop .inv .0 .tables
 
 same-length-3 : tie.Need-same-length-3 Inv-loop μ-loop
-same-length-3 c = c .before .loop .inv .0 .outputs
+same-length-3 c = c .before .loop .inv .1
 
 same-length-4 : tie.Need-same-length-4 Inv-loop μ-loop
-same-length-4 c = c .before .loop .inv .0 .lists
+same-length-4 c = c .before .loop .inv .0 .outputs
 
-returns-3 : tie.Need-returns-3 Inv-loop μ-loop
-returns-3 c = turns-answered _ (fits (c .before .before)) (c .before .loop .inv .0) (c .loop-test .left)
+same-length-5 : tie.Need-same-length-5 Inv-loop μ-loop
+same-length-5 c = c .before .loop .inv .0 .lists
+
+returns-2 : tie.Need-returns-2 Inv-loop μ-loop
+returns-2 c = turns-answered _ (fits (c .before .before)) (c .before .loop .inv .0) (c .loop-test .left)
 
 pub backlog-spec : {M : Type 1} → statement M
 backlog-spec =
@@ -132,8 +130,8 @@ backlog-spec =
     Inv-loop
     μ-loop
     (λ c κs. search needs)
+    (λ c. refl)
     returns
-    returns-2
     loop-holds
     (λ c. search needs)
     (λ c. search needs)
@@ -158,11 +156,11 @@ backlog-spec =
     (λ c. record { fits = omega (arith, behind c .fits) })
     slice-write-answers-4
     add-used
-    (λ c. search needs)
+    (λ c. record { fits = omega (arith, behind (c .before) .fits) })
     (λ c. search needs)
     loop-again
-    same-length
     same-length-2
     same-length-3
     same-length-4
-    returns-3)
+    same-length-5
+    returns-2)
