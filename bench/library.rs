@@ -1,6 +1,6 @@
 //! The library's calls, through its static library.
 
-mod linked {
+pub mod linked {
     #[link(name = "bulk_bench", kind = "static")]
     extern "C" {
         pub fn bulk_bench_read(
@@ -42,6 +42,14 @@ mod linked {
             steps: u64,
             answers: *mut u64,
             answers_length: usize,
+        ) -> usize;
+        pub fn bulk_bench_item(
+            stream: *const u8,
+            stream_length: usize,
+            result: *const u8,
+            result_length: usize,
+            of_result: bool,
+            k: usize,
         ) -> usize;
     }
 }
@@ -123,6 +131,21 @@ pub fn backlog(
             steps,
             answers.as_mut_ptr(),
             answers.len(),
+        )
+    }
+}
+
+/// Gives the length of item k, 0 if there is none: of the stream, or of the result.
+pub fn item(stream: &[u8], result: &[u8], of_result: bool, k: usize) -> usize {
+    // As above.
+    unsafe {
+        linked::bulk_bench_item(
+            stream.as_ptr(),
+            stream.len(),
+            result.as_ptr(),
+            result.len(),
+            of_result,
+            k,
         )
     }
 }

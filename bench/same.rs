@@ -10,6 +10,7 @@ pub fn answers(workload: &Workload) -> bool {
         ("Read", read(stream)),
         ("Write", write(stream)),
         ("Evaluate", evaluate(stream)),
+        ("Item", item(stream)),
     ];
     for (call, _) in alike.iter().filter(|(_, same)| !same) {
         println!("{}: {call} differs", workload.name);
@@ -45,4 +46,16 @@ fn evaluate(stream: &[u8]) -> bool {
         Ok((expected, _)) => expected == output[..length],
         Err(_) => length == 0,
     }
+}
+
+/// The first, the last and one past the last, of the stream and of the result.
+fn item(stream: &[u8]) -> bool {
+    let lengths = second::items(stream);
+    let length = |k: usize| lengths.get(k).copied().unwrap_or(0);
+    [0, lengths.len().saturating_sub(1), lengths.len()]
+        .into_iter()
+        .all(|k| {
+            library::item(stream, &[], false, k) == length(k)
+                && library::item(&[], stream, true, k) == length(k)
+        })
 }

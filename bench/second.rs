@@ -14,6 +14,12 @@ pub fn write(stream: &[u8]) -> Result<Vec<u8>, Refusal> {
     Ok(write::canonical(&tree::read(stream, ROWS as u64)?))
 }
 
+/// The lengths of the items; none if the stream can't be read.
+pub fn items(stream: &[u8]) -> Vec<usize> {
+    let list = tree::read(stream, ROWS as u64).unwrap_or_default();
+    list.iter().map(|item| item.end - item.start).collect()
+}
+
 fn bounds(output: usize) -> Bounds {
     Bounds {
         rows: ROWS as u64,

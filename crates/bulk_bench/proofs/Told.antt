@@ -2,14 +2,17 @@
 use mathlib.Core.Path.{_≡_, ap, _∙_}
 use mathlib.Core.List.{List}
 use Prim.Native.Nat.{ℕ}
-use Rattle.spec.specs.Calls.{Answer, refusal, acceptance}
+use lib.ListN.{length}
+use denote.Ref.{RefT}
+use native.Mathlib.Omega.{arith}
+use Rattle.spec.specs.Calls.{Answer, refusal, acceptance, Part, part, no-part}
 use Rattle.spec.specs.Backlog.{Backlogged}
-use Rattle.bulk.specs.Answers.{Answered, AnsweredEvaluation, AnsweredBacklog}
+use Rattle.bulk.specs.Answers.{Answered, AnsweredEvaluation, AnsweredBacklog, PartItself}
 use Rattle.bulk.specs.declared.Answer.{Answer as Given}
 use Rattle.bulk.specs.declared.Answer.the-variants.{Accepted, Refused}
 use Rattle.bulk.specs.declared.Evaluation.{Evaluation}
 use Rattle.bulk.specs.declared.Evaluation.the-variants.{Accepted as Result, Refused as Refusal}
-use Rattle.bulk_bench.specs.Given.{given, result, Gives, GivesBacklog}
+use Rattle.bulk_bench.specs.Given.{given, result, size, Gives, GivesBacklog}
 
 -- an answer's parts, where it is as stated
 parts : (a b : Answer) (r : ℕ) → r ≡ b .given → b ≡ a → Gives a r (b .table) (b .output)
@@ -30,3 +33,7 @@ result-is a (Refusal w p) n t o e h = parts a (refusal w p t o) n e (h .is)
 pub backlog-is :
     (a : Backlogged) (r : Given) (n : ℕ) (t o l : List ℕ) → n ≡ given r → AnsweredBacklog a r t o l → GivesBacklog a n t o l
 backlog-is a r n t o l e h = record { own = given-is (a .own) r n t o e (h .own); list = h .list }
+
+pub item-is : (it : Part) (stream result x : RefT (List ℕ)) → PartItself it stream result x → length (x .now) ≡ size it
+item-is (part b start end) stream result x h = let e = h .place .size in omega arith
+item-is no-part stream result x h = ap length (h .bytes)

@@ -1,9 +1,10 @@
 -- What an answer gives: rows, the length, the result's length, or that of all results. Document 01: "A refusal gives number and place, counts zero."
 -- Assumes nothing.
-use Prim.Native.Nat.{ℕ}
+use Prim.Native.Nat.{ℕ, _-_}
 use mathlib.Core.Path.{_≡_}
+use mathlib.Core.Bool.{Bool, true, false}
 use mathlib.Core.List.{List}
-use Rattle.spec.specs.Calls.{Answer as Stated}
+use Rattle.spec.specs.Calls.{Answer as Stated, Buffer, of-stream, of-result, Part, part, no-part}
 use Rattle.spec.specs.Backlog.{Backlogged}
 use Rattle.bulk.specs.declared.Answer.{Answer}
 use Rattle.bulk.specs.declared.Answer.the-variants.{Accepted, Refused}
@@ -28,3 +29,13 @@ pub record Gives (a : Stated) (r : ℕ) (table output : List ℕ) : Type 0 where
 pub record GivesBacklog (a : Backlogged) (r : ℕ) (table output answers : List ℕ) : Type 0 where
   pub own : Gives (a .own) r table output
   pub list : answers ≡ a .answers
+
+-- Item's buffer, by a bit
+abbrev pub which : Bool → Buffer
+which false = of-stream
+which true = of-result
+
+-- how long Item's part is
+abbrev pub size : Part → ℕ
+size (part b start end) = end - start
+size no-part = 0
