@@ -1,11 +1,9 @@
 //! A reader of nested lengths that calls itself through the reader of arrays.
 #![no_std]
 
-fn number(bytes: &[u8]) -> usize {
-    bytes
-        .iter()
-        .fold(0, |sum, &byte| (sum << 8) | byte as usize)
-}
+mod number;
+
+use number::number;
 
 /// The array's bytes and what is behind them.
 #[inline(never)]
