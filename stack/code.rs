@@ -11,6 +11,9 @@ pub struct Instruction {
     pub symbols: Vec<String>,
 }
 
+/// They stand before an instruction's name, and don't change where a call or a jump leads.
+const PREFIXES: [&str; 5] = ["notrack", "bnd", "addr32", "data16", "rex.W"];
+
 /// By their names.
 pub type Functions = BTreeMap<String, Vec<Instruction>>;
 
@@ -63,8 +66,13 @@ fn listed(text: &str) -> Result<Functions, String> {
 fn instruction(line: &str) -> Option<Instruction> {
     let mut parts = line.split('\t');
     let address = parts.next()?.trim().strip_suffix(':')?;
-    let code = parts.next()?.split('#').next()?;
-    let code = code.trim_start_matches("notrack ").trim();
+    let mut code = parts.next()?.split('#').next()?.trim();
+    while let Some((_, rest)) = code
+        .split_once(' ')
+        .filter(|(word, _)| PREFIXES.contains(word))
+    {
+        code = rest.trim_start();
+    }
     let (name, operands) = code.split_once(' ').unwrap_or((code, ""));
     Some(Instruction {
         address: u64::from_str_radix(address, 16).ok()?,

@@ -84,7 +84,7 @@ fn index(instructions: &[Instruction], address: u64) -> usize {
 
 fn fills(instruction: &Instruction) -> bool {
     let text = instruction.text();
-    ["nop", "xchg %ax,%ax", "data16", "cs nop", "int3"]
+    ["nop", "xchg %ax,%ax", "cs nop", "int3"]
         .iter()
         .any(|filler| text.starts_with(filler))
 }
@@ -95,7 +95,7 @@ fn moved(instruction: &Instruction, depth: usize) -> Option<usize> {
     match instruction.name.as_str() {
         "push" => return Some(depth + WORD),
         "pop" if operands != "%rsp" => return depth.checked_sub(WORD),
-        "pop" | "leave" | "enter" => return None,
+        "pop" | "popf" | "pushf" | "leave" | "enter" => return None,
         "cmp" | "test" => return Some(depth),
         _ => {}
     }

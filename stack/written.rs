@@ -25,8 +25,8 @@ fn graph(text: &str) -> Option<Graph> {
     for function in text.split("(fn-def ").skip(1) {
         let name = quoted(function)?;
         graph.add(name);
-        for call in function.split("(call (").skip(1) {
-            graph.add_call(name, quoted(call.strip_prefix("direct (fnRef ")?)?);
+        for call in function.split("(call ").skip(1) {
+            graph.add_call(name, quoted(call.strip_prefix("(direct (fnRef ")?)?);
         }
     }
     Some(graph)
