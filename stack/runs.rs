@@ -4,7 +4,7 @@
 use crate::code::Functions;
 use crate::object::{self, READING};
 use crate::small::{Ran, Small};
-use crate::streams;
+use crate::streams::{self, Stream};
 use crate::tree::{self, Expression};
 use crate::{write, Tally};
 
@@ -31,8 +31,12 @@ fn on_all(run: Run, most: usize) -> Result<String, String> {
     let mut small = Small::new().ok_or("no small stack")?;
     let streams = streams::all();
     let mut deepest = 0;
-    for (name, stream) in &streams {
-        let bytes = run(&mut small, stream).ok_or(format!("{name}: another answer"))?;
+    for stream in &streams {
+        let name = stream.name;
+        if is_readable(stream) != stream.readable {
+            return Err(format!("{name}: not as it is meant"));
+        }
+        let bytes = run(&mut small, &stream.bytes).ok_or(format!("{name}: another answer"))?;
         if bytes > most {
             return Err(format!("{name}: {bytes} bytes, above {most}"));
         }
@@ -42,6 +46,10 @@ fn on_all(run: Run, most: usize) -> Result<String, String> {
         "{} streams on a stack of 64 KiB took at most {deepest} bytes of it",
         streams.len()
     ))
+}
+
+fn is_readable(stream: &Stream) -> bool {
+    tree::read(&stream.bytes, ROWS as u64).is_ok()
 }
 
 /// Nothing where the stream can't be read.

@@ -6,38 +6,52 @@ const STREAM_LIMIT: usize = 65_536;
 const FORMS_LIMIT: usize = 64;
 const LENGTHS_LIMIT: usize = 8;
 
-/// With their names.
-pub fn all() -> Vec<(&'static str, Vec<u8>)> {
+pub struct Stream {
+    pub name: &'static str,
+    pub bytes: Vec<u8>,
+    /// Whether it can be read.
+    pub readable: bool,
+}
+
+pub fn all() -> Vec<Stream> {
+    let stream = |readable| {
+        move |(name, bytes)| Stream {
+            name,
+            bytes,
+            readable,
+        }
+    };
+    let at_limits = at_limits().into_iter().map(stream(true));
+    at_limits
+        .chain(past_limits().into_iter().map(stream(false)))
+        .collect()
+}
+
+fn at_limits() -> Vec<(&'static str, Vec<u8>)> {
     let full_of = |unit: &[u8]| unit.repeat(STREAM_LIMIT / unit.len());
-    let lengths = array_in(LENGTHS_LIMIT, &[0xAA; 300]);
+    let forms = nested(FORMS_LIMIT, &[]);
     let head = nested(FORMS_LIMIT, &array_in(LENGTHS_LIMIT, &[])).len();
     let longest = array_in(LENGTHS_LIMIT, &vec![0xAA; STREAM_LIMIT - head]);
-    let past = [vec![0x00; STREAM_LIMIT], vec![0x00]].concat();
+    let lengths = |size: usize| array_in(LENGTHS_LIMIT, &vec![0xAA; size]);
     vec![
         ("empty", Vec::new()),
-        ("an array in eight nested lengths", lengths.clone()),
-        (
-            "an array in nine",
-            array_in(LENGTHS_LIMIT + 1, &[0xAA; 300]),
-        ),
-        ("eight nested lengths, cut off", lengths[..20].to_vec()),
-        ("64 nested forms", nested(FORMS_LIMIT, &[])),
-        ("65 nested forms", nested(FORMS_LIMIT + 1, &[])),
+        ("eight nested lengths", lengths(300)),
+        ("64 nested forms", forms.clone()),
         ("65,536 nils", full_of(&[0x00])),
-        ("65,537 nils", past),
         ("65,536 bytes of small arrays", full_of(&array(&[0xAA; 3]))),
-        (
-            "65,536 bytes of eight nested lengths",
-            full_of(&array_in(LENGTHS_LIMIT, &[0xAA; 9])),
-        ),
-        (
-            "65,536 bytes of 64 nested forms",
-            full_of(&nested(FORMS_LIMIT, &[])),
-        ),
-        (
-            "eight nested lengths in 64 nested forms of 65,536 bytes",
-            nested(FORMS_LIMIT, &longest),
-        ),
+        ("65,536 bytes of nested lengths", full_of(&lengths(9))),
+        ("65,536 bytes of nested forms", full_of(&forms)),
+        ("all three limits", nested(FORMS_LIMIT, &longest)),
+    ]
+}
+
+fn past_limits() -> Vec<(&'static str, Vec<u8>)> {
+    let cut_off = array_in(LENGTHS_LIMIT, &[])[..20].to_vec();
+    vec![
+        ("eight nested lengths, cut off", cut_off),
+        ("nine nested lengths", array_in(LENGTHS_LIMIT + 1, &[0xAA])),
+        ("65 nested forms", nested(FORMS_LIMIT + 1, &[])),
+        ("65,537 nils", vec![0x00; STREAM_LIMIT + 1]),
     ]
 }
 

@@ -1,4 +1,4 @@
--- What an answer gives: rows, the length, the result's length, or that of all results. Document 01: "A refusal gives number and place, counts zero."
+-- What an answer gives: rows, the length, the result's length, that of all results, or an item's. Document 01: "A refusal gives number and place, counts zero."
 -- Assumes nothing.
 use Prim.Native.Nat.{ℕ, _-_}
 use mathlib.Core.Path.{_≡_}
