@@ -7,13 +7,13 @@ use native.Mathlib.Omega.{arith}
 use lib.ListN.{length, take, drop, length-append, length-take, length-drop, take-append-drop}
 use lib.Seq.{take-at}
 use Rattle.spec.specs.Expr.{Atom, nil, array, int, ref, atom-bytes}
-use Rattle.spec.specs.Reading.{Token, opening, closing, whole, bad, atom-kind}
+use Rattle.spec.specs.Reading.{Token, opening, closing, whole, unfinished, bad, atom-kind}
 use Rattle.laws.specs.Demands.{Bytes}
 use Rattle.laws.specs.Grammar.{SpellsArray, small, generic}
 use Rattle.laws.proofs.Steps.{split-rest, tokens-from, WholeAt, StepAt, step-at}
 use Rattle.atoms.specs.Tokens.{token-at, body, shown, atom-head}
 use Rattle.atoms.specs.declared.Token.{Token as Answer}
-use Rattle.atoms.specs.declared.Token.the-variants.{Opening, Closing, Whole, Bad}
+use Rattle.atoms.specs.declared.Token.the-variants.{Opening, Closing, Whole, Unfinished, Bad}
 
 -- an atom of that kind that goes from p to e, its body from b on
 pub record AtomAt (s : List ℕ) (p kind b e : ℕ) : Type 0 where
@@ -31,6 +31,7 @@ abbrev pub Next : List ℕ → ℕ → Answer → Type 0
 Next s p Opening = tokens-from s p ≡ opening p ∷ tokens-from s (p + 1)
 Next s p Closing = tokens-from s p ≡ closing p ∷ tokens-from s (p + 1)
 Next s p (Whole k b e) = AtomAt s p k b e
+Next s p Unfinished = (ts : List Token) × (tokens-from s p ≡ unfinished p ∷ ts)
 Next s p (Bad w q) = (ts : List Token) × (tokens-from s p ≡ bad w q ∷ ts)
 
 module _ (s : List ℕ) (p e : ℕ) where
@@ -86,4 +87,5 @@ next s p r stream inside told = rw told (go (token-at s p) (step-at s p stream i
     go (opening q) h = h
     go (closing q) h = h
     go (whole a q e) h = rw (h .0) (atom-at s p e a (h .1))
+    go (unfinished q) h = h
     go (bad w q) h = h

@@ -14,7 +14,7 @@ use lib.Seq.{drop-cons, drop-drop}
 use lib.Dec.{eqb}
 use borrow.Author.Tests.{lt-ltb, le-ltb, le-leb, lt-leb, ne-eqb}
 use Rattle.spec.specs.Expr.{if_then_else_}
-use Rattle.spec.specs.Reading.{Taken, taken, failed, and-then, take-bytes, natural, as-length, plain-length, length-expr, marker, name, as-array}
+use Rattle.spec.specs.Reading.{Taken, taken, cut-off, failed, and-then, take-bytes, natural, as-length, plain-length, length-expr, marker, name, as-array}
 use Rattle.laws.specs.Demands.{Bytes}
 use Rattle.laws.specs.Grammar.{SpellsLength}
 use Rattle.laws.proofs.Basics.{impossible}
@@ -22,8 +22,10 @@ use Rattle.laws.proofs.Fits.{bytes-drop}
 use Rattle.laws.proofs.Spelling.{SplitOff, plain-taken, length-taken}
 use Rattle.laws.proofs.Steps.{none-left, split-size, split-rest}
 use Rattle.atoms.specs.Tokens.{measured, leading-threes, plain, around, shown-atom}
-use Rattle.atoms.specs.declared.Length.the-variants.{Is, Wrong}
-use Rattle.atoms.specs.declared.Token.the-variants.{Whole, Bad}
+use Rattle.atoms.specs.declared.Length.{Length}
+use Rattle.atoms.specs.declared.Length.the-variants.{Is, CutOff, Wrong}
+use Rattle.atoms.specs.declared.Token.{Token}
+use Rattle.atoms.specs.declared.Token.the-variants.{Whole, Unfinished, Bad}
 
 -- Places
 
@@ -41,16 +43,13 @@ measured-is s n p h = ap (Is (min n 65537)) (left-at s p h)
 measured-wrong : (s : List ℕ) (w p : ℕ) → p ≤ length s → measured (length s) (failed w (drop p s)) ≡ Wrong w p
 measured-wrong s w p h = ap (Wrong w) (left-at s p h)
 
-measured-short : (s : List ℕ) → measured (length s) (failed 2 []) ≡ Wrong 2 (length s)
-measured-short s = ap (Wrong 2) (omega arith)
-
 -- so many bytes from a place on, which are there or in which the stream ends
 module _ (s : List ℕ) (p n : ℕ) where
   take-there : p ≤ length s → n ≤ length s - p → take-bytes n (drop p s) ≡ taken (take n (drop p s)) (drop (p + n) s)
   unfolding take-bytes
   take-there h l = let left = length-drop p s in rw (le-leb n (length (drop p s)) (omega arith), drop-drop n p s)
 
-  take-short : length s - p < n → take-bytes n (drop p s) ≡ failed 2 []
+  take-short : length s - p < n → take-bytes n (drop p s) ≡ cut-off
   unfolding take-bytes
   take-short l = let left = length-drop p s in rw (lt-leb n (length (drop p s)) (omega arith))
 
@@ -92,10 +91,21 @@ take-held n s h =
 
 -- Lengths from the inside out
 
-pub around-failed : (k w : ℕ) (s : List ℕ) → around k (failed w s) ≡ failed w s
+-- a refusal is that of what stands around it too
+abbrev pub Refused : Taken ℕ → Type 0
+Refused (taken n s) = ⊥
+Refused cut-off = Unit {0}
+Refused (failed w s) = Unit {0}
+
+pub around-refused : (k : ℕ) (x : Taken ℕ) → Refused x → around k x ≡ x
 unfolding around
-around-failed zero w s = refl
-around-failed (suc k) w s = rw (around-failed k w s)
+around-refused zero x u = refl
+around-refused (suc k) x u = rw (around-refused k x u) (one x u)
+  where
+    one : (x : Taken ℕ) → Refused x → and-then (and-then x take-bytes) as-length ≡ x
+    one (taken n s) u = absurd u
+    one cut-off u = refl
+    one (failed w s) u = refl
 
 -- the innermost array first
 pub around-inner : (k n : ℕ) (s : List ℕ) → around (suc k) (taken n s) ≡ around k (and-then (take-bytes n s) as-length)
@@ -122,8 +132,8 @@ module _ (s : List ℕ) (k v p : ℕ) (short : length s ≤ 65536) (inside : p �
       let behind = length-drop (p + v) s in
       rw (inner-first h, take-there s p v inside l) (around-held (k - 1) (natural 0 (take v (drop p s))) (drop (p + v) s) (length s) (omega arith))
 
-  pub around-short : 0 < k → length s - p < v → measured (length s) (around k (taken v (drop p s))) ≡ Wrong 2 (length s)
-  around-short h l = rw (inner-first h, take-short s p v l, around-failed (k - 1) 2 []) (measured-short s)
+  pub around-short : 0 < k → length s - p < v → measured (length s) (around k (taken v (drop p s))) ≡ CutOff
+  around-short h l = rw (inner-first h, take-short s p v l, around-refused (k - 1) cut-off tt)
 
   pub around-none : k ≡ 0 → v ≤ 65537 → measured (length s) (around k (taken v (drop p s))) ≡ Is v p
   unfolding around
@@ -131,8 +141,8 @@ module _ (s : List ℕ) (k v p : ℕ) (short : length s ≤ 65536) (inside : p �
 
 -- a plain length, by its first byte
 module _ (s : List ℕ) (p : ℕ) where
-  pub plain-end : p ≡ length s → measured (length s) (plain (drop p s)) ≡ Wrong 2 p
-  plain-end h = rw (none-left s p (omega arith)) (measured-short s ∙ ap (Wrong 2) (sym h))
+  pub plain-end : p ≡ length s → measured (length s) (plain (drop p s)) ≡ CutOff
+  plain-end h = rw (none-left s p (omega arith))
 
   module _ (inside : p < length s) where
     here : drop p s ≡ getD s p 0 ∷ drop (p + 1) s
@@ -156,8 +166,8 @@ module _ (s : List ℕ) (p : ℕ) where
       unfolding plain-length
       plain-bytes = rw (here, le-ltb (getD s p 0) 0x80 (omega arith), le-ltb (getD s p 0) 0xC0 array-byte)
 
-      pub plain-short : length s - (p + 1) < getD s p 0 - 0xC0 → measured (length s) (plain (drop p s)) ≡ Wrong 2 (length s)
-      plain-short l = rw (plain-bytes, take-short s (p + 1) (getD s p 0 - 0xC0) l) (measured-short s)
+      pub plain-short : length s - (p + 1) < getD s p 0 - 0xC0 → measured (length s) (plain (drop p s)) ≡ CutOff
+      plain-short l = rw (plain-bytes, take-short s (p + 1) (getD s p 0 - 0xC0) l)
 
       pub plain-array : (e : ℕ) → e ≡ p + 1 + (getD s p 0 - 0xC0) → e ≤ length s
           → measured (length s) (plain (drop p s)) ≡ Is (min (natural 0 (take (e - (p + 1)) (drop (p + 1) s))) 65537) e
@@ -257,6 +267,7 @@ told s p (taken n t) v e h split m =
       held = cc;
       inside = omega arith;
     }
+told s p cut-off v e h split m = impossible (cc)
 told s p (failed w t) v e h split m = impossible (cc)
 
 module _ (s : List ℕ) (p v e : ℕ) (stream : Bytes s) (inside : p ≤ length s) where
@@ -310,20 +321,39 @@ module _ (s : List ℕ) (at : ℕ) (inside : at + 3 < length s) where
       of-bytes 2 (getD s (at + 2) 0 * 256 + getD s (at + 3) 0) (at + 4) (omega arith) (omega arith) (omega arith)
       (rw (first-left s (at + 2) (omega arith), next, first-left s (at + 3) (omega arith)) (omega arith))
 
--- a length that is wrong is wrong for what stands around it
-pub around-wrong : (end k : ℕ) (x : Taken ℕ) (w p : ℕ) → measured end x ≡ Wrong w p → measured end (around k x) ≡ Wrong w p
-around-wrong end k (taken n t) w p m = impossible (cc)
-around-wrong end k (failed v t) w p m = ap (measured end) (around-failed k v t) ∙ m
+-- what the code is told where there is no length
+abbrev pub NoLength : Length → Type 0
+NoLength (Is v e) = ⊥
+NoLength CutOff = Unit {0}
+NoLength (Wrong w p) = Unit {0}
 
-pub array-wrong : (q end : ℕ) (x : Taken ℕ) (w p : ℕ) → measured end x ≡ Wrong w p
-    → shown-atom q end (and-then (and-then x take-bytes) as-array) ≡ Bad w p
-array-wrong q end (taken n t) w p m = impossible (cc)
-array-wrong q end (failed v t) w p m = let number : v ≡ w = cc in let place : end - length t ≡ p = cc in rw (number, place)
+told-refused : (end : ℕ) (x : Taken ℕ) → NoLength (measured end x) → Refused x
+told-refused end (taken n t) u = u
+told-refused end cut-off u = tt
+told-refused end (failed w t) u = tt
+
+pub around-told : (end k : ℕ) (x : Taken ℕ) (r : Length) → NoLength r → measured end x ≡ r → measured end (around k x) ≡ r
+around-told end k x r u m = ap (measured end) (around-refused k x (told-refused end x (rw (← m) at u))) ∙ m
+
+abbrev pub refusal-token : (r : Length) → NoLength r → Token
+refusal-token (Is v e) u = absurd u
+refusal-token CutOff u = Unfinished
+refusal-token (Wrong w p) u = Bad w p
+
+pub array-told : (q end : ℕ) (x : Taken ℕ) (r : Length) (u : NoLength r) → measured end x ≡ r
+    → shown-atom q end (and-then (and-then x take-bytes) as-array) ≡ refusal-token r u
+array-told q end x (Is v e) u m = absurd u
+array-told q end (taken n t) CutOff u m = impossible (cc)
+array-told q end cut-off CutOff u m = refl
+array-told q end (failed v t) CutOff u m = impossible (cc)
+array-told q end (taken n t) (Wrong w p) u m = impossible (cc)
+array-told q end cut-off (Wrong w p) u m = impossible (cc)
+array-told q end (failed v t) (Wrong w p) u m = let number : v ≡ w = cc in let place : end - length t ≡ p = cc in rw (number, place)
 
 -- Markers, from place to place
 
 module _ (s : List ℕ) (p m : ℕ) where
-  pub marker-end : p ≡ length s → marker m (drop p s) ≡ failed 2 []
+  pub marker-end : p ≡ length s → marker m (drop p s) ≡ cut-off
   unfolding marker
   marker-end h = rw (none-left s p (omega arith))
 
@@ -347,14 +377,14 @@ module _ (s : List ℕ) (p : ℕ) where
       rw (take-there s body size h k, left-at s (body + size) (omega arith), bytes, first)
 
   pub shown-short : (body size : ℕ) → length s - body < size
-      → shown-atom p (length s) (and-then (take-bytes size (drop body s)) as-array) ≡ Bad 2 (length s)
-  shown-short body size k = rw (take-short s body size k) (ap (Bad 2) (omega arith))
+      → shown-atom p (length s) (and-then (take-bytes size (drop body s)) as-array) ≡ Unfinished
+  shown-short body size k = rw (take-short s body size k)
 
   -- a reference at p whose marker is m, with the name byte at q
   module _ (m q : ℕ) where
-    pub shown-nameless : q ≡ length s → shown-atom p (length s) (name (drop p s) m (drop q s)) ≡ Bad 2 q
+    pub shown-nameless : q ≡ length s → shown-atom p (length s) (name (drop p s) m (drop q s)) ≡ Unfinished
     unfolding name
-    shown-nameless h = rw (none-left s q (omega arith)) (ap (Bad 2) (omega arith))
+    shown-nameless h = rw (none-left s q (omega arith))
 
     pub shown-above : p ≤ length s → q < length s → 65535 < m → shown-atom p (length s) (name (drop p s) m (drop q s)) ≡ Bad 7 p
     unfolding name

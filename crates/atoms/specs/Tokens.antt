@@ -5,11 +5,11 @@ use mathlib.Core.List.{List, [], _∷_}
 use lib.ListN.{length, drop, getD}
 use lib.Dec.{eqb}
 use Rattle.spec.specs.Expr.{if_then_else_, Atom, if-array, array-head}
-use Rattle.spec.specs.Reading.{Taken, taken, failed, and-then, take-bytes, as-length, plain-length, Token, opening, closing, whole, bad, atom-kind, atom-token, token}
+use Rattle.spec.specs.Reading.{Taken, taken, cut-off, failed, and-then, take-bytes, as-length, plain-length, Token, opening, closing, whole, unfinished, bad, atom-kind, atom-token, token}
 use Rattle.atoms.specs.declared.Length.{Length}
-use Rattle.atoms.specs.declared.Length.the-variants.{Is, Wrong}
+use Rattle.atoms.specs.declared.Length.the-variants.{Is, CutOff, Wrong}
 use Rattle.atoms.specs.declared.Token.{Token as Answer}
-use Rattle.atoms.specs.declared.Token.the-variants.{Opening, Closing, Whole, Bad}
+use Rattle.atoms.specs.declared.Token.the-variants.{Opening, Closing, Whole, Unfinished, Bad}
 
 -- the token at a place inside a stream
 abbrev pub token-at : List ℕ → ℕ → Token
@@ -24,6 +24,7 @@ abbrev pub shown : Token → Answer
 shown (opening p) = Opening
 shown (closing p) = Closing
 shown (whole a p e) = Whole (atom-kind a) (body a p e) e
+shown (unfinished p) = Unfinished
 shown (bad w p) = Bad w p
 
 -- the head that the canonical bytes of an atom of that kind have before a body of n bytes
@@ -35,6 +36,7 @@ atom-head kind n = if eqb kind 2 then array-head n else []
 -- a length read from a stream that ends at `end`; no stream has 65,537 bytes, so no more has to be told of a longer one
 abbrev pub measured : ℕ → Taken ℕ → Length
 measured end (taken n s) = Is (min n 65537) (end - length s)
+measured end cut-off = CutOff
 measured end (failed w s) = Wrong w (end - length s)
 
 -- how many bytes 03 a list begins with, counted up to k
@@ -45,7 +47,7 @@ leading-threes (suc k) (b ∷ s) = if eqb b 0x03 then suc (leading-threes k s) e
 
 -- a length that is no generic array, where no 03 stands
 abbrev pub plain : List ℕ → Taken ℕ
-plain [] = failed 2 []
+plain [] = cut-off
 plain (b ∷ s) = plain-length b s
 
 -- k generic arrays, each the length of the next; the innermost has the length x

@@ -31,14 +31,18 @@ pub enum Token {
     Closing,
     // An atom of that kind. `body` is where an array's bytes begin; any other atom is all body.
     Whole { kind: u32, body: usize, end: usize },
-    // A refusal's number and place.
+    // An atom in which the stream ends.
+    Unfinished,
+    // Another refusal's number and place.
     Bad(u32, usize),
 }
 
 // A length expression's number, held at `TOO_MANY`, and where the expression ends.
 enum Length {
     Is { value: usize, end: usize },
-    // A refusal's number and place.
+    // The stream ends inside it.
+    CutOff,
+    // Another refusal's number and place.
     Wrong(u32, usize),
 }
 
@@ -83,7 +87,7 @@ fn plain_length(s: &[u8], at: usize) -> Length
     ensures { λ r. ⌜ r ≡ measured (length (now (s .entry))) (plain (drop at (now (s .entry)))) ⌝ }
 {
     if at == s.len() {
-        return Length::Wrong(2, at);
+        return Length::CutOff;
     }
     let b = s[at] as usize;
     let body = at + 1;
@@ -98,7 +102,7 @@ fn plain_length(s: &[u8], at: usize) -> Length
     }
     let n = b - 0xC0;
     if s.len() - body < n {
-        return Length::Wrong(2, s.len());
+        return Length::CutOff;
     }
     let end = body + n;
     Length::Is {
@@ -117,7 +121,7 @@ fn nested_length(s: &[u8], value: usize, from: usize, depth: usize) -> Length
     let mut k = depth;
     while 0 < k {
         if s.len() - at < v {
-            return Length::Wrong(2, s.len());
+            return Length::CutOff;
         }
         let end = at + v;
         v = number(s, at, end);
@@ -137,6 +141,7 @@ fn length_at(s: &[u8], at: usize) -> Length
         return Length::Wrong(6, at + 7);
     }
     match plain_length(s, at + depth) {
+        Length::CutOff => Length::CutOff,
         Length::Wrong(number, place) => Length::Wrong(number, place),
         Length::Is { value, end } => nested_length(s, value, end, depth),
     }
@@ -150,6 +155,7 @@ fn any_array(s: &[u8], at: usize) -> Token
         (and-then (and-then (length-expr 7 (drop (suc at) (now (s .entry)))) take-bytes) as-array) ⌝ }
 {
     match length_at(s, at + 1) {
+        Length::CutOff => Token::Unfinished,
         Length::Wrong(number, place) => Token::Bad(number, place),
         Length::Is { value, end } => bytes_at(s, end, value),
     }
@@ -180,7 +186,7 @@ fn bytes_at(s: &[u8], body: usize, size: usize) -> Token
     ensures { λ r. ⌜ ((p : ℕ) → r ≡ shown-atom p (length (now (s .entry))) (and-then (take-bytes size (drop body (now (s .entry)))) as-array)) ⌝ }
 {
     if s.len() - body < size {
-        return Token::Bad(2, s.len());
+        return Token::Unfinished;
     }
     Token::Whole {
         kind: Kind::ARRAY,
@@ -195,7 +201,7 @@ fn reference(s: &[u8], at: usize, sum: usize, past: usize) -> Token
     ensures { λ r. ⌜ r ≡ shown-atom at (length (now (s .entry))) (name (drop at (now (s .entry))) sum (drop past (now (s .entry)))) ⌝ }
 {
     if past == s.len() {
-        return Token::Bad(2, past);
+        return Token::Unfinished;
     }
     if 65535 < sum {
         return Token::Bad(7, at);
@@ -222,7 +228,7 @@ fn long_reference(s: &[u8], at: usize) -> Token
             return reference(s, at, sum, p);
         }
     }
-    Token::Bad(2, p)
+    Token::Unfinished
 }
 
 // The token at a place of a stream, whichever it is.

@@ -6,7 +6,7 @@ use lib.ListN.{length, length-drop}
 use lib.Dec.{ltb, leb, eqb}
 use native.Mathlib.Omega.{arith}
 use Rattle.spec.specs.Expr.{array-head}
-use Rattle.spec.specs.Reading.{Taken, taken, failed, and-then, take-bytes, as-length, plain-length, length-expr, marker, name, as-array, read-atom}
+use Rattle.spec.specs.Reading.{Taken, taken, cut-off, failed, and-then, take-bytes, as-length, plain-length, length-expr, marker, name, as-array, read-atom}
 use Rattle.laws.proofs.Basics.{by-test}
 use Rattle.laws.proofs.Canonical.{Head, one-byte, three-bytes, four-bytes, array-head-is}
 
@@ -26,16 +26,18 @@ head-bounds n = go (array-head-is n)
 -- what was read off n bytes leaves no more; a refusal is one of an atom's
 abbrev pub Off : {A : Type 0} → ℕ → Taken A → Type 0
 Off n (taken a s) = length s ≤ n
-Off n (failed w s) = (length s ≤ n) × (1 ≤ w) × (w ≤ 7)
+Off n cut-off = Unit {0}
+Off n (failed w s) = (length s ≤ n) × (4 ≤ w) × (w ≤ 7)
 
 off-then : {A B : Type 0} (n : ℕ) (x : Taken A) (f : A → List ℕ → Taken B) → Off n x → ((a : A) (s : List ℕ) → length s ≤ n → Off n (f a s))
     → Off n (and-then x f)
 off-then n (taken a s) f x g = g a s x
+off-then n cut-off f x g = tt
 off-then n (failed w s) f x g = x
 
 off-take : (n k : ℕ) (s : List ℕ) → length s ≤ n → Off n (take-bytes k s)
 unfolding take-bytes
-off-take n k s h = by-test (Off n) (leb k (length s)) (λ e. simp length-drop (omega arith)) (λ e. omega arith)
+off-take n k s h = by-test (Off n) (leb k (length s)) (λ e. simp length-drop (omega arith)) (λ e. tt)
 
 off-plain : (n b : ℕ) (s : List ℕ) → suc (length s) ≤ n → Off n (plain-length b s)
 unfolding plain-length
@@ -46,8 +48,8 @@ off-plain n b s h =
 
 off-length : (n k : ℕ) (s : List ℕ) → length s ≤ n → Off n (length-expr k s)
 unfolding length-expr
-off-length n zero [] h = omega arith
-off-length n (suc k) [] h = omega arith
+off-length n zero [] h = tt
+off-length n (suc k) [] h = tt
 off-length n zero (b ∷ s) h = by-test (Off n) (eqb b 0x03) (λ e. omega arith) (λ e. off-plain n b s h)
 off-length n (suc k) (b ∷ s) h =
     let inner = off-then n (length-expr k s) take-bytes (off-length n k s (omega arith)) (off-take n) in
@@ -55,12 +57,12 @@ off-length n (suc k) (b ∷ s) h =
 
 off-marker : (n m : ℕ) (s : List ℕ) → length s ≤ n → Off n (marker m s)
 unfolding marker
-off-marker n m [] h = omega arith
+off-marker n m [] h = tt
 off-marker n m (b ∷ s) h = by-test (Off n) (eqb b 0xFF) (λ e. off-marker n (m + b) s (omega arith)) (λ e. omega arith)
 
 off-name : (n : ℕ) (from : List ℕ) → length from ≤ n → (m : ℕ) (s : List ℕ) → length s ≤ n → Off n (name from m s)
 unfolding name
-off-name n from k m [] h = omega arith
+off-name n from k m [] h = tt
 off-name n from k m (b ∷ s) h = by-test (Off n) (ltb 65535 m) (λ e. omega arith) (λ e. omega arith)
 
 pub off-atom : (b : ℕ) (s : List ℕ) → Off (suc (length s)) (read-atom b s)

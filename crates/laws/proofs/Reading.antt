@@ -10,13 +10,13 @@ use borrow.Author.Tests.{ltb-false, le-ltb, lt-leb, ne-eqb}
 use native.Mathlib.Omega.{arith}
 use native.Mathlib.Numerals.{add-one}
 use Rattle.spec.specs.Expr.{if_then_else_, Atom, Expr, atom, form, Exprs, none, more, rows, rows-all, depth, deepest, bytes, canonical}
-use Rattle.spec.specs.Reading.{Token, opening, closing, whole, token, tokens, Verdict, right, wrong, check, put, wrap, lists, Row, rows-of, refused, readable, by-verdict, read}
+use Rattle.spec.specs.Reading.{Token, opening, closing, whole, token, tokens, Verdict, right, wrong, began, check, put, wrap, lists, Row, rows-of, refused, readable, by-verdict, read}
 use Rattle.laws.specs.Demands.{Bytes, meaning-of}
 use Rattle.laws.proofs.Basics.{impossible}
 use Rattle.laws.proofs.Fits.{FitsExpr, FitsAll}
 use Rattle.laws.specs.Grammar.{SpellsAtom, Spells, SpellsAll}
 use Rattle.laws.proofs.Spelling.{Front, front, canonical-atom}
-use Rattle.laws.proofs.Tokens.{Right, at-end, opens, closes, stands, right-tokens, Laid, tokens-laid, RefusalInside, check-refusal, tokens-few}
+use Rattle.laws.proofs.Tokens.{Right, at-end, opens, closes, stands, right-tokens, Laid, tokens-laid, RefusalInside, check-refusal, tokens-few, check-began}
 use Rattle.laws.proofs.Rows.{rows-in, rows-count, rows-room, right-room}
 
 -- What was read
@@ -71,22 +71,21 @@ stream-laid s b = subst (λ (x : ℕ). Laid 0 (tokens 0 0 s) x) (omega arith) (t
 -- how a stream is readable
 pub record Readable (s : List ℕ) (room : ℕ) (rs : List Row) (es : Exprs) : Type 0 where
   pub short : length s ≤ 65536
-  pub passes : check (length s) room (tokens 0 0 s) 0 0 ≡ right
   pub well : Right room (tokens 0 0 s) 0 0
   pub rows-are : rs ≡ rows-of (tokens 0 0 s)
   pub means : es ≡ meaning-of s
 
 pub read-readable : (s : List ℕ) (room : ℕ) (rs : List Row) (es : Exprs) → read s room ≡ readable rs es → Readable s room rs es
 unfolding read
-read-readable s room rs es h = go (ltb 65536 (length s)) refl (check (length s) room (tokens 0 0 s) 0 0) refl h
+read-readable s room rs es h = go (ltb 65536 (length s)) refl (check 0 room (tokens 0 0 s) 0 0) refl h
   where
-    go : (b : Bool) → ltb 65536 (length s) ≡ b → (v : Verdict) → check (length s) room (tokens 0 0 s) 0 0 ≡ v
+    go : (b : Bool) → ltb 65536 (length s) ≡ b → (v : Verdict) → check 0 room (tokens 0 0 s) 0 0 ≡ v
         → (if b then refused 1 0 else by-verdict v (tokens 0 0 s)) ≡ readable rs es → Readable s room rs es
     go true e v k h = impossible (cc)
-    go false e right k h = record { short = ltb-false 65536 (length s) e; passes = k; well = right-tokens (length s) room (tokens 0 0 s) 0 0 k; rows-are = cc; means = cc }
+    go false e right k h = record { short = ltb-false 65536 (length s) e; well = right-tokens 0 room (tokens 0 0 s) 0 0 k; rows-are = cc; means = cc }
     go false e (wrong w p) k h = impossible (cc)
 
-readable-read : (s : List ℕ) (room : ℕ) → length s ≤ 65536 → check (length s) room (tokens 0 0 s) 0 0 ≡ right
+readable-read : (s : List ℕ) (room : ℕ) → length s ≤ 65536 → check 0 room (tokens 0 0 s) 0 0 ≡ right
     → read s room ≡ readable (rows-of (tokens 0 0 s)) (meaning-of s)
 unfolding read
 readable-read s room h k = rw (le-ltb 65536 (length s) h, k)
@@ -96,10 +95,10 @@ pub read-refusal : (s : List ℕ) (room w p : ℕ) → Bytes s → read s room �
     → (1 ≤ w) × (w ≤ 8) × (w ≤ 7 + (length s - room)) × (p ≤ length s)
 unfolding read
 read-refusal s room w p b h =
-    let inside = check-refusal (length s) room (length s) (tokens 0 0 s) 0 0 0 (stream-laid s b) (omega (arith, tokens-few s 0 0)) in
-    go (ltb 65536 (length s)) (check (length s) room (tokens 0 0 s) 0 0) inside h
+    let inside = check-refusal 0 (length s) room (length s) (tokens 0 0 s) 0 0 0 0 (omega arith) (omega arith) (omega arith) (stream-laid s b) (omega (arith, tokens-few s 0 0)) in
+    go (ltb 65536 (length s)) (check 0 room (tokens 0 0 s) 0 0) inside h
   where
-    go : (c : Bool) (v : Verdict) → RefusalInside (length s) room (length s) v
+    go : (c : Bool) (v : Verdict) → RefusalInside 0 (length s) room (length s) v
         → (if c then refused 1 0 else by-verdict v (tokens 0 0 s)) ≡ refused w p → (1 ≤ w) × (w ≤ 8) × (w ≤ 7 + (length s - room)) × (p ≤ length s)
     go true v r h = let number : 1 ≡ w = cc in let place : 0 ≡ p = cc in omega arith
     go false right r h = impossible (cc)
@@ -114,7 +113,7 @@ pub read-enough : (s : List ℕ) (room : ℕ) (rs : List Row) (es : Exprs) → r
 read-enough s room rs es h room′ k =
     let r = read-readable s room rs es h in
     let size : length rs ≡ length (rows-of (tokens 0 0 s)) = ap length (r .rows-are) in
-    rw (r .rows-are, r .means) (readable-read s room′ (r .short) (right-room (r .well) (length s) room′ (omega arith)))
+    rw (r .rows-are, r .means) (readable-read s room′ (r .short) (right-room (r .well) 0 room′ (omega arith)))
 
 -- what holds of a meaning that was read: its canonical bytes can be read too, in as many rows, and are no more than the stream's
 pub record Meant (s : List ℕ) (room : ℕ) (rs : List Row) (es : Exprs) : Type 0 where
@@ -250,38 +249,39 @@ read-first e x s sp b room rs es h =
     go [] f q = absurd f
     go (fs ∷ ls) f q = (fs, q)
 
-module _ (end room : ℕ) where
+module _ (room : ℕ) where
   mutual
     unfolding check rows depth expr-tokens
 
-    check-expr : (e : Expr) (x : List ℕ) (sp : Spells e x) (p d n : ℕ) (ts : List Token) → depth e + d ≤ 64 → n + rows e ≤ room
-        → check end room (expr-tokens e x sp p ts) d n ≡ check end room ts d (n + rows e)
-    check-expr (atom a) x sp p d n ts h k = rw (lt-leb room n (omega arith))
-    check-expr (form es) x sp p d n ts h k =
+    pub check-expr : (e : Expr) (x : List ℕ) (sp : Spells e x) (from p d n : ℕ) (ts : List Token) → depth e + d ≤ 64 → n + rows e ≤ room
+        → check from room (expr-tokens e x sp p ts) d n ≡ check from room ts d (n + rows e)
+    check-expr (atom a) x sp from p d n ts h k = rw (lt-leb room n (omega arith))
+    check-expr (form es) x sp from p d n ts h k =
         let back : d + 1 - 1 ≡ d = omega arith in
         let count : n + 1 + rows-all es ≡ n + (1 + rows-all es) = omega arith in
-        let inner = check-list es (sp .0) (sp .2) (p + 1) (d + 1) (n + 1) (closing (p + 1 + length (sp .0)) ∷ ts) (omega arith) (omega arith) in
+        let inner = check-list es (sp .0) (sp .2) (began d from p) (p + 1) (d + 1) (n + 1) (closing (p + 1 + length (sp .0)) ∷ ts) (omega arith) (omega arith) in
         rw (lt-leb 64 d (omega arith), lt-leb room n (omega arith), inner, ne-eqb (d + 1) 0 (λ z. omega arith), back, count)
+        (check-began from room p ts d (n + (1 + rows-all es)))
 
-    check-list : (es : Exprs) (x : List ℕ) (sp : SpellsAll es x) (p d n : ℕ) (ts : List Token) → deepest es + d ≤ 64 → n + rows-all es ≤ room
-        → check end room (all-tokens es x sp p ts) d n ≡ check end room ts d (n + rows-all es)
-    check-list none x sp p d n ts h k = ap (check end room ts d) (omega arith)
-    check-list (more e es) x sp p d n ts h k =
-        check-expr e (sp .0) (sp .3) p d n _ (omega arith) (omega arith)
-        ∙ check-list es (sp .1) (sp .4) (p + length (sp .0)) d (n + rows e) ts (omega arith) (omega arith)
-        ∙ ap (check end room ts d) (omega arith)
+    pub check-list : (es : Exprs) (x : List ℕ) (sp : SpellsAll es x) (from p d n : ℕ) (ts : List Token) → deepest es + d ≤ 64 → n + rows-all es ≤ room
+        → check from room (all-tokens es x sp p ts) d n ≡ check from room ts d (n + rows-all es)
+    check-list none x sp from p d n ts h k = ap (check from room ts d) (omega arith)
+    check-list (more e es) x sp from p d n ts h k =
+        check-expr e (sp .0) (sp .3) from p d n _ (omega arith) (omega arith)
+        ∙ check-list es (sp .1) (sp .4) from (p + length (sp .0)) d (n + rows e) ts (omega arith) (omega arith)
+        ∙ ap (check from room ts d) (omega arith)
 
-  pub check-all : (es : Exprs) (x : List ℕ) → SpellsAll es x → (p d n : ℕ) (s : List ℕ) → deepest es + d ≤ 64 → n + rows-all es ≤ room
-      → check end room (tokens p 0 (x ++ s)) d n ≡ check end room (tokens (p + length x) 0 s) d (n + rows-all es)
-  check-all es x sp p d n s h k = rw (tokens-all es x sp p s) (check-list es x sp p d n _ h k)
+  pub check-all : (es : Exprs) (x : List ℕ) → SpellsAll es x → (from p d n : ℕ) (s : List ℕ) → deepest es + d ≤ 64 → n + rows-all es ≤ room
+      → check from room (tokens p 0 (x ++ s)) d n ≡ check from room (tokens (p + length x) 0 s) d (n + rows-all es)
+  check-all es x sp from p d n s h k = rw (tokens-all es x sp p s) (check-list es x sp from p d n _ h k)
 
 -- bytes that spell expressions are read as these
 pub read-spelled : (es : Exprs) (s : List ℕ) (room : ℕ) → SpellsAll es s → deepest es ≤ 64 → length s ≤ 65536 → rows-all es ≤ room
     → read s room ≡ readable (rows-of (tokens 0 0 s)) es
 unfolding check lists tokens
 read-spelled es s room sp h l r =
-    let passes : check (length s) room (tokens 0 0 s) 0 0 ≡ right =
-    ap (λ (x : List ℕ). check (length s) room (tokens 0 0 x) 0 0) (sym (append-nil s)) ∙ check-all (length s) room es s sp 0 0 0 [] (omega arith) (omega arith) in
+    let passes : check 0 room (tokens 0 0 s) 0 0 ≡ right =
+    ap (λ (x : List ℕ). check 0 room (tokens 0 0 x) 0 0) (sym (append-nil s)) ∙ check-all room es s sp 0 0 0 0 [] (omega arith) (omega arith) in
     let means : meaning-of s ≡ es =
     ap (λ (x : List ℕ). meaning-of x) (sym (append-nil s)) ∙ rw (tokens-all es s sp 0 [], lists-all es s sp 0 [], put-all-none es []) in
     readable-read s room l passes ∙ ap (readable (rows-of (tokens 0 0 s))) means

@@ -8,7 +8,7 @@ use lib.Dec.{leb}
 use borrow.Author.Tests.{leb-true, leb-false, lt-leb, ne-eqb}
 use native.Mathlib.Omega.{arith}
 use Rattle.spec.specs.Expr.{Expr, atom, form, Exprs, rows, rows-all}
-use Rattle.spec.specs.Reading.{Token, opening, closing, whole, bad, right, check, put, wrap, lists, Row, ends, rows-of, row-width, next-row, numbers}
+use Rattle.spec.specs.Reading.{Token, opening, closing, whole, unfinished, bad, right, began, check, put, wrap, lists, Row, ends, rows-of, row-width, next-row, numbers}
 use Rattle.laws.specs.Sanity.{Inside, FirstFrom}
 use Rattle.laws.proofs.Basics.{by-test}
 use Rattle.laws.proofs.Tokens.{Right, at-end, opens, closes, stands, Laid}
@@ -70,6 +70,7 @@ rows-few [] = omega arith
 rows-few (opening p ∷ ts) = omega (arith, rows-few ts)
 rows-few (closing p ∷ ts) = omega (arith, rows-few ts)
 rows-few (whole x p e ∷ ts) = omega (arith, rows-few ts)
+rows-few (unfinished p ∷ ts) = omega (arith, rows-few ts)
 rows-few (bad w p ∷ ts) = omega (arith, rows-few ts)
 
 pub rows-count : {room : ℕ} {ts : List Token} {d n : ℕ} → Right room ts d n
@@ -88,14 +89,15 @@ rows-room (closes c) h = rows-room c h
 rows-room (stands k c) h = omega (arith, rows-room c (omega arith))
 
 -- with as many rows as there are, more or fewer make no difference
-pub right-room : {room : ℕ} {ts : List Token} {d n : ℕ} → Right room ts d n → (end room′ : ℕ) → n + length (rows-of ts) ≤ room′
-    → check end room′ ts d n ≡ right
+pub right-room : {room : ℕ} {ts : List Token} {d n : ℕ} → Right room ts d n → (from room′ : ℕ) → n + length (rows-of ts) ≤ room′
+    → check from room′ ts d n ≡ right
 unfolding check rows-of
-right-room at-end end room′ h = refl
-right-room (opens {d = d} {n} l k c) end room′ h = rw (lt-leb 64 d l, lt-leb room′ n (omega arith)) (right-room c end room′ (omega arith))
-right-room (closes {d = d} c) end room′ h =
-    let back : suc d - 1 ≡ d = omega arith in rw (ne-eqb (suc d) 0 (λ e. omega arith), back) (right-room c end room′ h)
-right-room (stands {n = n} k c) end room′ h = rw (lt-leb room′ n (omega arith)) (right-room c end room′ (omega arith))
+right-room at-end from room′ h = refl
+right-room (opens {q = q} {d = d} {n} l k c) from room′ h =
+    rw (lt-leb 64 d l, lt-leb room′ n (omega arith)) (right-room c (began d from q) room′ (omega arith))
+right-room (closes {d = d} c) from room′ h =
+    let back : suc d - 1 ≡ d = omega arith in rw (ne-eqb (suc d) 0 (λ e. omega arith), back) (right-room c from room′ h)
+right-room (stands {n = n} k c) from room′ h = rw (lt-leb room′ n (omega arith)) (right-room c from room′ (omega arith))
 
 module _ {room : ℕ} (end : ℕ) where
   pub rows-ordered : {ts : List Token} {d n : ℕ} → Right room ts d n → (p : ℕ) → Laid p ts end → Ordered p (rows-of ts)

@@ -10,7 +10,7 @@ use lib.Dec.{ltb, leb, eqb}
 use borrow.Author.Tests.{ltb-true, ltb-false, leb-true, eqb-true, eqb-false, lt-ltb, le-ltb, le-leb, ne-eqb}
 use native.Mathlib.Omega.{arith}
 use Rattle.spec.specs.Expr.{if_then_else_, Atom, nil, array, int, ref, array-head, marker-bytes, atom-bytes}
-use Rattle.spec.specs.Reading.{Taken, taken, failed, and-then, take-bytes, natural, as-length, plain-length, length-expr, marker, name, as-array, read-atom}
+use Rattle.spec.specs.Reading.{Taken, taken, cut-off, failed, and-then, take-bytes, natural, as-length, plain-length, length-expr, marker, name, as-array, read-atom}
 use Rattle.laws.specs.Demands.{Bytes}
 use Rattle.laws.specs.Grammar.{SpellsLength, as-int, as-small, as-generic, SpellsArray, small, generic, SpellsAtom}
 use Rattle.laws.proofs.Basics.{impossible}
@@ -160,7 +160,11 @@ by-choice false x y z f g h = g refl h
 then-taken : {A B : Type 0} (x : Taken A) (f : A → List ℕ → Taken B) (b : B) (t : List ℕ) → and-then x f ≡ taken b t
     → (a : A) × (s : List ℕ) × (x ≡ taken a s) × (f a s ≡ taken b t)
 then-taken (taken a s) f b t h = (a, s, refl, h)
+then-taken cut-off f b t h = impossible (cc)
 then-taken (failed w s) f b t h = impossible (cc)
+
+never-cut-off : {A : Type 0} (t : List ℕ) (a : A) → cut-off ≡ taken a t → ⊥
+never-cut-off t a h = impossible (cc)
 
 never-taken : {A : Type 0} (w : ℕ) (s t : List ℕ) (a : A) → failed w s ≡ taken a t → ⊥
 never-taken w s t a h = impossible (cc)
@@ -168,10 +172,10 @@ never-taken w s t a h = impossible (cc)
 -- the bytes taken, and those left
 take-taken : (n : ℕ) (s bs t : List ℕ) → take-bytes n s ≡ taken bs t → (s ≡ bs ++ t) × (length bs ≡ n)
 unfolding take-bytes
-take-taken n s bs t h = by-choice (leb n (length s)) (taken (take n s) (drop n s)) (failed 2 []) (taken bs t)
+take-taken n s bs t h = by-choice (leb n (length s)) (taken (take n s) (drop n s)) cut-off (taken bs t)
     (λ e k. let front : take n s ≡ bs = cc in let back : drop n s ≡ t = cc in
     (sym (take-append-drop n s) ∙ rw (front, back), sym (ap length front) ∙ simp length-take (omega (arith, leb-true n (length s) e))))
-    (λ e k. absurd (never-taken 2 [] t bs k)) h
+    (λ e k. absurd (never-cut-off t bs k)) h
 
 -- read off the front of s, leaving t: bytes of which P holds
 pub record SplitOff (P : List ℕ → Type 0) (s t : List ℕ) : Type 0 where
@@ -222,8 +226,8 @@ counted-taken k s ds t inner q =
 
 pub length-taken : (k : ℕ) (s : List ℕ) (n : ℕ) (t : List ℕ) → Bytes s → length-expr k s ≡ taken n t → SplitOff (SpellsLength k n) s t
 unfolding length-expr
-length-taken zero [] n t b e = absurd (never-taken 2 [] t n e)
-length-taken (suc k) [] n t b e = absurd (never-taken 2 [] t n e)
+length-taken zero [] n t b e = absurd (never-cut-off t n e)
+length-taken (suc k) [] n t b e = absurd (never-cut-off t n e)
 length-taken zero (x ∷ s) n t b e =
     by-choice (eqb x 0x03) _ _ (taken n t) (λ c q. absurd (never-taken 6 (x ∷ s) t n q)) (λ c q. plain-taken zero x s n t (b .0) q) e
 length-taken (suc k) (x ∷ s) n t b e =
@@ -244,7 +248,7 @@ length-taken (suc k) (x ∷ s) n t b e =
 marker-taken : (m : ℕ) (s : List ℕ) (k : ℕ) (t : List ℕ) → Bytes s → marker m s ≡ taken k t
     → (j : ℕ) × (c : ℕ) × (s ≡ replicate j 0xFF ++ (c ∷ t)) × (c < 0xFF) × (k ≡ m + j * 0xFF + c)
 unfolding marker
-marker-taken m [] k t b e = absurd (never-taken 2 [] t k e)
+marker-taken m [] k t b e = absurd (never-cut-off t k e)
 marker-taken m (x ∷ s) k t b e =
     by-choice (eqb x 0xFF) _ _ (taken k t)
     (λ c q. let p = marker-taken (m + x) s k t (b .1) q in let full = eqb-true x 0xFF c in
@@ -269,7 +273,7 @@ mark-short m h = rw (lt-ltb m 0x7F h)
 name-taken : (from : List ℕ) (m : ℕ) (s : List ℕ) (a : Atom) (t : List ℕ) → name from m s ≡ taken a t
     → (n : ℕ) × (s ≡ n ∷ t) × (a ≡ ref m n) × (m ≤ 65535)
 unfolding name
-name-taken from m [] a t e = absurd (never-taken 2 [] t a e)
+name-taken from m [] a t e = absurd (never-cut-off t a e)
 name-taken from m (n ∷ s) a t e =
     by-choice (ltb 65535 m) _ _ (taken a t) (λ c q. absurd (never-taken 7 from t a q)) (λ c q. (n, cc, cc, ltb-false 65535 m c)) e
 

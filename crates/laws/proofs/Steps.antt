@@ -8,12 +8,12 @@ use lib.Seq.{drop-cons, drop-drop, take-at, drop-at}
 use native.Mathlib.Omega.{arith}
 use native.Mathlib.Numerals.{add-one}
 use Rattle.spec.specs.Expr.{Atom, atom-bytes}
-use Rattle.spec.specs.Reading.{Token, opening, closing, whole, bad, token, further, tokens}
+use Rattle.spec.specs.Reading.{Token, opening, closing, whole, unfinished, bad, token, further, tokens}
 use Rattle.laws.specs.Demands.{Bytes}
 use Rattle.laws.specs.Grammar.{SpellsAtom}
 use Rattle.laws.proofs.Fits.{bytes-drop}
 use Rattle.laws.proofs.Spelling.{SplitOff, atom-taken}
-use Rattle.laws.proofs.Tokens.{From, from-01, from-02, from-atom, from-bad, token-from, Laid, tokens-laid}
+use Rattle.laws.proofs.Tokens.{From, from-01, from-02, from-atom, from-cut-off, from-bad, token-from, Laid, tokens-laid}
 use Rattle.laws.proofs.Reading.{tokens-atom}
 
 -- the tokens from a place on
@@ -48,6 +48,7 @@ abbrev pub StepAt : List ℕ → ℕ → Token → Type 0
 StepAt s p (opening q) = tokens-from s p ≡ opening p ∷ tokens-from s (p + 1)
 StepAt s p (closing q) = tokens-from s p ≡ closing p ∷ tokens-from s (p + 1)
 StepAt s p (whole a q e) = (q ≡ p) × WholeAt s p a e
+StepAt s p (unfinished q) = (ts : List Token) × (tokens-from s p ≡ unfinished p ∷ ts)
 StepAt s p (bad w q) = (ts : List Token) × (tokens-from s p ≡ bad w q ∷ ts)
 
 -- the token at a place inside a stream
@@ -94,6 +95,7 @@ module _ (s : List ℕ) (p : ℕ) (stream : Bytes s) (inside : p < length s) whe
       go (from-01 h) q = one-byte (opening p) q refl
       go (from-02 h) q = one-byte (closing p) q refl
       go (from-atom a u e) q = (refl, atom-step a u (atom-taken byte behind a u small (bytes-drop (suc p) s stream) e))
+      go (from-cut-off e) q = (tokens (p + 1) 0 behind, ap (λ (l : List ℕ). tokens p 0 l) from-here ∙ unfold tokens in rw q)
       go (from-bad w u e) q = (tokens (p + 1) 0 behind, ap (λ (l : List ℕ). tokens p 0 l) from-here ∙ unfold tokens in rw q)
 
 pub tokens-end : (s : List ℕ) (p : ℕ) → length s ≤ p → tokens-from s p ≡ []

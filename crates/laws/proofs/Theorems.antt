@@ -410,7 +410,7 @@ pub item-rows : (s : List ℕ) (room : ℕ) → length s ≤ room → read s roo
 unfolding read
 item-rows s room h =
     let few = tokens-few s 0 0 in
-    rw (check-room (length s) room (length s) (tokens 0 0 s) 0 0 (omega arith) (omega arith))
+    rw (check-room 0 room (length s) (tokens 0 0 s) 0 0 (omega arith) (omega arith))
 
 pub item-eight : (s : List ℕ) (w p : ℕ) → Bytes s → read s (length s) ≡ refused w p → w ≤ 7
 item-eight s w p b h = omega (arith, read-refusal s (length s) w p b h)

@@ -6,9 +6,9 @@ use mathlib.Core.List.{List, [], _∷_, _++_, append-assoc, append-nil}
 use lib.ListN.{length, getD}
 use native.Mathlib.Omega.{arith}
 use Rattle.spec.specs.Expr.{Expr, atom, Exprs, none, atom-bytes, bytes, canonical}
-use Rattle.spec.specs.Reading.{Token, opening, closing, whole, bad, tokens, right, check, put, wrap, lists}
+use Rattle.spec.specs.Reading.{Token, opening, closing, whole, unfinished, bad, tokens, put, wrap, lists}
 use Rattle.laws.specs.Demands.{meaning-of, CanRead}
-use Rattle.laws.proofs.Tokens.{Right, at-end, opens, closes, stands, right-tokens}
+use Rattle.laws.proofs.Tokens.{Right, at-end, opens, closes, stands}
 use Rattle.laws.proofs.Rows.{rows-count}
 use Rattle.laws.proofs.Reading.{read-readable}
 
@@ -17,6 +17,7 @@ abbrev pub bytes-of : Token → List ℕ
 bytes-of (opening p) = 0x01 ∷ []
 bytes-of (closing p) = 0x02 ∷ []
 bytes-of (whole a p e) = atom-bytes a
+bytes-of (unfinished p) = []
 bytes-of (bad w p) = []
 
 unfoldable pub token-bytes : List Token → List ℕ
@@ -56,8 +57,8 @@ unwound-tokens (closes {ts} c) = let size = rows-count c .1 in rw (unwound-token
 unwound-tokens (stands {ts} {a} k c) = let size = rows-count c .1 in rw (unwound-tokens c, unwound-put (atom a) (lists ts) (omega arith))
 
 -- at the top level there is one list
-pub canonical-tokens : (end room : ℕ) (ts : List Token) (n : ℕ) → check end room ts 0 n ≡ right → token-bytes ts ≡ canonical (getD (lists ts) 0 none)
-canonical-tokens end room ts n c = let r = right-tokens end room ts 0 n c in unwound-tokens r ∙ only (lists ts) (rows-count r .1)
+pub canonical-tokens : {room : ℕ} {ts : List Token} {n : ℕ} → Right room ts 0 n → token-bytes ts ≡ canonical (getD (lists ts) 0 none)
+canonical-tokens {ts = ts} r = unwound-tokens r ∙ only (lists ts) (rows-count r .1)
   where
     only : (ls : List Exprs) → length ls ≡ 0 + 1 → unwound ls ≡ canonical (getD ls 0 none)
     only [] h = absurd (omega arith)
@@ -65,4 +66,4 @@ canonical-tokens end room ts n c = let r = right-tokens end room ts 0 n c in unw
     only (es ∷ fs ∷ ls) h = absurd (omega arith)
 
 pub canonical-stream : (s : List ℕ) → CanRead s → token-bytes (tokens 0 0 s) ≡ canonical (meaning-of s)
-canonical-stream s r = canonical-tokens (length s) (length s) (tokens 0 0 s) 0 (read-readable s (length s) _ _ r .passes)
+canonical-stream s r = canonical-tokens (read-readable s (length s) _ _ r .well)

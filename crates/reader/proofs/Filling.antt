@@ -8,15 +8,15 @@ use lib.Seq.{getD-set-same, getD-set-other}
 use native.Mathlib.Omega.{arith}
 use borrow.Author.Needs.{needs}
 use native.Mathlib.Numerals.{add-one}
-use Rattle.spec.specs.Reading.{tokens, right, check, rows-of, row-width}
+use Rattle.spec.specs.Reading.{tokens, rows-of, row-width}
 use Rattle.spec.specs.Calls.{filled}
 use Rattle.laws.specs.Demands.{CanRead}
-use Rattle.laws.proofs.Tokens.{right-opening, right-closing, right-whole, right-bad}
+use Rattle.laws.proofs.Tokens.{Right, right-opening, right-closing, right-whole, right-first}
 use Rattle.laws.proofs.Reading.{read-readable}
 use Rattle.laws.proofs.Steps.{tokens-from, tokens-end, all-bytes}
 use Rattle.atoms.specs.Tokens.{token-at, shown}
 use Rattle.atoms.specs.declared.Token.{Token as Answer}
-use Rattle.atoms.specs.declared.Token.the-variants.{Opening, Closing, Whole, Bad}
+use Rattle.atoms.specs.declared.Token.the-variants.{Opening, Closing, Whole, Unfinished, Bad}
 use Rattle.atoms.proofs.Next.{Next, next}
 use Rattle.reader.specs.Passes.{row-started, row-ended}
 use Rattle.reader.proofs.Table.{written, Below, below-more, written-filled}
@@ -55,7 +55,7 @@ pub record Bounded (s t₀ t forms : List ℕ) (p d n : ℕ) : Type 0 where
 -- what it is to be.
 pub record Filling (s t₀ t forms : List ℕ) (p d n : ℕ) : Type 0 where
   pub bounds : Bounded s t₀ t forms p d n
-  pub passes : check (length s) (length s) (tokens-from s p) d n ≡ right
+  pub passes : Right (length s) (tokens-from s p) d n
   pub below : Below n (open-forms forms d)
   pub leaves : written (tokens-from s p) (open-forms forms d) n t ≡ filled (rows-of (tokens 0 0 s)) t₀
 
@@ -63,7 +63,7 @@ pub filling-start : (s t forms : List ℕ) → ((i : ℕ) → getD s i 0 < 256) 
     → row-width * length (rows-of (tokens 0 0 s)) ≤ length t → Filling s t t forms 0 0 0
 filling-start s t forms bytes can stack fits =
     let r = read-readable s (length s) _ _ can in
-    record { bounds = search needs; passes = r .passes; below = tt; leaves = written-filled s t (length s) (all-bytes s bytes) (r .passes) fits }
+    record { bounds = search needs; passes = r .well; below = tt; leaves = written-filled s t (length s) (all-bytes s bytes) (r .well) fits }
 
 pub filling-end : (s t₀ t forms : List ℕ) (p d n : ℕ) → Filling s t₀ t forms p d n → length s ≤ p → t ≡ filled (rows-of (tokens 0 0 s)) t₀
 unfolding written
@@ -81,13 +81,14 @@ module _ (s t₀ t forms : List ℕ) (p d n : ℕ) where
   Turn (Whole k b e) =
       (p < e) × (e ≤ length s) × (row-width * n + row-width ≤ length t)
       × Filling s t₀ (row-ended (row-started t n k p) n e (n + 1)) forms e d (n + 1)
+  Turn Unfinished = ⊥
   Turn (Bad w q) = ⊥
 
   module _ (f : Filling s t₀ t forms p d n) (inside : p < length s) where
     turns : (r : Answer) → Next s p r → Turn r
     unfolding rows-of written
     turns Opening is =
-        let k = right-opening (length s) (length s) (tokens-from s (p + 1)) p d n (rw is at (f .passes)) in
+        let k = right-opening (rw is at (f .passes)) in
         let fits = rw is at (f .bounds .fits) in
         let opened : open-forms (set forms d n) (d + 1) ≡ n ∷ open-forms forms d = form-opened forms d n (omega (arith, k .0)) in (
           k .0,
@@ -100,7 +101,7 @@ module _ (s t₀ t forms : List ℕ) (p d n : ℕ) where
           },
         )
     turns Closing is =
-        let k = right-closing (length s) (length s) (tokens-from s (p + 1)) p d n (rw is at (f .passes)) in
+        let k = right-closing (rw is at (f .passes)) in
         let inner = innermost forms d (k .0) in
         let below = rw inner at (f .below) in
         let fits = rw is at (f .bounds .fits) in (
@@ -115,12 +116,13 @@ module _ (s t₀ t forms : List ℕ) (p d n : ℕ) where
           omega arith,
           record {
             bounds = search needs;
-            passes = right-whole (length s) (length s) (tokens-from s e) (w .atom) p e d n (rw (w .is) at (f .passes)) .1;
+            passes = right-whole (rw (w .is) at (f .passes)) .1;
             below = below-more n (open-forms forms d) (f .below);
             leaves = rw (w .kind-is) (rw (w .is) at (f .leaves));
           },
         )
-    turns (Bad w q) x = right-bad (length s) (length s) (x .0) w q d n (rw (x .1) at (f .passes))
+    turns Unfinished x = right-first (rw (x .1) at (f .passes))
+    turns (Bad w q) x = right-first (rw (x .1) at (f .passes))
 
     pub turn : ((i : ℕ) → getD s i 0 < 256) → (r : Answer) → r ≡ shown (token-at s p) → Turn r
     turn bytes r told = turns r (next s p r (all-bytes s bytes) inside told)

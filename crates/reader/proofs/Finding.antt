@@ -14,14 +14,15 @@ use Rattle.spec.specs.Calls.{Buffer, part, no-part, row-at, item}
 use Rattle.laws.specs.Demands.{meaning-of, CanRead}
 use Rattle.laws.specs.Grammar.{Spells, SpellsAll, expr-rows}
 use Rattle.laws.proofs.Spelling.{front}
-use Rattle.laws.proofs.Tokens.{right-end, right-opening, right-closing, right-whole, right-bad}
+use Rattle.laws.proofs.Tokens.{Right, right-tokens, right-end, right-opening, right-closing, right-whole, right-first}
+use Rattle.laws.proofs.Rows.{rows-room, right-room}
 use Rattle.laws.proofs.Reading.{read-readable, read-meant, check-all}
 use Rattle.laws.proofs.Parsing.{read-spells}
 use Rattle.laws.proofs.Steps.{split-size, split-rest, tokens-from, tokens-end, all-bytes}
 use Rattle.laws.proofs.Items.{rows-expr, expr-rows-count, expr-first, item-past}
 use Rattle.atoms.specs.Tokens.{token-at, shown}
 use Rattle.atoms.specs.declared.Token.{Token as Answer}
-use Rattle.atoms.specs.declared.Token.the-variants.{Opening, Closing, Whole, Bad}
+use Rattle.atoms.specs.declared.Token.the-variants.{Opening, Closing, Whole, Unfinished, Bad}
 use Rattle.atoms.proofs.Next.{Next, next}
 use Rattle.reader.specs.Passes.{RightFrom}
 
@@ -31,7 +32,8 @@ use Rattle.reader.specs.Passes.{RightFrom}
 pub record Ending (s : List ℕ) (start p d : ℕ) : Type 0 where
   pub inside : p ≤ length s
   pub shallow : d ≤ p
-  pub passes : RightFrom s p (d + 1)
+  pub rows : ℕ
+  pub passes : Right (length s) (tokens-from s p) (d + 1) rows
   pub same : getD (ends (tokens-from s start)) 0 0 ≡ getD (ends (tokens-from s p)) d 0
 
 -- what holds after each kind of token
@@ -39,6 +41,7 @@ abbrev pub EndingTurn : (s : List ℕ) (start p d : ℕ) → Answer → Type 0
 EndingTurn s start p d Opening = Ending s start (p + 1) (d + 1)
 EndingTurn s start p d Closing = (d ≡ 0 → getD (ends (tokens-from s start)) 0 0 ≡ p + 1) × ((d ≡ 0 → ⊥) → Ending s start (p + 1) (d - 1))
 EndingTurn s start p d (Whole k b e) = (p < e) × Ending s start e d
+EndingTurn s start p d Unfinished = ⊥
 EndingTurn s start p d (Bad w q) = ⊥
 
 module _ (s : List ℕ) (start p d : ℕ) (f : Ending s start p d) where
@@ -47,21 +50,19 @@ module _ (s : List ℕ) (start p d : ℕ) (f : Ending s start p d) where
   ending-inside = go (decLe (length s) p)
     where
       go : Dec (length s ≤ p) → p < length s
-      go (yes h) = absurd (omega (arith, right-end (length s) (length s) (d + 1) (f .passes .0) (rw (tokens-end s p h) at (f .passes .1))))
+      go (yes h) = absurd (omega (arith, right-end (rw (tokens-end s p h) at (f .passes))))
       go (no h) = omega (arith, h)
 
   pub ending-turn : ((i : ℕ) → getD s i 0 < 256) → (r : Answer) → r ≡ shown (token-at s p) → EndingTurn s start p d r
   unfolding ends
   ending-turn bytes r told = go r (next s p r (all-bytes s bytes) ending-inside told)
     where
-      n : ℕ
-      n = f .passes .0
-
       go : (r : Answer) → Next s p r → EndingTurn s start p d r
       go Opening is = record {
         inside = omega (arith, ending-inside);
         shallow = omega (arith, f .shallow);
-        passes = (n + 1, right-opening (length s) (length s) (tokens-from s (p + 1)) p (d + 1) n (rw is at (f .passes .1)) .2);
+        rows = f .rows + 1;
+        passes = right-opening (rw is at (f .passes)) .2;
         same =
             f .same ∙ rw is (getD-drop 1 (ends (tokens-from s (p + 1))) d 0 ∙ ap (λ (j : ℕ). getD (ends (tokens-from s (p + 1))) j 0) (omega arith));
       }
@@ -70,9 +71,8 @@ module _ (s : List ℕ) (start p d : ℕ) (f : Ending s start p d) where
         λ z. record {
           inside = omega (arith, ending-inside);
           shallow = omega (arith, f .shallow);
-          passes =
-              let less : d + 1 - 1 ≡ d - 1 + 1 = omega (arith, z) in
-              (n, rw less at (right-closing (length s) (length s) (tokens-from s (p + 1)) p (d + 1) n (rw is at (f .passes .1)) .1));
+          rows = f .rows;
+          passes = let less : d + 1 - 1 ≡ d - 1 + 1 = omega (arith, z) in rw less at (right-closing (rw is at (f .passes)) .1);
           same =
               let more : d ≡ suc (d - 1) = omega (arith, z) in
               f .same ∙ rw is (ap (λ (j : ℕ). getD ((p + 1) ∷ ends (tokens-from s (p + 1))) j 0) more);
@@ -83,11 +83,13 @@ module _ (s : List ℕ) (start p d : ℕ) (f : Ending s start p d) where
         record {
           inside = w .inside;
           shallow = omega (arith, f .shallow, w .forward);
-          passes = (n + 1, right-whole (length s) (length s) (tokens-from s e) (w .atom) p e (d + 1) n (rw (w .is) at (f .passes .1)) .1);
+          rows = f .rows + 1;
+          passes = right-whole (rw (w .is) at (f .passes)) .1;
           same = f .same ∙ rw (w .is);
         },
       )
-      go (Bad w q) x = right-bad (length s) (length s) (x .0) w q (d + 1) n (rw (x .1) at (f .passes .1))
+      go Unfinished x = right-first (rw (x .1) at (f .passes))
+      go (Bad w q) x = right-first (rw (x .1) at (f .passes))
 
 -- The end of an expression
 
@@ -96,6 +98,7 @@ abbrev pub TopTurn : List ℕ → ℕ → Answer → Type 0
 TopTurn s p Opening = RightFrom s (p + 1) 1 × (row-at (rows-of (tokens-from s p)) 0 .end ≡ getD (ends (tokens-from s (p + 1))) 0 0)
 TopTurn s p Closing = ⊥
 TopTurn s p (Whole k b e) = row-at (rows-of (tokens-from s p)) 0 .end ≡ e
+TopTurn s p Unfinished = ⊥
 TopTurn s p (Bad w q) = ⊥
 
 pub top-turn : (s : List ℕ) (p : ℕ) → ((i : ℕ) → getD s i 0 < 256) → p < length s → RightFrom s p 0
@@ -103,14 +106,17 @@ pub top-turn : (s : List ℕ) (p : ℕ) → ((i : ℕ) → getD s i 0 < 256) →
 unfolding rows-of
 top-turn s p bytes inside passes r told = go r (next s p r (all-bytes s bytes) inside told)
   where
-    n : ℕ
-    n = passes .0
+    well : Right (length s) (tokens-from s p) 0 (passes .1)
+    well = right-tokens (passes .0) (length s) (tokens-from s p) 0 (passes .1) (passes .2)
 
     go : (r : Answer) → Next s p r → TopTurn s p r
-    go Opening is = ((n + 1, right-opening (length s) (length s) (tokens-from s (p + 1)) p 0 n (rw is at (passes .1)) .2), rw is)
-    go Closing is = omega (arith, right-closing (length s) (length s) (tokens-from s (p + 1)) p 0 n (rw is at (passes .1)) .0)
+    go Opening is =
+        let k = right-opening (rw is at well) in
+        ((p, passes .1 + 1, right-room (k .2) p (length s) (rows-room (k .2) (omega (arith, k .1)))), rw is)
+    go Closing is = omega (arith, right-closing (rw is at well) .0)
     go (Whole k b e) w = rw (w .is)
-    go (Bad w q) x = right-bad (length s) (length s) (x .0) w q 0 n (rw (x .1) at (passes .1))
+    go Unfinished x = right-first (rw (x .1) at well)
+    go (Bad w q) x = right-first (rw (x .1) at well)
 
 -- The expression asked for
 
@@ -150,8 +156,9 @@ module _ (s : List ℕ) (k p n : ℕ) (f : Finding s k p n) where
   unfolding check tokens
   finding-right = (
     0,
-    ap (λ (x : List ℕ). check (length s) (length s) (tokens p 0 x) 0 0) (sym (append-nil (drop p s)))
-        ∙ check-all (length s) (length s) (f .left) (drop p s) (f .spells) p 0 0 [] (omega arith) (omega arith),
+    0,
+    ap (λ (x : List ℕ). check 0 (length s) (tokens p 0 x) 0 0) (sym (append-nil (drop p s)))
+        ∙ check-all (length s) (f .left) (drop p s) (f .spells) 0 p 0 0 [] (omega arith) (omega arith),
   )
 
   pub finding-end : length s ≤ p → (b : Buffer) → no-part ≡ item b (rows-of (tokens 0 0 s)) k (meaning-of s)

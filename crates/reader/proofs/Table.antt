@@ -8,10 +8,10 @@ use borrow.Author.Tests.{lt-leb, le-leb}
 use native.Mathlib.Omega.{arith}
 use native.Mathlib.Nat.{zero-add}
 use native.Mathlib.Numerals.{add-one, towards-suc}
-use Rattle.spec.specs.Reading.{Token, opening, closing, whole, bad, tokens, right, check, atom-kind, Row, ends, rows-of, next-row, row-width, numbers}
+use Rattle.spec.specs.Reading.{Token, opening, closing, whole, unfinished, bad, tokens, atom-kind, Row, ends, rows-of, next-row, row-width, numbers}
 use Rattle.spec.specs.Calls.{filled}
 use Rattle.laws.specs.Demands.{Bytes}
-use Rattle.laws.proofs.Tokens.{right-end, right-opening, right-closing, right-whole, right-bad, right-tokens, Laid}
+use Rattle.laws.proofs.Tokens.{Right, right-end, right-opening, right-closing, right-whole, right-first, Laid}
 use Rattle.laws.proofs.Rows.{Ordered, rows-ordered, numbers-length}
 use Rattle.laws.proofs.Reading.{stream-laid}
 use Rattle.reader.specs.Passes.{row-started, row-ended}
@@ -23,6 +23,7 @@ written (opening p ∷ ts) forms n t = written ts (n ∷ forms) (n + 1) (row-sta
 written (closing p ∷ ts) [] n t = t
 written (closing p ∷ ts) (r ∷ forms) n t = written ts forms n (row-ended t r (p + 1) n)
 written (whole a p e ∷ ts) forms n t = written ts forms (n + 1) (row-ended (row-started t n (atom-kind a) p) n e (n + 1))
+written (unfinished p ∷ ts) forms n t = t
 written (bad w p ∷ ts) forms n t = t
 
 -- numbers that are below n
@@ -76,41 +77,42 @@ module _ (end room : ℕ) (all : List Row) where
   abbrev FirstLeft : ℕ → ℕ → List Token → Type 0
   FirstLeft p n ts = (e : ℕ) → p ≤ e → next-row e all ≡ n + next-row e (rows-of ts)
 
-  next-left : (ts : List Token) (p d n : ℕ) → Laid p ts end → check end room ts d n ≡ right → FirstLeft p n ts → next-row p all ≡ n
-  next-left ts p d n l c h = omega (arith, h p (omega arith), next-row-here p (rows-of ts) (rows-ordered end (right-tokens end room ts d n c) p l))
+  next-left : (ts : List Token) (p d n : ℕ) → Laid p ts end → Right room ts d n → FirstLeft p n ts → next-row p all ≡ n
+  next-left ts p d n l c h = omega (arith, h p (omega arith), next-row-here p (rows-of ts) (rows-ordered end c p l))
 
   -- the tokens' rows are written, and the open forms have their ends
-  written-rows : (ts : List Token) (p : ℕ) (forms : List ℕ) (n : ℕ) (t : List ℕ) → Laid p ts end → check end room ts (length forms) n ≡ right
+  written-rows : (ts : List Token) (p : ℕ) (forms : List ℕ) (n : ℕ) (t : List ℕ) → Laid p ts end → Right room ts (length forms) n
       → Below n forms → FirstLeft p n ts
       → written ts forms n t ≡ ended all forms (ends ts) (sets t (row-width * n) (numbers all (rows-of ts)))
   unfolding written ends rows-of numbers
   written-rows [] p [] n t l c b h = refl
-  written-rows [] p (r ∷ forms) n t l c b h = absurd (omega (arith, right-end end room (suc (length forms)) n c))
+  written-rows [] p (r ∷ forms) n t l c b h = absurd (omega (arith, right-end c))
   written-rows (opening q ∷ ts) p forms n t l c b h =
-      let k = rw (add-one (length forms)) at (right-opening end room ts q (length forms) n c .2) in
+      let k = rw (add-one (length forms)) at (right-opening c .2) in
       let left : FirstLeft (q + 1) (n + 1) ts = λ x g. h x (omega arith) ∙ next-row-past x n _ (rows-of ts) (omega arith) in
       let e = getD (ends ts) 0 0 in
       let others = numbers all (rows-of ts) in
       written-rows ts (q + 1) (n ∷ forms) (n + 1) (row-started t n 1 q) (l .1) k (omega arith, below-more n forms b) left
       ∙ ap (ended all forms (drop 1 (ends ts)))
       (sym (ended-before (row-started t n 1 q) n e (next-row e all) (n + 1) others (omega arith)) ∙ row-then t n 1 q e (next-row e all) others)
-  written-rows (closing q ∷ ts) p [] n t l c b h = absurd (omega (arith, right-closing end room ts q 0 n c .0))
+  written-rows (closing q ∷ ts) p [] n t l c b h = absurd (omega (arith, right-closing c .0))
   written-rows (closing q ∷ ts) p (r ∷ forms) n t l c b h =
       let back : suc (length forms) - 1 ≡ length forms = omega arith in
-      let k = rw back at (right-closing end room ts q (suc (length forms)) n c .1) in
+      let k = rw back at (right-closing c .1) in
       let left : FirstLeft (q + 1) n ts = λ x g. h x (omega arith) in
       written-rows ts (q + 1) forms n (row-ended t r (q + 1) n) (l .1) k (b .1) left
       ∙ rw (next-left ts (q + 1) _ n (l .1) k left)
       (ap (ended all forms (ends ts)) (ended-before t r (q + 1) n n (numbers all (rows-of ts)) (b .0)))
   written-rows (whole a q e ∷ ts) p forms n t l c b h =
-      let k = right-whole end room ts a q e (length forms) n c .1 in
+      let k = right-whole c .1 in
       let left : FirstLeft e (n + 1) ts = λ x g. h x (omega arith) ∙ next-row-past x n _ (rows-of ts) (omega arith) in
       written-rows ts e forms (n + 1) (row-ended (row-started t n (atom-kind a) q) n e (n + 1)) (l .4) k (below-more n forms b) left
       ∙ rw (next-left ts e _ (n + 1) (l .4) k left)
       (ap (ended all forms (ends ts)) (row-then t n (atom-kind a) q e (n + 1) (numbers all (rows-of ts))))
-  written-rows (bad w q ∷ ts) p forms n t l c b h = absurd (right-bad end room ts w q (length forms) n c)
+  written-rows (unfinished q ∷ ts) p forms n t l c b h = absurd (right-first c)
+  written-rows (bad w q ∷ ts) p forms n t l c b h = absurd (right-first c)
 
-pub written-filled : (s t : List ℕ) (room : ℕ) → Bytes s → check (length s) room (tokens 0 0 s) 0 0 ≡ right
+pub written-filled : (s t : List ℕ) (room : ℕ) → Bytes s → Right room (tokens 0 0 s) 0 0
     → row-width * length (rows-of (tokens 0 0 s)) ≤ length t → written (tokens 0 0 s) [] 0 t ≡ filled (rows-of (tokens 0 0 s)) t
 written-filled s t room b c h =
     let all = rows-of (tokens 0 0 s) in

@@ -26,7 +26,7 @@ row-ended t r end next = set (set t (row-width * r + 2) end) (row-width * r + 3)
 
 -- d forms are open at place p of a stream, and what follows is right
 abbrev pub RightFrom : List ℕ → ℕ → ℕ → Type 0
-RightFrom s p d = (n : ℕ) × (check (length s) (length s) (tokens p 0 (drop p s)) d n ≡ right)
+RightFrom s p d = (from : ℕ) × (n : ℕ) × (check from (length s) (tokens p 0 (drop p s)) d n ≡ right)
 
 -- what was found, as a part of the buffer that was asked for
 abbrev pub found-part : Buffer → Found → Part

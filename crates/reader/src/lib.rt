@@ -5,7 +5,7 @@ use atoms::Token;
 ghost use mathlib.Core.Path.{_≡_};
 ghost use Prim.Native.Nat.{_+_, _-_, _*_, _≤_, _<_};
 ghost use lib.ListN.{length, drop, getD};
-ghost use Rattle.spec.specs.Reading.{tokens, ends, rows-of, row-width, read};
+ghost use Rattle.spec.specs.Reading.{began, tokens, ends, rows-of, row-width, read};
 ghost use Rattle.spec.specs.Calls.{filled, row-at, Buffer, item, item-read};
 ghost use Rattle.laws.specs.Demands.{meaning-of, CanRead};
 ghost use Rattle.atoms.specs.Tokens.{atom-head};
@@ -36,12 +36,23 @@ fn spared(kind: u32, at: usize, body: usize, end: usize) -> usize
     before
 }
 
+// Where the top-level expression begins to which the token at a place belongs; the outermost of the open forms begins at `from`.
+fn began(depth: usize, from: usize, at: usize) -> usize
+    ensures { λ r. ⌜ r ≡ began depth from at ⌝ }
+{
+    if depth == 0 {
+        return at;
+    }
+    from
+}
+
 // The first pass over a stream that is not too long. `saved` is how many bytes fewer its tokens so far have as they are written canonically.
 fn check_tokens(s: &[u8], room: usize) -> Checked
     requires { ⌜ length (now s) ≤ 65536 ⌝ }
     ensures { λ r. ⌜ r ≡ checked (read (now (s .entry)) room) ⌝ }
 {
     let mut at: usize = 0;
+    let mut from: usize = 0;
     let mut depth: usize = 0;
     let mut rows: usize = 0;
     let mut saved: usize = 0;
@@ -54,6 +65,7 @@ fn check_tokens(s: &[u8], room: usize) -> Checked
                 if room <= rows {
                     return Checked::Wrong(8, at);
                 }
+                from = began(depth, from, at);
                 depth += 1;
                 rows += 1;
                 at += 1;
@@ -73,13 +85,14 @@ fn check_tokens(s: &[u8], room: usize) -> Checked
                 saved += spared(kind, at, body, end);
                 at = end;
             }
+            Token::Unfinished => return Checked::Wrong(2, began(depth, from, at)),
             Token::Bad(number, place) => return Checked::Wrong(number, place),
         }
     }
     if depth == 0 {
         return Checked::Right(rows, at - saved);
     }
-    Checked::Wrong(2, at)
+    Checked::Wrong(2, from)
 }
 
 // The first pass, with room for so many rows.
@@ -139,6 +152,9 @@ pub fn fill(s: &[u8], table: &mut [u32])
                 rows += 1;
                 at = end;
             }
+            Token::Unfinished => {
+                return;
+            }
             Token::Bad(_, _) => {
                 return;
             }
@@ -173,6 +189,9 @@ fn form_end(s: &[u8], start: usize) -> usize
             } => {
                 at = end;
             }
+            Token::Unfinished => {
+                return at;
+            }
             Token::Bad(_, _) => {
                 return at;
             }
@@ -194,6 +213,7 @@ pub fn expression_end(s: &[u8], at: usize) -> usize
             end,
         } => end,
         Token::Closing => at,
+        Token::Unfinished => at,
         Token::Bad(_, _) => at,
     }
 }

@@ -2,7 +2,7 @@
 -- short number's bytes the last three tell. And where an array's bytes begin, by its row.
 -- Document 01: "A generic array may itself be the length of another." Assumes nothing.
 use Prim.Native.Nat.{ℕ, zero, suc, _+_, _-_, _*_, _≤_, _<_}
-use mathlib.Core.Path.{_≡_, refl, sym, ap, _∙_}
+use mathlib.Core.Path.{_≡_, refl, sym, ap, _∙_, subst}
 use mathlib.Core.List.{List, [], _∷_, _++_, append-assoc}
 use native.Mathlib.Omega.{arith}
 use native.Mathlib.Nat.{lt-of-not-le}
@@ -10,13 +10,13 @@ use lib.ListN.{length, take, drop, getD, length-append, length-drop, take-append
 use lib.Seq.{drop-drop, drop-append-le, length-take-le, slice, length-slice}
 use borrow.Author.Tests.{lt-ltb, le-ltb, le-leb, lt-leb}
 use Rattle.spec.specs.Expr.{array}
-use Rattle.spec.specs.Reading.{Taken, taken, failed, and-then, take-bytes, natural, as-length, plain-length, length-expr}
+use Rattle.spec.specs.Reading.{Taken, taken, cut-off, failed, and-then, take-bytes, natural, as-length, plain-length, length-expr}
 use Rattle.laws.specs.Grammar.{SpellsArray, small, generic}
 use Rattle.laws.proofs.Basics.{impossible}
 use Rattle.laws.proofs.Spelling.{length-spelled}
 use Rattle.laws.proofs.Steps.{none-left}
 use Rattle.atoms.specs.Tokens.{leading-threes, around}
-use Rattle.atoms.proofs.Places.{left-at, first-left, around-failed, around-inner, length-many, BehindThrees, behind-threes}
+use Rattle.atoms.proofs.Places.{left-at, first-left, Refused, around-refused, around-inner, length-many, BehindThrees, behind-threes}
 use Rattle.rows.specs.Rows.{cell, start, LeafAt}
 use Rattle.rows.specs.Lengths.{EndsAt}
 use Rattle.rows.proofs.Slices.{slice-split, slice-take}
@@ -61,8 +61,8 @@ pub record Counted (s : List ℕ) (x : Taken ℕ) (j from to : ℕ) : Type 0 whe
   pub is : x ≡ around j (taken (natural 0 (take (to - from) (drop from s))) (drop to s))
 
 module _ {s : List ℕ} {x : Taken ℕ} {end : ℕ} (whole : length s ≤ 65536) (ends : EndsAt s x end) where
-  not-failed : {A : Type 0} (k w : ℕ) (t : List ℕ) → x ≡ around k (failed w t) → A
-  not-failed k w t e = impossible (cc (around-failed k w t, ends .is))
+  not-refused : {A : Type 0} (k : ℕ) (y : Taken ℕ) → Refused y → x ≡ around k y → A
+  not-refused k y r e = absurd (subst Refused (sym (e ∙ around-refused k y r) ∙ ends .is) r)
 
   -- bytes with arrays around them are there
   bytes-there : (j p n : ℕ) → p ≤ length s → x ≡ around j (and-then (take-bytes n (drop p s)) as-length)
@@ -70,7 +70,7 @@ module _ {s : List ℕ} {x : Taken ℕ} {end : ℕ} (whole : length s ≤ 65536)
   unfolding take-bytes
   bytes-there j p n h e =
       let size = length-drop p s in
-      let there = lt-of-not-le {n = suc (length (drop p s))} {m = n} (λ l. not-failed j 2 [] (e ∙ rw (lt-leb n (length (drop p s)) l))) in
+      let there = lt-of-not-le {n = suc (length (drop p s))} {m = n} (λ l. not-refused j cut-off tt (e ∙ rw (lt-leb n (length (drop p s)) l))) in
       let same : p + n - p ≡ n = omega arith in
       (omega arith, e ∙ rw (le-leb n (length (drop p s)) (omega arith), drop-drop n p s, same))
 
@@ -118,13 +118,13 @@ innermost s at depth end whole h e ends = record {
     all = behind-threes s at depth h e (λ g. impossible (cc (length-many 7 (drop at s) (sym e ∙ g), ends .is)))
 
     inside : at + depth < length s
-    inside = lt-of-not-le (λ l. not-failed whole ends depth 2 [] (all .is ∙ rw (none-left s (at + depth) l)))
+    inside = lt-of-not-le (λ l. not-refused whole ends depth cut-off tt (all .is ∙ rw (none-left s (at + depth) l)))
 
     begins : length-expr 7 (drop at s) ≡ around depth (plain-length byte (drop (at + depth + 1) s))
     begins = all .is ∙ rw (first-left s (at + depth) inside)
 
     high : 0x80 ≤ byte
-    high = lt-of-not-le {m = 0x7F} (λ l. not-failed whole ends depth 5 (byte ∷ drop (at + depth + 1) s) (begins ∙ rw (lt-ltb byte 0x80 (omega arith))))
+    high = lt-of-not-le {m = 0x7F} (λ l. not-refused whole ends depth (failed 5 (byte ∷ drop (at + depth + 1) s)) tt (begins ∙ rw (lt-ltb byte 0x80 (omega arith))))
 
 -- Arrays
 

@@ -9,7 +9,7 @@ use lib.Seq.{slice, take-at, getD-drop, drop-drop}
 use borrow.Author.Tests.{lt-leb, le-leb}
 use native.Mathlib.Omega.{arith}
 use Rattle.spec.specs.Expr.{Atom, nil, array, int, ref, Expr, atom, form, Exprs, none, more, rows, rows-all}
-use Rattle.spec.specs.Reading.{Token, opening, closing, whole, bad, tokens, atom-kind, Row, rows-of, next-row, row-width, numbers, readable, read}
+use Rattle.spec.specs.Reading.{Token, opening, closing, whole, unfinished, bad, tokens, atom-kind, Row, rows-of, next-row, row-width, numbers, readable, read}
 use Rattle.spec.specs.Nodes.{number, number-all}
 use Rattle.spec.specs.Calls.{filled, row-at}
 use Rattle.laws.specs.Demands.{Bytes}
@@ -53,6 +53,7 @@ kinds-low (opening p ∷ ts) (suc i) = kinds-low ts i
 kinds-low (closing p ∷ ts) i = kinds-low ts i
 kinds-low (whole a p e ∷ ts) zero = omega (arith, atom-low a)
 kinds-low (whole a p e ∷ ts) (suc i) = kinds-low ts i
+kinds-low (unfinished p ∷ ts) i = kinds-low ts i
 kinds-low (bad w p ∷ ts) i = kinds-low ts i
 
 starts-low : (end : ℕ) (rs : List Row) → Inside end rs → (i : ℕ) → i < length rs → row-at rs i .start < end

@@ -90,8 +90,10 @@ parted =
     (night [] (0 ∷ []) 1 4 gives leaves (failed 9 0) [] 1) ∷
     (night [] (0 ∷ 0 ∷ []) 1 8 gives leaves (failed 9 0 ++ failed 9 0) [] 1) ∷
     -- the ends part the streams, whatever the bytes are
-    (night six (3 ∷ 6 ∷ []) 6 8 gives leaves (failed 2 3 ++ failed 3 2) [] 6) ∷
+    (night six (3 ∷ 6 ∷ []) 6 8 gives leaves (failed 2 0 ++ failed 3 2) [] 6) ∷
     (night (six ++ six) (12 ∷ []) 12 4 gives leaves (took 12 8) (six ++ six) 0) ∷
+    -- 2 at the first byte of what its stream leaves unfinished (02, §4)
+    (night (six ++ six) (8 ∷ 12 ∷ []) 12 8 gives leaves (failed 2 6 ++ failed 3 3) [] 12) ∷
     []
 
 parted-hold : answers parted ≡ map expected parted

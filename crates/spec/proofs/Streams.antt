@@ -1,11 +1,11 @@
 -- Document 01, "Streams to try": the starred ones, each call with its answer, in one table under one claim. And further tables, with the
 -- answers that its sentences demand: for "Errors that come easily", whose answers a definition with such an error does not give; for
--- reading; for what is visible where; for names and namespaces; for the rules as written wrongly; for the refusals with their limits,
+-- reading, and for where what is unfinished began (document 02, §4); for what is visible where; for names and namespaces; for the rules as written wrongly; for the refusals with their limits,
 -- and for which of two comes first; and for what the buffers hold afterwards. Assumes nothing.
 use Prim.Native.Nat.{ℕ, zero, suc, _+_}
 use mathlib.Core.Path.{_≡_, refl}
 use mathlib.Core.List.{List, [], _∷_, _++_, map}
-use lib.ListN.{length, replicate}
+use lib.ListN.{length, take, drop, replicate}
 use Rattle.spec.specs.Expr.{array, int, ref, atom, form, Exprs, none, only}
 use Rattle.spec.specs.Calls.{Read, of-stream, of-result, part, no-part}
 use Rattle.spec.proofs.Cases.{reads, means, writes, evaluates, rewrites, fills, items, told, meaning, item-is, Case, _gives_, before, expected, answers, refusal, result-is, version-form, ns-form, in-form, core-form, word-28, defines, space, joins, code, arg-form, rest-form, function-name, identity, chain, nested, refuses, leaves}
@@ -33,9 +33,9 @@ starred =
     -- a* empty stream: read, 0 rows; evaluated, 9
     (reads [] 4 gives told 0 0 0 0 (before 4)) ∷
     (evaluates [] 65536 4 9 gives refusal 9 0 4) ∷
-    -- b* 02: 3 at 0. c* 01: 2 at 1. d* 04: 4 at 0. e* 03 00: 5 at 1
+    -- b* 02: 3 at 0. c* 01: 2 at 0, by document 02, §4. d* 04: 4 at 0. e* 03 00: 5 at 1
     (reads (0x02 ∷ []) 4 gives refusal 3 0 4) ∷
-    (reads (0x01 ∷ []) 4 gives refusal 2 1 4) ∷
+    (reads (0x01 ∷ []) 4 gives refusal 2 0 4) ∷
     (reads (0x04 ∷ []) 4 gives refusal 4 0 4) ∷
     (reads (0x03 ∷ 0x00 ∷ []) 4 gives refusal 5 1 4) ∷
     -- f* 7F FF 8C 1A: marker 522, name 26. 7F 00 1A: marker 127
@@ -153,8 +153,8 @@ readings =
     written (replicate 8 0x03 ++ (0x80 ∷ [])) (0xC0 ∷ []) ∷
     -- eight nested lengths; the last cut off; an inner one that is too long
     written (replicate 8 0x03 ++ (0x81 ∷ replicate 7 0x01) ++ (0xAA ∷ [])) (0xC1 ∷ 0xAA ∷ []) ∷
-    (reads (replicate 8 0x03 ++ (0x81 ∷ replicate 6 0x01)) 4 gives refusal 2 15 4) ∷
-    (reads (replicate 8 0x03 ++ (0x81 ∷ 0xFF ∷ replicate 6 0x01) ++ (0xAA ∷ [])) 4 gives refusal 2 17 4) ∷
+    (reads (replicate 8 0x03 ++ (0x81 ∷ replicate 6 0x01)) 4 gives refusal 2 0 4) ∷
+    (reads (replicate 8 0x03 ++ (0x81 ∷ 0xFF ∷ replicate 6 0x01) ++ (0xAA ∷ [])) 4 gives refusal 2 0 4) ∷
     -- canonical: 63, 64, 255 and 256 bytes
     written ((0x03 ∷ 0xC1 ∷ 63 ∷ []) ++ replicate 63 0xAA) (0xFF ∷ replicate 63 0xAA) ∷
     written ((0x03 ∷ 0xC2 ∷ 0x00 ∷ 64 ∷ []) ++ replicate 64 0xAA) ((0x03 ∷ 0xC1 ∷ 64 ∷ []) ++ replicate 64 0xAA) ∷
@@ -176,11 +176,11 @@ readings =
     (reads (0x03 ∷ 0x04 ∷ []) 4 gives refusal 5 1 4) ∷
     (reads (0x03 ∷ 0x03 ∷ 0x7F ∷ []) 4 gives refusal 5 2 4) ∷
     -- 2: in a length, in an array, in a marker, before a name; a length that is longer than any stream
-    (reads (0x03 ∷ 0xC2 ∷ 0x01 ∷ []) 4 gives refusal 2 3 4) ∷
-    (reads (0xC2 ∷ 0xAA ∷ []) 4 gives refusal 2 2 4) ∷
-    (reads (long-marker 1 []) 4 gives refusal 2 2 4) ∷
-    (reads (0x28 ∷ []) 4 gives refusal 2 1 4) ∷
-    (reads ((0x03 ∷ 0xC9 ∷ []) ++ replicate 9 0xFF) 4 gives refusal 2 11 4) ∷
+    (reads (0x03 ∷ 0xC2 ∷ 0x01 ∷ []) 4 gives refusal 2 0 4) ∷
+    (reads (0xC2 ∷ 0xAA ∷ []) 4 gives refusal 2 0 4) ∷
+    (reads (long-marker 1 []) 4 gives refusal 2 0 4) ∷
+    (reads (0x28 ∷ []) 4 gives refusal 2 0 4) ∷
+    (reads ((0x03 ∷ 0xC9 ∷ []) ++ replicate 9 0xFF) 4 gives refusal 2 0 4) ∷
     -- 6: 64 forms and one more; nine bytes 03. 7: a marker of 65,536
     (means (nested 64 []) gives meaning (form-in 64)) ∷
     (reads (replicate 65 0x01) 400 gives refusal 6 64 400) ∷
@@ -189,12 +189,12 @@ readings =
     -- 8: table length divided by 4, rounded down
     (reads (0x00 ∷ 0x00 ∷ []) 7 gives refusal 8 1 7) ∷
     -- an atom: 2 before 7, 7 before 8; 4, 3, 5 and 2 before 8. A form's opening: 6 before 8
-    (reads (long-marker 257 (0x00 ∷ [])) 4 gives refusal 2 259 4) ∷
+    (reads (long-marker 257 (0x00 ∷ [])) 4 gives refusal 2 0 4) ∷
     (reads (long-marker 257 (0x00 ∷ 0x00 ∷ [])) 0 gives refusal 7 0 0) ∷
     (reads (0x04 ∷ []) 0 gives refusal 4 0 0) ∷
     (reads (0x02 ∷ []) 0 gives refusal 3 0 0) ∷
     (reads (0x03 ∷ 0x00 ∷ []) 0 gives refusal 5 1 0) ∷
-    (reads (0xC1 ∷ []) 0 gives refusal 2 1 0) ∷
+    (reads (0xC1 ∷ []) 0 gives refusal 2 0 0) ∷
     (reads (replicate 65 0x01) 256 gives refusal 6 64 256) ∷
     (reads (replicate 65 0x01) 252 gives refusal 8 63 252) ∷
     []
@@ -202,6 +202,42 @@ readings =
 readings-hold : answers readings ≡ map expected readings
 unfolding answers readings written long-marker form-in
 readings-hold = refl
+
+-- Document 02, §4: 2 at "the first byte of the unfinished top-level expression"
+
+unfinished-streams : List Case
+unfinished-streams =
+    -- the two streams of the request's readings: 00 01 01 C2 41; V 81 03 03 C1, read, written and evaluated
+    (reads (0x00 ∷ 0x01 ∷ 0x01 ∷ 0xC2 ∷ 0x41 ∷ []) 16 gives refusal 2 1 16) ∷
+    (reads (version-form ++ (0x81 ∷ 0x03 ∷ 0x03 ∷ 0xC1 ∷ [])) 32 gives refusal 2 7 32) ∷
+    (writes (version-form ++ (0x81 ∷ 0x03 ∷ 0x03 ∷ 0xC1 ∷ [])) 32 9 gives refusal 2 7 9) ∷
+    (evaluates (version-form ++ (0x81 ∷ 0x03 ∷ 0x03 ∷ 0xC1 ∷ [])) 65536 9 99 gives refusal 2 7 9) ∷
+    -- an atom of the top level: its own first byte, behind an atom and behind a form
+    (reads (0x00 ∷ 0xC2 ∷ 0x41 ∷ []) 16 gives refusal 2 1 16) ∷
+    (reads (0x01 ∷ 0x00 ∷ 0x02 ∷ 0x28 ∷ []) 16 gives refusal 2 3 16) ∷
+    -- an open form: the outermost, whether its last form is finished or not, and whatever came before it
+    (reads (0x01 ∷ 0x00 ∷ 0x01 ∷ 0x02 ∷ []) 16 gives refusal 2 0 16) ∷
+    (reads (0x01 ∷ 0x02 ∷ 0x01 ∷ 0x01 ∷ []) 16 gives refusal 2 2 16) ∷
+    (reads (0x01 ∷ 0x02 ∷ 0x01 ∷ 0x00 ∷ 0x00 ∷ []) 16 gives refusal 2 2 16) ∷
+    -- an atom inside, behind a finished form: the outermost open form, not the atom
+    (reads (0x00 ∷ 0x01 ∷ 0x01 ∷ 0x02 ∷ 0x03 ∷ []) 16 gives refusal 2 1 16) ∷
+    -- 64 forms deep
+    (reads (0x00 ∷ replicate 64 0x01) 260 gives refusal 2 1 260) ∷
+    (reads (0x00 ∷ (replicate 64 0x01 ++ (0x7F ∷ 0xFF ∷ []))) 260 gives refusal 2 1 260) ∷
+    -- 8 where no row is left before the end is seen; an atom's own 2 comes first
+    (reads (0x01 ∷ 0x01 ∷ []) 4 gives refusal 8 1 4) ∷
+    (reads (0x01 ∷ 0xC1 ∷ []) 4 gives refusal 2 0 4) ∷
+    -- of the stream N a byte fewer; the bytes before; those held back, with the one that was missing
+    (reads (take 22 N) 100 gives refusal 2 21 100) ∷
+    (writes (take 21 N) 100 21 gives told 0 0 21 0 (version-form ++ ns-form ++ define-85)) ∷
+    (writes (drop 21 (take 22 N) ++ drop 22 N) 100 2 gives told 0 0 2 0 word-28-01) ∷
+    -- Item gives no part
+    (items (0x00 ∷ 0x01 ∷ []) [] of-stream 0 gives item-is no-part) ∷
+    []
+
+unfinished-hold : answers unfinished-streams ≡ map expected unfinished-streams
+unfolding answers unfinished-streams define-85 word-28-01 N
+unfinished-hold = refl
 
 -- The rules: what is visible, calls and arguments, names and namespaces
 

@@ -9,7 +9,7 @@ use lib.ListN.{length, drop, length-drop}
 use lib.Dec.{leb}
 use borrow.Author.Tests.{le-leb, lt-leb}
 use Rattle.spec.specs.Expr.{Expr, atom, form, Exprs, none, more, depth, deepest, canonical}
-use Rattle.spec.specs.Reading.{Token, opening, closing, whole, bad, tokens}
+use Rattle.spec.specs.Reading.{Token, opening, closing, whole, unfinished, bad, tokens}
 use Rattle.laws.specs.Demands.{Bytes}
 use Rattle.laws.specs.Grammar.{Spells, SpellsAll}
 use Rattle.laws.proofs.Fits.{FitsAll}
@@ -18,7 +18,7 @@ use Rattle.laws.proofs.Reading.{expr-tokens, all-tokens, tokens-all, canonical-
 use Rattle.laws.proofs.Steps.{tokens-from}
 use Rattle.atoms.specs.Tokens.{token-at, shown}
 use Rattle.atoms.specs.declared.Token.{Token as Answer}
-use Rattle.atoms.specs.declared.Token.the-variants.{Opening, Closing, Whole, Bad}
+use Rattle.atoms.specs.declared.Token.the-variants.{Opening, Closing, Whole, Unfinished, Bad}
 use Rattle.atoms.proofs.Next.{Next, next}
 
 -- tokens that close the d open forms, and whether at most 63 forms are open at once; each form that is open has its closing ahead
@@ -27,6 +27,7 @@ Within [] d b = b ≡ true
 Within (opening p ∷ ts) d b = (d < length ts) × (63 ≤ d → b ≡ false) × (d < 63 → Within ts (d + 1) b)
 Within (closing p ∷ ts) d b = (0 < d) × Within ts (d - 1) b
 Within (whole a p e ∷ ts) d b = Within ts d b
+Within (unfinished p ∷ ts) d b = ⊥
 Within (bad w p ∷ ts) d b = ⊥
 
 -- few tokens open few forms
@@ -35,6 +36,7 @@ few-tokens [] d b w h = w
 few-tokens (opening p ∷ ts) d b w h = few-tokens ts (d + 1) b (w .2 (omega (arith, w .0))) (omega arith)
 few-tokens (closing p ∷ ts) d b w h = few-tokens ts (d - 1) b (w .1) (omega (arith, w .0))
 few-tokens (whole a p e ∷ ts) d b w h = few-tokens ts d b w (omega arith)
+few-tokens (unfinished p ∷ ts) d b w h = absurd w
 few-tokens (bad v p ∷ ts) d b w h = absurd w
 
 -- whole expressions in front of other tokens take none of them
@@ -108,6 +110,7 @@ abbrev pub NestingTurn : (s : List ℕ) (p d : ℕ) → Answer → Type 0
 NestingTurn s p d Opening = (63 ≤ d → Answers s false) × (d < 63 → Nesting s (p + 1) (d + 1))
 NestingTurn s p d Closing = (0 < d) × Nesting s (p + 1) (d - 1)
 NestingTurn s p d (Whole k b e) = (p < e) × Nesting s e d
+NestingTurn s p d Unfinished = ⊥
 NestingTurn s p d (Bad w q) = ⊥
 
 module _ (s : List ℕ) (p d : ℕ) (f : Nesting s p d) where
@@ -136,4 +139,5 @@ module _ (s : List ℕ) (p d : ℕ) (f : Nesting s p d) where
       )
       go Closing is = (one _ is .0, dive (p + 1) (d - 1) (omega arith) (omega (arith, f .few)) (λ vs v fits. here _ is vs v fits .1))
       go (Whole k b e) w = (w .forward, dive e d (w .inside) (f .few) (here _ (w .is)))
+      go Unfinished x = one _ (x .1)
       go (Bad w q) x = one _ (x .1)

@@ -39,8 +39,9 @@ values-right s p vs v =
     let counted : length (rows-of (tokens 0 0 x)) ≡ rows-all vs = ap length (spelled-rows vs x spells) ∙ all-rows-count vs x spells 0 in
     let few : rows-all vs ≤ length s = omega (arith, rows-few (tokens 0 0 x), tokens-few x 0 0, length-drop p s) in (
       0,
-      ap (λ (l : List ℕ). check (length s) (length s) (tokens p 0 l) 0 0) (sym (append-nil x))
-          ∙ check-all (length s) (length s) vs x spells p 0 0 [] (omega (arith, v .shallow)) (omega arith),
+      0,
+      ap (λ (l : List ℕ). check 0 (length s) (tokens p 0 l) 0 0) (sym (append-nil x))
+          ∙ check-all (length s) vs x spells 0 p 0 0 [] (omega (arith, v .shallow)) (omega arith),
     )
 
 -- of all values of a stream the first n are passed at byte p, where each stands is in `args`, and the others are left

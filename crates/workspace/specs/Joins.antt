@@ -7,7 +7,7 @@ use lib.Dec.{ltb, eqb}
 use Rattle.spec.specs.Expr.{if_then_else_}
 use Rattle.atoms.specs.Tokens.{token-at, shown}
 use Rattle.atoms.specs.declared.Token.{Token}
-use Rattle.atoms.specs.declared.Token.the-variants.{Opening, Closing, Whole, Bad}
+use Rattle.atoms.specs.declared.Token.the-variants.{Opening, Closing, Whole, Unfinished, Bad}
 use Rattle.workspace.specs.declared.made.Bytes.{Bytes}
 use Rattle.workspace.specs.declared.made.Bytes.the-variants.{Array, Other}
 
@@ -16,6 +16,7 @@ abbrev pub array-of : Token → Bytes
 array-of Opening = Other
 array-of Closing = Other
 array-of (Whole kind body end) = if eqb kind 2 then Array body end else Other
+array-of Unfinished = Other
 array-of (Bad w p) = Other
 
 -- the array that begins at a byte

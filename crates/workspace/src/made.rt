@@ -47,6 +47,9 @@ fn shallow(values: &[u8]) -> bool
             } => {
                 at = end;
             }
+            Token::Unfinished => {
+                return false;
+            }
             Token::Bad(_, _) => {
                 return false;
             }
@@ -100,6 +103,7 @@ fn array_at(w: &[u8], at: usize) -> Bytes
             }
             Bytes::Other
         }
+        Token::Unfinished => Bytes::Other,
         Token::Bad(_, _) => Bytes::Other,
     }
 }

@@ -7,29 +7,30 @@ use lib.Seq.{sets}
 use borrow.Rule.Slice.PartMut.{midOf, mid-len}
 use native.Mathlib.Omega.{arith}
 use Rattle.spec.specs.Expr.{atom-bytes, canonical}
-use Rattle.spec.specs.Reading.{Token, opening, closing, whole, bad, right, check}
+use Rattle.spec.specs.Reading.{Token, opening, closing, whole, unfinished, bad}
 use Rattle.spec.specs.Calls.{over}
 use Rattle.laws.specs.Demands.{Bytes, meaning-of, CanRead}
-use Rattle.laws.proofs.Tokens.{right-opening, right-closing, right-whole, right-bad}
+use Rattle.laws.proofs.Tokens.{Right, right-opening, right-closing, right-whole, right-first}
 use Rattle.laws.proofs.Reading.{read-readable}
 use Rattle.laws.proofs.Steps.{tokens-from, tokens-end}
 use Rattle.laws.proofs.Written.{bytes-of, token-bytes, canonical-stream}
 use Rattle.atoms.specs.Tokens.{token-at, shown, atom-head}
 use Rattle.atoms.specs.declared.Token.{Token as Answer}
-use Rattle.atoms.specs.declared.Token.the-variants.{Opening, Closing, Whole, Bad}
+use Rattle.atoms.specs.declared.Token.the-variants.{Opening, Closing, Whole, Unfinished, Bad}
 use Rattle.atoms.proofs.Next.{AtomAt, Next, next}
 use Rattle.writer.specs.Bytes.{put-at, Put, with-head}
 use Rattle.writer.proofs.Puts.{length-put-at, stored, written-on}
 
 -- tokens that are right at some depth, after some rows
-pub data Right (end : ℕ) (ts : List Token) : Type 0 where
-  after : (d n : ℕ) → check end end ts d n ≡ right → Right end ts
+abbrev Passes : ℕ → List Token → Type 0
+Passes room ts = (d : ℕ) × (n : ℕ) × Right room ts d n
 
-right-on : (end : ℕ) (t : Token) (ts : List Token) → Right end (t ∷ ts) → Right end ts
-right-on end (opening p) ts (after d n c) = after (d + 1) (n + 1) (right-opening end end ts p d n c .2)
-right-on end (closing p) ts (after d n c) = after (d - 1) n (right-closing end end ts p d n c .1)
-right-on end (whole a p e) ts (after d n c) = after d (n + 1) (right-whole end end ts a p e d n c .1)
-right-on end (bad w p) ts (after d n c) = absurd (right-bad end end ts w p d n c)
+passes-on : (room : ℕ) (t : Token) (ts : List Token) → Passes room (t ∷ ts) → Passes room ts
+passes-on room (opening p) ts (d, n, r) = (d + 1, n + 1, right-opening r .2)
+passes-on room (closing p) ts (d, n, r) = (d - 1, n, right-closing r .1)
+passes-on room (whole a p e) ts (d, n, r) = (d, n + 1, right-whole r .1)
+passes-on room (unfinished p) ts (d, n, r) = absurd (right-first r)
+passes-on room (bad w p) ts (d, n, r) = absurd (right-first r)
 
 -- at place p of the stream `done` is written, and the bytes of the tokens from p on are left
 pub record Emitted (s out₀ out : List ℕ) (p to : ℕ) : Type 0 where
@@ -38,7 +39,7 @@ pub record Emitted (s out₀ out : List ℕ) (p to : ℕ) : Type 0 where
   pub fits : length (canonical (meaning-of s)) ≤ length out₀
   pub same : length out ≡ length out₀
   pub inside : p ≤ length s
-  pub passes : Right (length s) (tokens-from s p)
+  pub passes : Passes (length s) (tokens-from s p)
   pub done : List ℕ
   pub all : canonical (meaning-of s) ≡ done ++ token-bytes (tokens-from s p)
   pub put : Put out₀ 0 done out to
@@ -51,7 +52,7 @@ emitted-none s out₀ stream r fits = record {
   fits = fits;
   same = refl;
   inside = omega arith;
-  passes = after 0 0 (read-readable s (length s) _ _ r .passes);
+  passes = (0, 0, read-readable s (length s) _ _ r .well);
   done = [];
   all = sym (canonical-stream s r);
   put = record { place = refl; is = refl };
@@ -74,6 +75,7 @@ abbrev pub EmitTurn : (s out₀ out : List ℕ) (p to : ℕ) → Answer → Type
 EmitTurn s out₀ out p to Opening = ByteTurn s out₀ out p to (opening p)
 EmitTurn s out₀ out p to Closing = ByteTurn s out₀ out p to (closing p)
 EmitTurn s out₀ out p to (Whole k b e) = AtomTurn s out₀ out p to b e (with-head k (midOf b (e - b) s))
+EmitTurn s out₀ out p to Unfinished = ⊥
 EmitTurn s out₀ out p to (Bad w q) = ⊥
 
 module _ {s out₀ out : List ℕ} {p to : ℕ} (r : Emitted s out₀ out p to) where
@@ -96,7 +98,7 @@ module _ {s out₀ out : List ℕ} {p to : ℕ} (r : Emitted s out₀ out p to) 
       fits = r .fits;
       same = ap length (w .is) ∙ length-put-at out to (bytes-of t) token-room ∙ r .same;
       inside = h;
-      passes = right-on (length s) t (tokens-from s q) (rw step at (r .passes));
+      passes = passes-on (length s) t (tokens-from s q) (rw step at (r .passes));
       done = r .done ++ bytes-of t;
       all = r .all ∙ rw left (sym (append-assoc (r .done) (bytes-of t) (token-bytes (tokens-from s q))));
       put = written-on (omega (arith, size)) (r .put) w;
@@ -120,12 +122,6 @@ module _ {s out₀ out : List ℕ} {p to : ℕ} (r : Emitted s out₀ out p to) 
         on = λ x. emitted-token e (w .is) (w .inside) (rw bytes x);
       }
 
-  turn-bad : {w q : ℕ} {ts : List Token} → tokens-from s p ≡ bad w q ∷ ts → ⊥
-  turn-bad {w} {q} {ts} e = go (rw e at (r .passes))
-    where
-      go : Right (length s) (bad w q ∷ ts) → ⊥
-      go (after d n c) = right-bad (length s) (length s) ts w q d n c
-
   pub emit-turn : p < length s → (a : Answer) → a ≡ shown (token-at s p) → EmitTurn s out₀ out p to a
   emit-turn inside a told = go a (next s p a (r .stream) inside told)
     where
@@ -133,7 +129,8 @@ module _ {s out₀ out : List ℕ} {p to : ℕ} (r : Emitted s out₀ out p to) 
       go Opening step = turn-byte inside step
       go Closing step = turn-byte inside step
       go (Whole k b e) w = turn-atom k b e w
-      go (Bad w q) x = turn-bad (x .1)
+      go Unfinished x = right-first (rw (x .1) at (r .passes .2))
+      go (Bad w q) x = right-first (rw (x .1) at (r .passes .2))
 
   pub emitted-all : length s ≤ p → out ≡ over (canonical (meaning-of s)) out₀
   unfolding put-at token-bytes

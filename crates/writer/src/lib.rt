@@ -95,6 +95,9 @@ pub fn emit(s: &[u8], out: &mut [u8])
                 to = put_atom(kind, &s[body..end], out, to);
                 at = end;
             }
+            Token::Unfinished => {
+                return;
+            }
             Token::Bad(_, _) => {
                 return;
             }

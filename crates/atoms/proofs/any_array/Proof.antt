@@ -6,10 +6,12 @@ use mathlib.Core.Path.{_≡_, sym, _∙_}
 use native.Mathlib.Omega.{arith}
 use native.Mathlib.Numerals.{add-one}
 use lib.ListN.{length, drop}
-use Rattle.spec.specs.Reading.{length-expr}
+use Rattle.spec.specs.Reading.{and-then, take-bytes, length-expr, as-array}
 use Rattle.laws.proofs.Steps.{all-bytes}
-use Rattle.atoms.specs.declared.Length.the-variants.{Is}
-use Rattle.atoms.proofs.Places.{ToldLength, told-length, told-bytes, array-wrong}
+use Rattle.atoms.specs.Tokens.{shown-atom}
+use Rattle.atoms.specs.declared.Length.{Length}
+use Rattle.atoms.specs.declared.Length.the-variants.{Is, CutOff, Wrong}
+use Rattle.atoms.proofs.Places.{ToldLength, told-length, told-bytes, NoLength, refusal-token, array-told}
 use Rattle.atoms.proofs.any_array.Statement.{statement}
 use Rattle.atoms.proofs.any_array.Tie as tie
 
@@ -24,14 +26,22 @@ at-length c v e told =
 bytes-at-requires : tie.Need-bytes-at-requires
 bytes-at-requires c κs = at-length (c .before .before .before) _ _ (c .before .value .given .1) .inside
 
+-- where there is none
+no-length : (c : tie.After-length-at) (r : Length) (u : NoLength r) → c .length-at .result ≡ r
+    → let a = c .before .before .args in
+    refusal-token r u ≡ shown-atom (a .at) (length (a .s .now)) (and-then (and-then (length-expr 7 (drop (suc (a .at)) (a .s .now))) take-bytes) as-array)
+no-length c r u told =
+    let a = c .before .before .args in
+    sym (array-told (a .at) (length (a .s .now)) (length-expr 7 (drop (suc (a .at)) (a .s .now))) r u (rw (← add-one (a .at)) (sym (c .length-at .ensures) ∙ told)))
+
 returns : tie.Need-returns
-returns c =
-    let a = c .before .before .before .before .before .args in
-    let s = a .s .now in
-    sym (array-wrong (a .at) (length s) (length-expr 7 (drop (suc (a .at)) s)) _ _ (rw (← add-one (a .at)) (sym (c .before .before .before .length-at .ensures) ∙ c .before .number .given .1)))
+returns c = no-length (c .before .before) CutOff tt (c .enum-told .given .1)
 
 returns-2 : tie.Need-returns-2
-returns-2 c =
+returns-2 c = no-length (c .before .before .before) (Wrong _ _) tt (c .before .number .given .1)
+
+returns-3 : tie.Need-returns-3
+returns-3 c =
     let a = c .before .before .before .before .before .before .args in
     let t = at-length (c .before .before .before .before) _ _ (c .before .before .value .given .1) in
     rw (told-bytes (a .s .now) _ _ _ (omega arith) t) at (c .bytes-at .ensures (a .at))
@@ -44,6 +54,8 @@ any-array-spec =
     (λ c κs. search needs)
     (λ c. search needs)
     (λ c. search needs)
+    (λ c. search needs)
     bytes-at-requires
     returns
-    returns-2)
+    returns-2
+    returns-3)

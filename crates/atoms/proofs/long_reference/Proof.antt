@@ -7,7 +7,6 @@ use native.Mathlib.Omega.{arith}
 use native.Mathlib.Numerals.{add-one}
 use lib.ListN.{length, drop}
 use Rattle.spec.specs.Reading.{marker}
-use Rattle.atoms.specs.declared.Token.the-variants.{Bad}
 use Rattle.atoms.proofs.Places.{marker-end, marker-more, marker-last}
 use Rattle.atoms.proofs.long_reference.Statement.{statement}
 use Rattle.atoms.proofs.long_reference.Tie as tie
@@ -44,7 +43,7 @@ loop-again c =
     }
 
 returns-2 : tie.Need-returns-2 Inv-loop μ-loop
-returns-2 c = let l = c .before .loop in rw (l .inv .same ∙ marker-end _ (l .p) (l .sum) (omega arith)) (ap (Bad 2) (omega arith))
+returns-2 c = let l = c .before .loop in rw (l .inv .same ∙ marker-end _ (l .p) (l .sum) (omega arith))
 
 pub long-reference-spec : {M : Type 1} → statement M
 long-reference-spec =

@@ -6,16 +6,16 @@ use mathlib.Core.Path.{_≡_, sym, _∙_}
 use native.Mathlib.Omega.{arith}
 use lib.ListN.{length}
 use Rattle.atoms.specs.declared.Token.{Token as Answer}
-use Rattle.atoms.specs.declared.Token.the-variants.{Opening, Closing, Whole}
+use Rattle.atoms.specs.declared.Token.the-variants.{Opening, Closing, Whole, Unfinished}
 use Rattle.reader.proofs.Checking.{Checking, checking-start, CheckTurn, check-turn, end-right, end-wrong}
 use Rattle.reader.proofs.check_tokens.Statement.{statement}
 use Rattle.reader.proofs.check_tokens.Tie as tie
 
 abbrev Inv-loop : tie.InvT-loop
-Inv-loop s room at₀ depth₀ rows₀ saved₀ at depth rows saved = Checking s room at depth rows saved
+Inv-loop s room at₀ from₀ depth₀ rows₀ saved₀ at from depth rows saved = Checking s room at from depth rows saved
 
 abbrev μ-loop : tie.MeasureT-loop
-μ-loop s room at₀ depth₀ rows₀ saved₀ at depth rows saved = length s - at
+μ-loop s room at₀ from₀ depth₀ rows₀ saved₀ at from depth rows saved = length s - at
 
 loop-holds : tie.Need-loop-holds Inv-loop μ-loop
 loop-holds c = checking-start _ _
@@ -25,12 +25,12 @@ abbrev TurnAt : tie.At-loop Inv-loop μ-loop → Answer → Type 0
 TurnAt c r =
     let a = c .before .before .args in
     let l = c .loop in
-    CheckTurn (a .s .now) (a .room) (l .at) (l .depth) (l .rows) (l .saved) r
+    CheckTurn (a .s .now) (a .room) (l .at) (l .from) (l .depth) (l .rows) (l .saved) r
 
 at-token : (c : tie.After-token-at Inv-loop μ-loop) (r : Answer) → c .token-at .result ≡ r → TurnAt (c .before .before) r
 at-token c r e =
     let l = c .before .before in
-    check-turn _ _ _ _ _ _ (l .before .before .pre) (l .loop .inv) (c .before .loop-test .taken) (λ i. l .before .shared-slice-known .given i .fits) r
+    check-turn _ _ _ _ _ _ _ (l .before .before .pre) (l .loop .inv) (c .before .loop-test .taken) (λ i. l .before .shared-slice-known .given i .fits) r
     (sym e ∙ c .token-at .ensures)
 
 at-opening : (c : tie.After-enum-told Inv-loop μ-loop) → TurnAt (c .before .before .before .before) Opening
@@ -50,7 +50,7 @@ returns-2 : tie.Need-returns-2 Inv-loop μ-loop
 returns-2 c = at-opening (c .before .before) .1 (c .before .if1 .left) (c .if2 .taken)
 
 loop-again : tie.Need-loop-again Inv-loop μ-loop
-loop-again c = at-opening (c .before .before) .2 (c .before .if1 .left) (c .if2 .left)
+loop-again c = rw (c .began .ensures) (at-opening (c .before .before .before) .2 (c .before .before .if1 .left) (c .before .if2 .left))
 
 returns-3 : tie.Need-returns-3 Inv-loop μ-loop
 returns-3 c = at-closing (c .before) .0 (c .if3 .taken)
@@ -74,13 +74,16 @@ loop-again-3 : tie.Need-loop-again-3 Inv-loop μ-loop
 loop-again-3 c = at-whole (c .before .before .before) .5 _ (c .spared .ensures) (c .before .if4 .left)
 
 returns-5 : tie.Need-returns-5 Inv-loop μ-loop
-returns-5 c = at-token (c .before .before .before) _ (c .before .number .given .1)
+returns-5 c = rw (c .began2 .ensures) (at-token (c .before .before .before) Unfinished (c .before .enum-told3 .given .1))
 
 returns-6 : tie.Need-returns-6 Inv-loop μ-loop
-returns-6 c = let l = c .before .before in end-right _ _ _ _ _ _ (l .before .before .pre) (l .loop .inv) (c .before .loop-test .left) (c .if5 .taken)
+returns-6 c = at-token (c .before .before .before) _ (c .before .number .given .1)
 
 returns-7 : tie.Need-returns-7 Inv-loop μ-loop
-returns-7 c = let l = c .before .before in end-wrong _ _ _ _ _ _ (l .before .before .pre) (l .loop .inv) (c .before .loop-test .left) (c .if5 .left)
+returns-7 c = let l = c .before .before in end-right _ _ _ _ _ _ _ (l .before .before .pre) (l .loop .inv) (c .before .loop-test .left) (c .if5 .taken)
+
+returns-8 : tie.Need-returns-8 Inv-loop μ-loop
+returns-8 c = let l = c .before .before in end-wrong _ _ _ _ _ _ _ (l .before .before .pre) (l .loop .inv) (c .before .loop-test .left) (c .if5 .left)
 
 pub check-tokens-spec : {M : Type 1} → statement M
 check-tokens-spec =
@@ -93,6 +96,7 @@ check-tokens-spec =
     (λ c. search needs)
     returns
     returns-2
+    (λ c κs. omega arith)
     (λ c. omega arith)
     (λ c. omega arith)
     (λ c. omega arith)
@@ -112,7 +116,10 @@ check-tokens-spec =
     loop-less-3
     loop-again-3
     (λ c. search needs)
+    (λ c κs. omega arith)
     returns-5
-    (λ c. omega arith)
+    (λ c. search needs)
     returns-6
-    returns-7)
+    (λ c. omega arith)
+    returns-7
+    returns-8)

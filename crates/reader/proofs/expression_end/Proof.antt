@@ -30,6 +30,9 @@ returns-3 c = absurd (at-token (c .before .before) Closing (c .enum-told2 .given
 returns-4 : tie.Need-returns-4
 returns-4 c = absurd (at-token (c .before .before) _ (c .enum-told3 .given .1))
 
+returns-5 : tie.Need-returns-5
+returns-5 c = absurd (at-token (c .before .before) _ (c .enum-told4 .given .1))
+
 pub expression-end-spec : {M : Type 1} → statement M
 expression-end-spec =
     tie.close
@@ -41,7 +44,9 @@ expression-end-spec =
     (λ c. search needs)
     (λ c. search needs)
     (λ c. search needs)
+    (λ c. search needs)
     returns
     returns-2
     returns-3
-    returns-4)
+    returns-4
+    returns-5)

@@ -5,6 +5,7 @@ use Prim.Native.Nat.{_-_}
 use mathlib.Core.Path.{_≡_, refl, sym, _∙_}
 use native.Mathlib.Omega.{arith}
 use lib.ListN.{length}
+use Rattle.laws.proofs.Tokens.{right-tokens}
 use Rattle.atoms.specs.declared.Token.{Token as Answer}
 use Rattle.atoms.specs.declared.Token.the-variants.{Opening, Closing}
 use Rattle.reader.proofs.Finding.{Ending, ending-inside, EndingTurn, ending-turn}
@@ -18,7 +19,9 @@ abbrev μ-loop : tie.MeasureT-loop
 μ-loop s start at₀ depth₀ at depth = length s - at
 
 loop-holds : tie.Need-loop-holds Inv-loop μ-loop
-loop-holds c = record { inside = omega arith; shallow = omega arith; passes = c .before .pre .2; same = refl }
+loop-holds c =
+    let right = c .before .pre .2 in
+    record { inside = omega arith; shallow = omega arith; rows = right .1; passes = right-tokens _ _ _ _ _ (right .2); same = refl }
 
 -- what is known of the turn where the token is this one
 at-token : (c : tie.After-token-at Inv-loop μ-loop) (r : Answer) → c .token-at .result ≡ r
@@ -46,7 +49,10 @@ returns-2 : tie.Need-returns-2 Inv-loop μ-loop
 returns-2 c = absurd (at-token (c .before .before) _ (c .enum-told3 .given .1))
 
 returns-3 : tie.Need-returns-3 Inv-loop μ-loop
-returns-3 c = absurd (omega (arith, ending-inside _ _ _ _ (c .before .loop .inv)))
+returns-3 c = absurd (at-token (c .before .before) _ (c .enum-told4 .given .1))
+
+returns-4 : tie.Need-returns-4 Inv-loop μ-loop
+returns-4 c = absurd (omega (arith, ending-inside _ _ _ _ (c .before .loop .inv)))
 
 pub form-end-spec : {M : Type 1} → statement M
 form-end-spec =
@@ -72,4 +78,6 @@ form-end-spec =
     loop-again-3
     (λ c. search needs)
     returns-2
-    returns-3)
+    (λ c. search needs)
+    returns-3
+    returns-4)

@@ -72,5 +72,8 @@ emit-spec =
     (λ c. search needs)
     (λ c. c .before .before .before .before .loop .inv .same)
     (λ c. absurd (at-token (c .before .before) _ (c .enum-told3 .given .1)))
+    (λ c. search needs)
+    (λ c. c .before .before .before .before .loop .inv .same)
+    (λ c. absurd (at-token (c .before .before) _ (c .enum-told4 .given .1)))
     (λ c. c .before .loop .inv .same)
     (λ c. emitted-all (c .before .loop .inv) (c .loop-test .left)))

@@ -5,7 +5,7 @@ use mathlib.Core.Path.{_≡_, sym, ap, _∙_}
 use lib.ListN.{length}
 use borrow.Author.Tests.{lt-ltb, le-ltb, eq-eqb, ne-eqb}
 use Rattle.atoms.specs.declared.Token.{Token}
-use Rattle.atoms.specs.declared.Token.the-variants.{Opening, Closing}
+use Rattle.atoms.specs.declared.Token.the-variants.{Opening, Closing, Unfinished}
 use Rattle.workspace.specs.Joins.{array-of, array-at}
 use Rattle.workspace.proofs.made.array_at.Statement.{statement}
 use Rattle.workspace.proofs.made.array_at.Tie as tie
@@ -27,7 +27,9 @@ array-at-spec =
     (λ c. search needs)
     (λ c. let k = c .before .before in rw (eq-eqb (k .kind .given .0 .0) 2 (c .if2 .taken)) at (at-token (k .before .before) _ (k .kind .given .1)))
     (λ c. search needs)
+    (λ c. search needs)
     (λ c. at-token (c .before .before) Opening (c .enum-told .given .1))
     (λ c. at-token (c .before .before) Closing (c .enum-told2 .given .1))
     (λ c. let k = c .before .before in rw (ne-eqb (k .kind .given .0 .0) 2 (c .if2 .left)) at (at-token (k .before .before) _ (k .kind .given .1)))
-    (λ c. at-token (c .before .before) _ (c .enum-told3 .given .1)))
+    (λ c. at-token (c .before .before) Unfinished (c .enum-told3 .given .1))
+    (λ c. at-token (c .before .before) _ (c .enum-told4 .given .1)))

@@ -57,4 +57,6 @@ shallow-spec =
     (λ c. at-token (c .before .before .before) _ (c .before .end .given .1) .1)
     (λ c. search needs)
     (λ c. absurd (at-token (c .before .before) _ (c .enum-told3 .given .1)))
+    (λ c. search needs)
+    (λ c. absurd (at-token (c .before .before) _ (c .enum-told4 .given .1)))
     (λ c. nesting-end _ _ _ (c .before .loop .inv) (c .loop-test .left)))
