@@ -51,6 +51,9 @@ rows-fit s t rs es e =
 pub filled-length : (s t : List ℕ) (rs : List Row) (es : Exprs) → reading s t ≡ readable rs es → length (filled rs t) ≡ length t
 filled-length s t rs es e = over-length (numbers rs rs) t (omega (arith, numbers-length rs rs, rows-fit s t rs es e))
 
+pub filled-numbers : (rs : List Row) (t : List ℕ) → take (row-width * length rs) (filled rs t) ≡ numbers rs rs
+filled-numbers rs t = rw (← numbers-length rs rs) (take-append-seam (numbers rs rs) (drop (length (numbers rs rs)) t))
+
 -- what holds of both answers of Read holds of its answer
 pub read-cases : (P : Answer → Type 0) (s t : List ℕ) → ((v p : ℕ) → reading s t ≡ refused v p → P (refusal v p t []))
     → ((rs : List Row) (es : Exprs) → reading s t ≡ readable rs es → P (acceptance (length rs) 0 (filled rs t) [])) → P (Read s t)

@@ -61,12 +61,16 @@ pub rows-expr : (e : Expr) (x : List ℕ) (sp : Spells e x) (p : ℕ) (s : List 
     → rows-of (tokens p 0 (x ++ s)) ≡ expr-rows e x sp p ++ rows-of (tokens (p + length x) 0 s)
 rows-expr e x sp p s = rw (tokens-expr e x sp p s) (expr-tokens-rows e x sp p _)
 
+pub rows-before : (es : Exprs) (x : List ℕ) (sp : SpellsAll es x) (p : ℕ) (s : List ℕ)
+    → rows-of (tokens p 0 (x ++ s)) ≡ all-rows es x sp p ++ rows-of (tokens (p + length x) 0 s)
+rows-before es x sp p s = rw (tokens-all es x sp p s) (all-tokens-rows es x sp p _)
+
 -- the rows of a stream that spells expressions
 pub spelled-rows : (es : Exprs) (s : List ℕ) (sp : SpellsAll es s) → rows-of (tokens 0 0 s) ≡ all-rows es s sp 0
 unfolding rows-of tokens
 spelled-rows es s sp =
     ap (λ (x : List ℕ). rows-of (tokens 0 0 x)) (sym (append-nil s))
-    ∙ rw (tokens-all es s sp 0 []) (all-tokens-rows es s sp 0 [])
+    ∙ rows-before es s sp 0 []
     ∙ append-nil (all-rows es s sp 0)
 
 -- Item

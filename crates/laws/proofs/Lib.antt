@@ -11,6 +11,8 @@ pub mod Parsing
 pub mod Written
 pub mod Steps
 pub mod Items
+pub mod Prefixes
+pub mod Unfinished
 pub mod Runs
 pub mod Bytecode
 pub mod Walk
@@ -23,3 +25,4 @@ pub mod Retry
 pub mod Count
 pub mod Theorems
 pub mod Backlogs
+pub mod Parts

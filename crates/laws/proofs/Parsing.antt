@@ -44,7 +44,7 @@ wrap-spells (es ∷ fs ∷ ls) s k h =
     subst (λ (y : List ℕ). SpellsLists (wrap (es ∷ fs ∷ ls)) y) same (put-spells (form es) (0x01 ∷ (x ++ (0x02 ∷ []))) (x, refl, h .3) (fs ∷ ls) (h .1) (h .4))
 
 -- the first token of some bytes
-first-token : (p : ℕ) (s : List ℕ) (t : Token) (ts : List Token) → tokens p 0 s ≡ t ∷ ts
+pub first-token : (p : ℕ) (s : List ℕ) (t : Token) (ts : List Token) → tokens p 0 s ≡ t ∷ ts
     → (b : ℕ) × (u : List ℕ) × (s ≡ b ∷ u) × From p b u t × (tokens (p + 1) (further t) u ≡ ts)
 unfolding tokens
 first-token p [] t ts e = impossible (cc)
@@ -53,18 +53,18 @@ first-token p (b ∷ u) t ts e =
     let rest : tokens (p + 1) (further (token p b u)) u ≡ ts = cc in
     (b, u, refl, rw it at (token-from p b u), rw it at rest)
 
-no-token : (p : ℕ) (s : List ℕ) → tokens p 0 s ≡ [] → s ≡ []
+pub no-token : (p : ℕ) (s : List ℕ) → tokens p 0 s ≡ [] → s ≡ []
 unfolding tokens
 no-token p [] e = refl
 no-token p (b ∷ u) e = impossible (cc)
 
-from-opening : {p b q : ℕ} {s : List ℕ} → From p b s (opening q) → b ≡ 0x01
-from-opening (from-01 h) = h
+pub from-opening : {p b q : ℕ} {s : List ℕ} → From p b s (opening q) → (b ≡ 0x01) × (q ≡ p)
+from-opening (from-01 h) = (h, refl)
 
-from-closing : {p b q : ℕ} {s : List ℕ} → From p b s (closing q) → b ≡ 0x02
+pub from-closing : {p b q : ℕ} {s : List ℕ} → From p b s (closing q) → b ≡ 0x02
 from-closing (from-02 h) = h
 
-from-whole : {p b q k : ℕ} {s : List ℕ} {a : Atom} → From p b s (whole a q k) → (t : List ℕ) × (read-atom b s ≡ taken a t)
+pub from-whole : {p b q k : ℕ} {s : List ℕ} {a : Atom} → From p b s (whole a q k) → (t : List ℕ) × (read-atom b s ≡ taken a t)
 from-whole (from-atom a t h) = (t, h)
 
 close-spells : (ls : List Exprs) (s : List ℕ) → SpellsLists ls s → SpellsLists (none ∷ ls) (0x02 ∷ s)
@@ -79,7 +79,7 @@ tokens-spell (opens {ts} h k c) p s b e =
     let f = first-token p s _ ts e in
     let bs : Bytes (f .0 ∷ f .1) = rw (f .2) at b in
     let size = rows-count c .1 in
-    rw (f .2, from-opening (f .3)) (wrap-spells (lists ts) (f .1) (omega arith) (tokens-spell c (p + 1) (f .1) (bs .1) (f .4)))
+    rw (f .2, from-opening (f .3) .0) (wrap-spells (lists ts) (f .1) (omega arith) (tokens-spell c (p + 1) (f .1) (bs .1) (f .4)))
 tokens-spell (closes {ts} c) p s b e =
     let f = first-token p s _ ts e in
     let bs : Bytes (f .0 ∷ f .1) = rw (f .2) at b in

@@ -85,7 +85,7 @@ read-readable s room rs es h = go (ltb 65536 (length s)) refl (check 0 room (tok
     go false e right k h = record { short = ltb-false 65536 (length s) e; well = right-tokens 0 room (tokens 0 0 s) 0 0 k; rows-are = cc; means = cc }
     go false e (wrong w p) k h = impossible (cc)
 
-readable-read : (s : List ℕ) (room : ℕ) → length s ≤ 65536 → check 0 room (tokens 0 0 s) 0 0 ≡ right
+pub readable-read : (s : List ℕ) (room : ℕ) → length s ≤ 65536 → check 0 room (tokens 0 0 s) 0 0 ≡ right
     → read s room ≡ readable (rows-of (tokens 0 0 s)) (meaning-of s)
 unfolding read
 readable-read s room h k = rw (le-ltb 65536 (length s) h, k)
@@ -157,9 +157,12 @@ unfolding tokens
 tokens-skip [] s p = ap (λ (q : ℕ). tokens q 0 s) (omega arith)
 tokens-skip (b ∷ x) s p = tokens-skip x s (p + 1) ∙ ap (λ (q : ℕ). tokens q 0 s) (omega arith)
 
-pub tokens-form : (x : List ℕ) (p : ℕ) (s : List ℕ) → tokens p 0 (0x01 ∷ ((x ++ (0x02 ∷ [])) ++ s)) ≡ opening p ∷ tokens (p + 1) 0 (x ++ (0x02 ∷ s))
+pub tokens-opening : (p : ℕ) (s : List ℕ) → tokens p 0 (0x01 ∷ s) ≡ opening p ∷ tokens (p + 1) 0 s
 unfolding tokens token
-tokens-form x p s = ap (λ y. opening p ∷ tokens (p + 1) 0 y) (append-assoc x (0x02 ∷ []) s)
+tokens-opening p s = refl
+
+pub tokens-form : (x : List ℕ) (p : ℕ) (s : List ℕ) → tokens p 0 (0x01 ∷ ((x ++ (0x02 ∷ [])) ++ s)) ≡ opening p ∷ tokens (p + 1) 0 (x ++ (0x02 ∷ s))
+tokens-form x p s = tokens-opening p ((x ++ (0x02 ∷ [])) ++ s) ∙ ap (λ y. opening p ∷ tokens (p + 1) 0 y) (append-assoc x (0x02 ∷ []) s)
 
 pub tokens-closing : (p : ℕ) (s : List ℕ) → tokens p 0 (0x02 ∷ s) ≡ closing p ∷ tokens (p + 1) 0 s
 unfolding tokens token

@@ -1,11 +1,11 @@
 -- Laws of `rows-of`, for tokens that are right and laid out: how many rows there are, that they stand in the order of their starts, and
 -- that each starts before it ends and ends in the stream. And laws of `next-row` and `numbers`, for any rows. Document 01: "Table". Assumes nothing.
 use Prim.Native.Nat.{ℕ, zero, suc, _+_, _-_, _*_, _≤_, _<_}
-use mathlib.Core.Path.{_≡_, refl}
-use mathlib.Core.List.{List, [], _∷_}
+use mathlib.Core.Path.{_≡_, refl, ap, _∙_}
+use mathlib.Core.List.{List, [], _∷_, _++_}
 use lib.ListN.{length, drop, getD, length-drop, List·getD-append}
 use lib.Dec.{leb}
-use borrow.Author.Tests.{leb-true, leb-false, lt-leb, ne-eqb}
+use borrow.Author.Tests.{leb-true, leb-false, le-leb, lt-leb, ne-eqb}
 use native.Mathlib.Omega.{arith}
 use Rattle.spec.specs.Expr.{Expr, atom, form, Exprs, rows, rows-all}
 use Rattle.spec.specs.Reading.{Token, opening, closing, whole, unfinished, bad, right, began, check, put, wrap, lists, Row, ends, rows-of, row-width, next-row, numbers}
@@ -126,6 +126,32 @@ module _ {room : ℕ} (end : ℕ) where
       (omega arith, b .1, rows-inside c (q + 1) (l .1))
   rows-inside (closes {q = q} c) p l = rows-inside c (q + 1) (l .1)
   rows-inside (stands {ts} {e = e} k c) p l = (l .1, rising-low e (ends ts) end (ends-rising c e (l .4) .1), rows-inside c e (l .4))
+
+-- a row behind all others that start no earlier is the first of them
+pub next-row-here : (e : ℕ) (rs : List Row) → Ordered e rs → next-row e rs ≡ 0
+unfolding next-row
+next-row-here e [] o = refl
+next-row-here e (r ∷ rs) o = rw (le-leb e (r .start) (o .0))
+
+-- Rows in front of others that start at e or after it, and end no later: their numbers do not depend on the others
+
+next-row-before : (e x : ℕ) (rs qs : List Row) → Ordered e qs → x ≤ e → next-row x (rs ++ qs) ≡ next-row x rs
+unfolding next-row
+next-row-before e x [] qs o h = next-row-here x qs (ordered-from-lower x e qs h o)
+next-row-before e x (r ∷ rs) qs o h = rw (next-row-before e x rs qs o h)
+
+numbers-before : (e : ℕ) (all rs qs : List Row) → Ordered e qs → Inside e rs → numbers (all ++ qs) rs ≡ numbers all rs
+unfolding numbers
+numbers-before e all [] qs o i = refl
+numbers-before e all (r ∷ rs) qs o i = rw (next-row-before e (r .end) all qs o (i .1), numbers-before e all rs qs o (i .2))
+
+numbers-append : (all rs qs : List Row) → numbers all (rs ++ qs) ≡ numbers all rs ++ numbers all qs
+unfolding numbers
+numbers-append all [] qs = refl
+numbers-append all (r ∷ rs) qs = rw (numbers-append all rs qs)
+
+pub numbers-first : (e : ℕ) (rs qs : List Row) → Ordered e qs → Inside e rs → numbers (rs ++ qs) (rs ++ qs) ≡ numbers rs rs ++ numbers (rs ++ qs) qs
+numbers-first e rs qs o i = numbers-append (rs ++ qs) rs qs ∙ ap (λ (l : List ℕ). l ++ numbers (rs ++ qs) qs) (numbers-before e rs rs qs o i)
 
 -- Rows by their numbers; `other` is the row that `getD` gives past the last
 

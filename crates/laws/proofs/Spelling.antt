@@ -27,7 +27,7 @@ take-front n bs s h =
     rw (fits, take-at bs s n h, drop-at bs s n h)
 
 -- a length that is no generic array
-length-plain : (k b : ℕ) (s : List ℕ) → (b ≡ 0x03 → ⊥) → length-expr k (b ∷ s) ≡ plain-length b s
+pub length-plain : (k b : ℕ) (s : List ℕ) → (b ≡ 0x03 → ⊥) → length-expr k (b ∷ s) ≡ plain-length b s
 unfolding length-expr
 length-plain zero b s h = rw (ne-eqb b 0x03 h)
 length-plain (suc k) b s h = rw (ne-eqb b 0x03 h)
@@ -36,16 +36,16 @@ plain-int : (n : ℕ) (s : List ℕ) → n < 64 → plain-length (0x80 + n) s �
 unfolding plain-length
 plain-int n s h = rw (le-ltb (0x80 + n) 0x80 (omega arith), lt-ltb (0x80 + n) 0xC0 (omega arith)) (ap (λ (x : ℕ). taken x s) (omega arith))
 
-plain-small : (ds s : List ℕ) → plain-length (0xC0 + length ds) (ds ++ s) ≡ taken (natural 0 ds) s
+pub plain-bytes : (n : ℕ) (s : List ℕ) → plain-length (0xC0 + n) s ≡ and-then (take-bytes n s) as-length
 unfolding plain-length
-plain-small ds s =
-    rw (
-      le-ltb (0xC0 + length ds) 0x80 (omega arith),
-      le-ltb (0xC0 + length ds) 0xC0 (omega arith),
-      take-front (0xC0 + length ds - 0xC0) ds s (omega arith),
-    )
+plain-bytes n s =
+    let count : 0xC0 + n - 0xC0 ≡ n = omega arith in
+    rw (le-ltb (0xC0 + n) 0x80 (omega arith), le-ltb (0xC0 + n) 0xC0 (omega arith), count)
 
-length-generic : (k : ℕ) (s : List ℕ) → length-expr (suc k) (0x03 ∷ s) ≡ and-then (and-then (length-expr k s) take-bytes) as-length
+plain-small : (ds s : List ℕ) → plain-length (0xC0 + length ds) (ds ++ s) ≡ taken (natural 0 ds) s
+plain-small ds s = rw (plain-bytes (length ds) (ds ++ s), take-front (length ds) ds s refl)
+
+pub length-generic : (k : ℕ) (s : List ℕ) → length-expr (suc k) (0x03 ∷ s) ≡ and-then (and-then (length-expr k s) take-bytes) as-length
 unfolding length-expr
 length-generic k s = refl
 
@@ -56,6 +56,33 @@ length-spelled (as-generic {k = j} ds x l q e) s =
     rw (e, q, append-assoc x ds s) (length-generic j (x ++ (ds ++ s)) ∙ rw (length-spelled l (ds ++ s), take-front (length ds) ds s refl))
 
 -- each atom by its first byte
+
+pub atom-small : (n : ℕ) (s : List ℕ) → read-atom (0xC0 + n) s ≡ and-then (take-bytes n s) as-array
+unfolding read-atom
+atom-small n s =
+    let b : ℕ = 0xC0 + n in
+    let count : b - 0xC0 ≡ n = omega arith in
+    rw (
+      ne-eqb b 0x00 (λ e. omega arith),
+      ne-eqb b 0x03 (λ e. omega arith),
+      le-ltb b 0x10 (omega arith),
+      le-ltb b 0x7F (omega arith),
+      le-ltb b 0x80 (omega arith),
+      le-ltb b 0xC0 (omega arith),
+      count,
+    )
+
+pub atom-generic : (s : List ℕ) → read-atom 0x03 s ≡ and-then (and-then (length-expr 7 s) take-bytes) as-array
+unfolding read-atom
+atom-generic s = refl
+
+pub atom-short : (m : ℕ) (s : List ℕ) → 16 ≤ m → m < 0x7F → read-atom m s ≡ name (m ∷ s) m s
+unfolding read-atom
+atom-short m s h l = rw (ne-eqb m 0x00 (λ e. omega arith), ne-eqb m 0x03 (λ e. omega arith), le-ltb m 0x10 h, lt-ltb m 0x7F l)
+
+pub atom-long : (s : List ℕ) → read-atom 0x7F s ≡ and-then (marker 0x7F s) (name (0x7F ∷ s))
+unfolding read-atom
+atom-long s = refl
 
 read-int : (v : ℕ) (s : List ℕ) → v < 64 → read-atom (0x80 + v) s ≡ taken (int v) s
 unfolding read-atom
@@ -73,33 +100,20 @@ read-int v s h =
     )
 
 read-small : (bs s : List ℕ) → read-atom (0xC0 + length bs) (bs ++ s) ≡ taken (array bs) s
-unfolding read-atom
-read-small bs s =
-    let b : ℕ = 0xC0 + length bs in
-    rw (
-      ne-eqb b 0x00 (λ e. omega arith),
-      ne-eqb b 0x03 (λ e. omega arith),
-      le-ltb b 0x10 (omega arith),
-      le-ltb b 0x7F (omega arith),
-      le-ltb b 0x80 (omega arith),
-      le-ltb b 0xC0 (omega arith),
-      take-front (b - 0xC0) bs s (omega arith),
-    )
+read-small bs s = rw (atom-small (length bs) (bs ++ s), take-front (length bs) bs s refl)
 
 read-generic : (x bs s : List ℕ) → SpellsLength 7 (length bs) x → read-atom 0x03 ((x ++ bs) ++ s) ≡ taken (array bs) s
-unfolding read-atom
-read-generic x bs s l = rw (append-assoc x bs s, length-spelled l (bs ++ s), take-front (length bs) bs s refl)
+read-generic x bs s l = rw (atom-generic ((x ++ bs) ++ s), append-assoc x bs s, length-spelled l (bs ++ s), take-front (length bs) bs s refl)
 
 -- bytes FF are added up
-marker-sum : (k m b : ℕ) (s : List ℕ) → b < 0xFF → marker m (replicate k 0xFF ++ (b ∷ s)) ≡ taken (m + k * 0xFF + b) s
+pub marker-sum : (k m b : ℕ) (s : List ℕ) → b < 0xFF → marker m (replicate k 0xFF ++ (b ∷ s)) ≡ taken (m + k * 0xFF + b) s
 unfolding marker
 marker-sum zero m b s h = rw (ne-eqb b 0xFF (λ e. omega arith)) (ap (λ (x : ℕ). taken x s) (omega arith))
 marker-sum (suc k) m b s h = marker-sum k (m + 0xFF) b s h ∙ ap (λ (x : ℕ). taken x s) (omega arith)
 
 read-short : (m n : ℕ) (s : List ℕ) → 16 ≤ m → m < 0x7F → read-atom m (n ∷ s) ≡ taken (ref m n) s
-unfolding read-atom name
-read-short m n s h l =
-    rw (ne-eqb m 0x00 (λ e. omega arith), ne-eqb m 0x03 (λ e. omega arith), le-ltb m 0x10 h, lt-ltb m 0x7F l, le-ltb 65535 m (omega arith))
+unfolding name
+read-short m n s h l = rw (atom-short m (n ∷ s) h l, le-ltb 65535 m (omega arith))
 
 read-long : (m n : ℕ) (s : List ℕ) → 0x7F ≤ m → m ≤ 65535
     → read-atom 0x7F (((replicate ((m - 0x7F) / 0xFF) 0xFF ++ (((m - 0x7F) % 0xFF) ∷ [])) ++ (n ∷ [])) ++ s) ≡ taken (ref m n) s

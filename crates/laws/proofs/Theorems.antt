@@ -5,7 +5,6 @@ use mathlib.Core.Path.{_≡_, refl, sym, ap, _∙_}
 use mathlib.Core.Logic.{_↔_}
 use mathlib.Core.List.{List, []}
 use lib.ListN.{length, take, drop, getD}
-use lib.Seq.{take-append-seam}
 use native.Mathlib.Omega.{arith}
 use native.Mathlib.Decide.{ℕ-discrete}
 use Rattle.spec.specs.Expr.{Exprs, size, first, rows-all, canonical}
@@ -18,7 +17,7 @@ use Rattle.laws.specs.Grammar.{SpellsAll, all-rows, WellFormed, item-rea
 use Rattle.laws.specs.Sanity.{Inside, FirstFrom, Proper}
 use Rattle.laws.proofs.Canonical.{canonical-append, canonical-bytes}
 use Rattle.laws.proofs.Tokens.{tokens-few, check-room}
-use Rattle.laws.proofs.Rows.{rows-ordered, rows-inside, ordered-starts, inside-start, next-row-first, numbers-fourth, numbers-length}
+use Rattle.laws.proofs.Rows.{rows-ordered, rows-inside, ordered-starts, inside-start, next-row-first, numbers-fourth}
 use Rattle.laws.proofs.Reading.{stream-laid, read-readable, read-refusal, read-refused, read-enough, meant, read-spelled, read-canonical}
 use Rattle.laws.proofs.Parsing.{read-spells}
 use Rattle.laws.proofs.Shortest.{all-shortest}
@@ -26,7 +25,7 @@ use Rattle.laws.proofs.Items.{spelled-rows, item-spelled, item-past}
 use Rattle.laws.proofs.Runs.{cut-more, cut-done}
 use Rattle.laws.proofs.Values.{not-rule, run-fits, run-proper}
 use Rattle.laws.proofs.Prefix.{run-first, result-split}
-use Rattle.laws.proofs.Calls.{put-out-bytes, rows-fit, filled-length, read-cases, not-read, refuses, accepts, answers-kept, answers-fit, answers-table, answers-counted, answers-place, write-answers, write-out, write-room, Written, written, bounded, Way, way, evaluation-answered, Why, no-version, other-version, stops, too-long, Evaluates, evaluation-answers, reading-fits, CutNumber, for-steps, for-work, for-rule, cut-refused, ran, ran-means, ran-ends, left-values, left-fits}
+use Rattle.laws.proofs.Calls.{put-out-bytes, rows-fit, filled-length, filled-numbers, read-cases, not-read, refuses, accepts, answers-kept, answers-fit, answers-table, answers-counted, answers-place, write-answers, write-out, write-room, Written, written, bounded, Way, way, evaluation-answered, Why, no-version, other-version, stops, too-long, Evaluates, evaluation-answers, reading-fits, CutNumber, for-steps, for-work, for-rule, cut-refused, ran, ran-means, ran-ends, left-values, left-fits}
 use Rattle.laws.proofs.Retry.{refusals-alike, put-out-alike, end-alike, same-end-alike, reads-same, evaluations-alike}
 use Rattle.laws.proofs.Count.{stepped, steps-stepped, way-enough, OutOfSteps, way-short, stopped-short, ran-all-steps}
 
@@ -264,12 +263,9 @@ read-contents s t t′ h = rw (reads-same s t t′ h) (go (reading s t))
     after : List ℕ → Reading → Answer
     after t x = once-read t [] (λ rs es. acceptance (length rs) 0 (filled rs t) []) x
 
-    rows-first : (rs : List Row) (t : List ℕ) → take (row-width * length rs) (filled rs t) ≡ numbers rs rs
-    rows-first rs t = rw (← numbers-length rs rs) (take-append-seam (numbers rs rs) (drop (length (numbers rs rs)) t))
-
     go : (x : Reading) → Alike (after t x) (after t′ x) × (row-numbers (after t x) ≡ row-numbers (after t′ x))
     go (refused w p) = (refusals-alike, refl)
-    go (readable rs es) = (record { number = refl; place = refl; given = refl; steps = refl; bytes = λ z. refl }, rows-first rs t ∙ sym (rows-first rs t′))
+    go (readable rs es) = (record { number = refl; place = refl; given = refl; steps = refl; bytes = λ z. refl }, filled-numbers rs t ∙ sym (filled-numbers rs t′))
 
 -- "The count is always the one that document 01 defines, never above the steps given."
 

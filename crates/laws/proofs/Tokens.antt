@@ -29,7 +29,7 @@ not-refused : (b : Bool) (w p : ℕ) (v : Verdict) → (if b then wrong w p else
 not-refused true w p v h = impossible (cc)
 not-refused false w p v h = (refl, h)
 
-closes-some : {room : ℕ} {ts : List Token} {q : ℕ} (d : ℕ) {n : ℕ} → (d ≡ 0 → ⊥) → Right room ts (d - 1) n → Right room (closing q ∷ ts) d n
+pub closes-some : {room : ℕ} {ts : List Token} {q : ℕ} (d : ℕ) {n : ℕ} → (d ≡ 0 → ⊥) → Right room ts (d - 1) n → Right room (closing q ∷ ts) d n
 closes-some zero some r = absurd (some refl)
 closes-some (suc d) some r = let back : suc d - 1 ≡ d = omega arith in closes (rw back at r)
 
@@ -214,6 +214,34 @@ check-room from room room′ (whole a q e ∷ ts) d n h k =
     rw (lt-leb room n (omega arith), lt-leb room′ n (omega arith), check-room from room room′ ts d (n + 1) (omega arith) (omega arith))
 check-room from room room′ (unfinished q ∷ ts) d n h k = refl
 check-room from room room′ (bad w q ∷ ts) d n h k = refl
+
+-- more rows change no verdict but 8
+abbrev NotEight : Verdict → Type 0
+NotEight right = Unit {0}
+NotEight (wrong w p) = w ≡ 8 → ⊥
+
+not-full : (b b′ : Bool) (q : ℕ) (v v′ z : Verdict) → NotEight z → (b ≡ false → b′ ≡ false) → (v ≡ z → v′ ≡ z) → (if b then wrong 8 q else v) ≡ z
+    → (if b′ then wrong 8 q else v′) ≡ z
+not-full true b′ q v v′ z other free same e = absurd ((rw (← e) at other) refl)
+not-full false b′ q v v′ z other free same e = rw (free refl) (same e)
+
+otherwise : (b : Bool) (x v v′ z : Verdict) → (v ≡ z → v′ ≡ z) → (if b then x else v) ≡ z → (if b then x else v′) ≡ z
+otherwise true x v v′ z same e = e
+otherwise false x v v′ z same e = same e
+
+module _ (room room′ : ℕ) (no-fewer : room ≤ room′) where
+  free : (n : ℕ) → leb room n ≡ false → leb room′ n ≡ false
+  free n e = let less = leb-false room n e in lt-leb room′ n (omega arith)
+
+  pub check-more : (from : ℕ) (ts : List Token) (d n : ℕ) (z : Verdict) → NotEight z → check from room ts d n ≡ z → check from room′ ts d n ≡ z
+  unfolding check
+  check-more from [] d n z other c = c
+  check-more from (opening p ∷ ts) d n z other c =
+      otherwise (leb 64 d) _ _ _ z (not-full (leb room n) (leb room′ n) p _ _ z other (free n) (check-more (began d from p) ts (d + 1) (n + 1) z other)) c
+  check-more from (closing p ∷ ts) d n z other c = otherwise (eqb d 0) _ _ _ z (check-more from ts (d - 1) n z other) c
+  check-more from (whole a p e ∷ ts) d n z other c = not-full (leb room n) (leb room′ n) p _ _ z other (free n) (check-more from ts d (n + 1) z other) c
+  check-more from (unfinished p ∷ ts) d n z other c = c
+  check-more from (bad w p ∷ ts) d n z other c = c
 
 -- at the top level it does not matter where the last form began
 pub check-top : (from from′ room : ℕ) (ts : List Token) (n : ℕ) → check from room ts 0 n ≡ check from′ room ts 0 n

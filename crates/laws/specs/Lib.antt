@@ -3,3 +3,4 @@ pub mod Backlogs
 pub mod Grammar
 pub mod Holding
 pub mod Sanity
+pub mod Parts

@@ -4,7 +4,7 @@ use mathlib.Core.Path.{_≡_, refl, sym, ap, _∙_}
 use mathlib.Core.List.{List, [], _∷_}
 use lib.ListN.{length, getD, set, drop}
 use lib.Seq.{set-comm, sets, sets-eq}
-use borrow.Author.Tests.{lt-leb, le-leb}
+use borrow.Author.Tests.{lt-leb}
 use native.Mathlib.Omega.{arith}
 use native.Mathlib.Nat.{zero-add}
 use native.Mathlib.Numerals.{add-one, towards-suc}
@@ -12,7 +12,7 @@ use Rattle.spec.specs.Reading.{Token, opening, closing, whole, unfinished, bad,
 use Rattle.spec.specs.Calls.{filled}
 use Rattle.laws.specs.Demands.{Bytes}
 use Rattle.laws.proofs.Tokens.{Right, right-end, right-opening, right-closing, right-whole, right-first, Laid}
-use Rattle.laws.proofs.Rows.{Ordered, rows-ordered, numbers-length}
+use Rattle.laws.proofs.Rows.{rows-ordered, next-row-here, numbers-length}
 use Rattle.laws.proofs.Reading.{stream-laid}
 use Rattle.reader.specs.Passes.{row-started, row-ended}
 
@@ -55,11 +55,6 @@ row-then t n kind start end next vs =
     let after : row-width * (n + 1) ≡ suc (suc (suc (suc (row-width * n)))) = omega arith in rw after (simp towards-suc)
 
 -- Next rows
-
-next-row-here : (e : ℕ) (rs : List Row) → Ordered e rs → next-row e rs ≡ 0
-unfolding next-row
-next-row-here e [] o = refl
-next-row-here e (r ∷ rs) o = rw (le-leb e (r .start) (o .0))
 
 next-row-past : (e n : ℕ) (r : Row) (rs : List Row) → r .start < e → n + next-row e (r ∷ rs) ≡ n + 1 + next-row e rs
 unfolding next-row
