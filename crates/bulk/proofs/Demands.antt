@@ -54,7 +54,7 @@ module _ {a : Answer} (x : Call a) where
   pub decided : x .answer ≡ given-by a
   decided = given-decided (x .answer) (x .table) (x .output) (x .told .numbered) ∙ ap given-by (x .told .is)
 
-  accepted-as : (n : ℕ) → x .answer ≡ Accepted n → acceptance n 0 (x .table) (x .output) ≡ a
+  pub accepted-as : (n : ℕ) → x .answer ≡ Accepted n → acceptance n 0 (x .table) (x .output) ≡ a
   accepted-as n h = rw h at (x .told .is)
 
 module _ {s : List ℕ} {l : Lent} (x : EvaluateCall s l) where
@@ -65,7 +65,7 @@ module _ {s : List ℕ} {l : Lent} (x : EvaluateCall s l) where
   result-as n k h = rw h at (x .told .is)
 
 -- the number 0, of an answer that is an acceptance
-is-zero : {a : Answer} (n k : ℕ) (t o : List ℕ) → acceptance n k t o ≡ a → a .number ≡ 0
+pub is-zero : {a : Answer} (n k : ℕ) (t o : List ℕ) → acceptance n k t o ≡ a → a .number ≡ 0
 is-zero n k t o e = ap (λ (a : Answer). a .number) (sym e)
 
 -- Demand 1: "Every public call ends and answers for all inputs, with buffers of all lengths": the contracts ask nothing of a caller. "Bad input

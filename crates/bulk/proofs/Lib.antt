@@ -5,3 +5,4 @@ pub mod Items
 pub mod Given
 pub mod Demands
 pub mod Backlogs
+pub mod Parts

@@ -1,18 +1,18 @@
 -- The words in which the demands are stated of the public calls. A call stands here as its contract has it: the code's answer, and table and
 -- output afterwards, that have answered as the definition does. Assumes nothing.
-use Prim.Native.Nat.{ℕ, _≤_, _<_}
+use Prim.Native.Nat.{ℕ, _+_, _*_, _≤_, _<_}
 use mathlib.Core.Path.{_≡_}
-use mathlib.Core.List.{List}
-use lib.ListN.{length, take}
+use mathlib.Core.List.{List, _++_}
+use lib.ListN.{length, take, drop}
 use denote.Ref.{RefT}
-use Rattle.spec.specs.Expr.{Exprs, size}
-use Rattle.spec.specs.Reading.{Row, refused, readable, read}
-use Rattle.spec.specs.Calls.{Answer, Item}
-use Rattle.laws.specs.Demands.{Begins, Lent, evaluation, bytes-of-first}
+use Rattle.spec.specs.Expr.{Exprs, append, size}
+use Rattle.spec.specs.Reading.{Row, row-width, refused, readable, read}
+use Rattle.spec.specs.Calls.{Answer, Read, Item}
+use Rattle.laws.specs.Demands.{Begins, Lent, evaluation, meaning-of, bytes-of-first}
 use Rattle.laws.specs.Backlogs.{Night, backlog, stream-at, left-by-lengths, said-of}
 use Rattle.bulk.specs.Answers.{Answered, AnsweredEvaluation, AnsweredBacklog, asked, PartItself}
 use Rattle.bulk.specs.declared.Answer.{Answer as Given}
-use Rattle.bulk.specs.declared.Answer.the-variants.{Accepted}
+use Rattle.bulk.specs.declared.Answer.the-variants.{Accepted, Refused}
 use Rattle.bulk.specs.declared.Buffer.{Buffer as Which}
 use Rattle.bulk.specs.declared.Evaluation.{Evaluation}
 use Rattle.bulk.specs.declared.Evaluation.the-variants.{Accepted as Result, Refused as Refusal}
@@ -62,6 +62,26 @@ module _ {n : Night} (x : InBacklog n) where
   -- what the call says of it
   abbrev pub said-in : Answer
   said-in = said-by (x .call) (x .i)
+
+-- "it is refused by 2 at p alone or it can be read": an answer to a stream that is not wrong so far
+abbrev pub ReadOrUnfinished : Given → Type 0
+ReadOrUnfinished (Accepted given) = Unit {0}
+ReadOrUnfinished (Refused number place) = number ≡ 2
+
+-- how many bytes of a stream its caller may pass on after that answer
+abbrev pub passes-on : List ℕ → Given → ℕ
+passes-on s (Accepted given) = length s
+passes-on s (Refused number place) = place
+
+-- what was accepted in one call with n rows, read in two: the first p bytes of s; and its others, with the bytes that follow
+pub record ReadInTurn (s next table : List ℕ) (x : Call (Read (s ++ next) table)) (n p : ℕ) : Type 0 where
+  pub first : ℕ
+  pub others : ℕ
+  pub counts : n ≡ first + others
+  pub front : (y : Call (Read (take p s) table))
+      → (y .answer ≡ Accepted first) × (take (row-width * first) (y .table) ≡ take (row-width * first) (x .table))
+  pub back : (z : Call (Read (drop p s ++ next) table)) → z .answer ≡ Accepted others
+  pub means : meaning-of (s ++ next) ≡ append (meaning-of (take p s)) (meaning-of (drop p s ++ next))
 
 -- a call of `item` with two lent buffers, and the part that it gave
 pub record ItemCall (stream result : RefT (List ℕ)) (which : Which) (k : ℕ) : Type 0 where

@@ -1,0 +1,76 @@
+-- Document 02, §4, as theorems about what `read` answers and leaves in the table. Above each stands what was asked for, and what it says for a
+-- caller. They follow from the theorems over the definitions (`Parts` of the crate `laws`). Assumes nothing.
+use Prim.Native.Nat.{ℕ, _+_, _*_, _≤_}
+use mathlib.Core.Path.{_≡_, refl, sym, ap, _∙_}
+use mathlib.Core.Logic.{_⊎_, inl, inr}
+use mathlib.Core.List.{List, _++_}
+use lib.ListN.{length, take, drop}
+use lib.Seq.{length-take-le, take-take, take-at}
+use native.Mathlib.Omega.{arith}
+use Rattle.spec.specs.Reading.{row-width}
+use Rattle.spec.specs.Calls.{Answer, Read}
+use Rattle.laws.specs.Demands.{Bytes, row-numbers}
+use Rattle.laws.specs.Parts.{LongestFront, passed-on, InTwoParts}
+use Rattle.laws.proofs.Theorems.{read-fits, read-keeps}
+use Rattle.laws.proofs.Parts as laws
+use Rattle.bulk.specs.Promises.{Call, ReadOrUnfinished, passes-on, ReadInTurn}
+use Rattle.bulk.specs.declared.Answer.the-variants.{Accepted, Refused}
+use Rattle.bulk.proofs.Demands.{decided, accepted-as, is-zero}
+
+module _ (s t : List ℕ) (x : Call (Read s t)) where
+  -- a call whose definition accepts
+  accepts : Read s t .number ≡ 0 → x .answer ≡ Accepted (Read s t .given)
+  accepts zero = decided x ∙ rw zero
+
+  -- its rows
+  rows-read : (n : ℕ) → x .answer ≡ Accepted n → take (row-width * n) (x .table) ≡ row-numbers (Read s t)
+  rows-read n h = ap row-numbers (accepted-as x n h)
+
+-- "if a stream is refused by 2 at p, then its first p bytes alone can be read [..], and they are whole top-level expressions": a caller that is told 2
+-- at p can pass on the bytes before p, and no more of them.
+pub read-held : (s t : List ℕ) → Bytes s → (x : Call (Read s t)) (p : ℕ) → x .answer ≡ Refused 2 p
+    → LongestFront s t p × ((y : Call (Read (take p s) t)) → y .answer ≡ Accepted (Read (take p s) t .given))
+read-held s t b x p h =
+    let is = rw h at (x .told .is) in
+    let front = rw (← ap (λ (a : Answer). a .place) is) at (laws.held s t b (ap (λ (a : Answer). a .number) (sym is))) in
+    (front, λ y. accepts (take p s) t y (front .accepted))
+
+-- an answer by the definition's number
+answered-so : (s : List ℕ) {a : Answer} (y : Call a) → (a .number ≡ 0) ⊎ (a .number ≡ 2) → ReadOrUnfinished (y .answer) × (passes-on s (y .answer) ≡ passed-on s a)
+answered-so s y (inl zero) = rw (decided y, zero) (tt, refl)
+answered-so s y (inr two) = rw (decided y, two) (refl, refl)
+
+-- "and for every stream, if it can be read when some bytes are added, then it is refused by 2 at p alone or it can be read, and what is before p is
+-- read as before (the same rows and the same meaning come first)": a caller that has only s is told to wait, by 2, or not; what it may pass on then is
+-- accepted, and fills the table as the first rows of the whole; and the rest, joined with what follows, is accepted too.
+module _ (s next t : List ℕ) (stream : Bytes (s ++ next)) (x : Call (Read (s ++ next) t)) (n : ℕ) (accepted : x .answer ≡ Accepted n) where
+  whole : Read (s ++ next) t .number ≡ 0
+  whole = is-zero n 0 (x .table) (x .output) (accepted-as x n accepted)
+
+  same-rows : (p : ℕ) → InTwoParts s next t p → (y : Call (Read (take p s) t))
+      → take (row-width * Read (take p s) t .given) (y .table) ≡ take (row-width * Read (take p s) t .given) (x .table)
+  same-rows p two y =
+      let a : Answer = Read (take p s) t in
+      let k : ℕ = row-width * a .given in
+      let size : length (row-numbers a) ≡ k = length-take-le k (a .table) (omega (arith, read-fits (take p s) t, read-keeps (take p s) t .tables)) in
+      let count : n ≡ Read (s ++ next) t .given = ap (λ (b : Answer). b .given) (accepted-as x n accepted) in
+      rows-read (take p s) t y (a .given) (accepts (take p s) t y (two .front))
+      ∙ sym (take-at (row-numbers a) (two .rows .back) k size)
+      ∙ ap (take k) (sym (rows-read (s ++ next) t x n accepted ∙ two .rows .is))
+      ∙ take-take k (row-width * n) (x .table) (omega (arith, two .counts))
+
+  read-on : (p : ℕ) → InTwoParts s next t p → ReadInTurn s next t x n p
+  read-on p two = record {
+    first = Read (take p s) t .given;
+    others = Read (drop p s ++ next) t .given;
+    counts = ap (λ (a : Answer). a .given) (accepted-as x n accepted) ∙ two .counts;
+    front = λ y. (accepts (take p s) t y (two .front), same-rows p two y);
+    back = λ z. accepts (drop p s ++ next) t z (two .back);
+    means = two .means;
+  }
+
+  pub read-continued : (y : Call (Read s t)) → ReadOrUnfinished (y .answer) × ReadInTurn s next t x n (passes-on s (y .answer))
+  read-continued y =
+      let c = laws.continued s next t stream whole in
+      let a = answered-so s y (c .0) in
+      (a .0, rw (a .1) (read-on (passed-on s (Read s t)) (c .1)))
