@@ -103,11 +103,13 @@ pub fn read(stream: &[u8], rows: u64) -> Result<Vec<Expression<'_>>, Refusal> {
     let mut reader = Reader {
         stream,
         at: 0,
+        top_level: 0,
         open: 0,
         rows_left: rows,
     };
     let mut list = Vec::new();
     while reader.at < stream.len() {
+        reader.top_level = reader.at;
         list.push(reader.expression()?);
     }
     Ok(list)
@@ -133,6 +135,8 @@ fn add_rows(list: &[Expression], rows: &mut Vec<[usize; 4]>) {
 struct Reader<'a> {
     stream: &'a [u8],
     at: usize,
+    /// Where the top-level expression begins that is being read.
+    top_level: usize,
     open: usize,
     rows_left: u64,
 }
@@ -239,7 +243,7 @@ impl<'a> Reader<'a> {
     fn peek(&self) -> Result<u8, Refusal> {
         match self.stream.get(self.at) {
             Some(byte) => Ok(*byte),
-            None => refuse(2, self.stream.len()),
+            None => self.unfinished(),
         }
     }
 
@@ -252,10 +256,16 @@ impl<'a> Reader<'a> {
     fn bytes(&mut self, count: u64) -> Result<&'a [u8], Refusal> {
         let rest = &self.stream[self.at..];
         if count > rest.len() as u64 {
-            return refuse(2, self.stream.len());
+            return self.unfinished();
         }
         self.at += count as usize;
         Ok(&rest[..count as usize])
+    }
+
+    /// "Refusal 2 should give the first byte of the unfinished top-level expression"
+    /// (document 02, §4).
+    fn unfinished<T>(&self) -> Result<T, Refusal> {
+        refuse(2, self.top_level)
     }
 }
 
