@@ -277,7 +277,7 @@ fn full_of_forms() -> Vec<Limit> {
         of(&in_form, "ok 17888 23835"),
         of(&concat(&[0xC0], &[0xC0]), "ok 10936 32767"),
         large(full(&opened, &[0x00], &[0x02]), "refused 17 65533"),
-        large(full(&opened, &[0x00], &[]), "refused 2 65536"),
+        large(full(&opened, &[0x00], &[]), "refused 2 14"),
     ]
 }
 

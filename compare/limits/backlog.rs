@@ -62,8 +62,8 @@ fn ends() -> Vec<Request> {
         accepted(parted(&[0, 23, 29]), "9 0 0 0 0 0 15 8 0 0 6 4", both),
         accepted(parted(&[23, 23, 29]), "0 0 15 8 9 0 0 0 0 0 6 4", both),
         accepted(parted(&[23, 29, 29]), "0 0 15 8 0 0 6 4 9 0 0 0", both),
-        accepted(parted(&[22, 29]), "2 22 0 0 2 7 0 0", ""),
-        accepted(parted(&[24, 29]), "2 24 0 0 3 4 0 0", ""),
+        accepted(parted(&[22, 29]), "2 21 0 0 2 0 0 0", ""),
+        accepted(parted(&[24, 29]), "2 23 0 0 3 4 0 0", ""),
     ];
     let wrong: [&[u64]; 11] = [
         &[],
@@ -254,7 +254,7 @@ fn refused_streams() -> Vec<(Vec<u8>, &'static str)> {
     let namespaces: Vec<u8> = (0..65).flat_map(|k| ns(MARKER + k, &[k])).collect();
     vec![
         (vec![0x00; STREAM_LIMIT + 1], "1 0"),
-        (spelled("V ("), "2 7"),
+        (spelled("V ("), "2 6"),
         (spelled("V )"), "3 6"),
         (spelled("V 04"), "4 6"),
         (spelled("V 03 00"), "5 7"),
