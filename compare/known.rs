@@ -1,4 +1,5 @@
-//! Document 01's "Streams to try", and requests for each and for all at once.
+//! Document 01's "Streams to try", and requests for each, for each cut off at every byte, and
+//! for all at once.
 
 use crate::backlogs::Backlog;
 use crate::bounds::{self, Bounds};
@@ -22,6 +23,7 @@ pub fn requests() -> Vec<Request> {
     for stream in &streams {
         add_requests(stream, &mut lines);
         add_evaluations(&mut lines, |bounds| evaluate_line(stream, bounds));
+        add_cut_off(stream, &mut lines);
     }
     add_evaluations(&mut lines, |bounds| Backlog::new(&streams, bounds).line());
     lines.into_iter().map(Request::new).collect()
@@ -59,6 +61,18 @@ fn add_requests(stream: &[u8], lines: &mut Vec<Vec<u8>>) {
         lines.push(item_line(stream, &[], false, k));
         lines.push(item_line(&[0x02], stream, true, k));
     }
+}
+
+/// At every byte, each alone and all as one backlog.
+fn add_cut_off(stream: &[u8], lines: &mut Vec<Vec<u8>>) {
+    let cut_off = |end| stream[..end].to_vec();
+    let streams: Vec<Vec<u8>> = (0..stream.len()).map(cut_off).collect();
+    for stream in &streams {
+        lines.push(read_line(stream, LARGE));
+        lines.push(write_line(stream, LARGE, LARGE));
+        lines.push(evaluate_line(stream, bounds::LARGE));
+    }
+    lines.push(Backlog::new(&streams, bounds::LARGE).line());
 }
 
 pub fn known_streams() -> Vec<Vec<u8>> {

@@ -1,8 +1,9 @@
-//! Evaluations at the limits, each with the answer that document 01 gives. Of a result that
-//! is accepted, its length and the steps are stated.
+//! Evaluations at the limits, each with the answer that documents 01 and 02 give. Of a result
+//! that is accepted, its length and the steps are stated.
 
 pub mod backlog;
 mod bytecode;
+mod cut;
 
 use crate::bounds::{self, Bounds};
 use crate::pieces::{
@@ -27,6 +28,7 @@ pub fn requests() -> Vec<Request> {
     };
     let mut requests: Vec<Request> = limits().into_iter().map(request).collect();
     requests.extend(backlog::requests());
+    requests.extend(cut::requests());
     requests
 }
 
@@ -40,6 +42,7 @@ pub fn limits() -> Vec<Limit> {
     all.extend(exponential_calls());
     all.extend(full_streams());
     all.extend(bytecode::limits());
+    all.extend(cut::limits());
     all
 }
 

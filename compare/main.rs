@@ -8,6 +8,7 @@ mod arguments;
 mod backlogs;
 mod bounds;
 mod bytecode_times;
+mod cuts;
 mod evaluations;
 mod known;
 mod limits;
@@ -76,12 +77,13 @@ fn print_requests(options: &Options) -> ExitCode {
     }
 }
 
-/// With no second program at hand, streams are evaluated with large bounds.
+/// With no second program at hand, streams are evaluated with large bounds, and none is cut.
 fn whole(draft: Draft) -> Request {
     match draft {
         Draft::Request(request) => request,
         Draft::Evaluation(stream) => Request::new(evaluate_line(&stream, bounds::LARGE)),
         Draft::Backlog(streams) => Request::new(Backlog::new(&streams, backlogs::LARGE).line()),
+        Draft::Cut(stream) => cuts::rows_request(&stream),
     }
 }
 
@@ -93,7 +95,7 @@ fn compare(options: &Options, report: &mut Report) -> io::Result<()> {
         check_too_long(&options.paths[0], report)?;
     }
     report.tally.print();
-    report.check_answers_arisen(options.single.is_some());
+    report.check_all_arisen(options.single.is_some());
     Ok(())
 }
 
@@ -197,23 +199,26 @@ fn all_requests(options: &Options) -> io::Result<Vec<Request>> {
     Ok(all)
 }
 
-/// The second program is asked what each stream to evaluate needs.
+/// The second program is asked what each stream to evaluate needs, and for the rows of those
+/// to cut off.
 fn with_bounds(drafts: Vec<Draft>, options: &Options) -> io::Result<Vec<Request>> {
-    let streams = drafts.iter().flat_map(Draft::streams);
-    let asked = streams.map(|stream| bounds::needs_request(stream));
+    let asked = drafts.iter().flat_map(Draft::asked);
     let mut second = start(&options.paths[1], &Arc::new(asked.collect()))?;
-    let mut needs = || bounds::needs(&second.next_answer().unwrap_or_default());
+    let mut answer = || second.next_answer().unwrap_or_default();
     let mut random = Random::new(options.seed);
     let expanded = drafts.into_iter().flat_map(|draft| match draft {
         Draft::Request(request) => vec![request],
-        Draft::Evaluation(stream) => bounds::requests(&mut random, &stream, needs()),
+        Draft::Evaluation(stream) => {
+            bounds::requests(&mut random, &stream, bounds::needs(&answer()))
+        }
         Draft::Backlog(streams) => {
             let message = |stream| Message {
                 stream,
-                needs: needs(),
+                needs: bounds::needs(&answer()),
             };
             backlogs::requests(&mut random, streams.into_iter().map(message).collect())
         }
+        Draft::Cut(stream) => cuts::requests(&mut random, &stream, &answer()),
     });
     Ok(expanded.collect())
 }

@@ -27,6 +27,7 @@ impl Report {
 
     pub fn compare_answers(&mut self, request: &Request, first: &[u8], second: &[u8]) {
         self.tally.count(&request.line, first);
+        self.tally.count_cuts(request);
         if first != second {
             self.differ(&request.line, first, second);
         } else if !request.allows(first) {
@@ -69,12 +70,10 @@ impl Report {
         }
     }
 
-    pub fn check_answers_arisen(&mut self, single: bool) {
+    pub fn check_all_arisen(&mut self, single: bool) {
         let (missing, arisen) = self.tally.missing(single);
         self.passed += arisen;
-        for (call, answer) in missing {
-            self.fail(&format!("{call}: no answer was `{answer}`"));
-        }
+        missing.iter().for_each(|what| self.fail(what));
     }
 
     pub fn check_end(&mut self, path: &str, mut program: Program, requests: usize) {

@@ -2,11 +2,11 @@
 
 use crate::backlogs;
 use crate::bounds::{self, Bounds};
+use crate::cuts;
 use crate::evaluations::{random_evaluation, with_version};
 use crate::random::Random;
 use crate::streams::{huge_stream, huge_streams, random_stream, Stream};
 use std::borrow::Cow;
-use std::slice;
 
 pub const LARGE_NUMBERS: [u64; 7] = [
     16_384,
@@ -34,12 +34,16 @@ const MALFORMED_WORDS: [&str; 24] = [
 
 /// One random draft in so many is a backlog.
 const BACKLOG_RATE: usize = 40;
+/// And one in so many is a stream that is cut off.
+const CUT_RATE: usize = 40;
 
 /// A request line, and with what words its answer must begin, whatever the second program
 /// answers.
 pub struct Request {
     pub line: Vec<u8>,
     pub expected: Option<Cow<'static, str>>,
+    /// Where its streams are cut off, for the tally.
+    pub cuts: Vec<&'static str>,
 }
 
 impl Request {
@@ -47,13 +51,14 @@ impl Request {
         Request {
             line,
             expected: None,
+            cuts: Vec::new(),
         }
     }
 
     pub fn expecting(line: Vec<u8>, expected: impl Into<Cow<'static, str>>) -> Request {
         Request {
-            line,
             expected: Some(expected.into()),
+            ..Request::new(line)
         }
     }
 
@@ -66,20 +71,24 @@ impl Request {
     }
 }
 
-/// A random request, or a stream or several to evaluate, whose bounds wait for what they
-/// need.
+/// A random request; or a stream or several to evaluate, whose bounds wait for what they
+/// need; or a stream to cut off, whose parts' answers wait for its rows.
 pub enum Draft {
     Request(Request),
     Evaluation(Vec<u8>),
     Backlog(Vec<Vec<u8>>),
+    Cut(Vec<u8>),
 }
 
 impl Draft {
-    pub fn streams(&self) -> &[Vec<u8>] {
+    /// What the second program is asked for it.
+    pub fn asked(&self) -> Vec<Request> {
+        let needs = |stream: &Vec<u8>| bounds::needs_request(stream);
         match self {
-            Draft::Request(_) => &[],
-            Draft::Evaluation(stream) => slice::from_ref(stream),
-            Draft::Backlog(streams) => streams,
+            Draft::Request(_) => Vec::new(),
+            Draft::Evaluation(stream) => vec![needs(stream)],
+            Draft::Backlog(streams) => streams.iter().map(needs).collect(),
+            Draft::Cut(stream) => vec![cuts::rows_request(stream)],
         }
     }
 }
@@ -149,7 +158,7 @@ pub fn huge_requests() -> Vec<Request> {
 }
 
 /// So many requests and streams to evaluate, about as many of these as of those, and a few
-/// backlogs; the same ones for the same seed.
+/// backlogs and streams to cut off; the same ones for the same seed.
 pub fn random_drafts(seed: u64, count: usize) -> Vec<Draft> {
     let mut random = Random::new(seed);
     (0..count).map(|_| random_draft(&mut random)).collect()
@@ -158,6 +167,9 @@ pub fn random_drafts(seed: u64, count: usize) -> Vec<Draft> {
 fn random_draft(random: &mut Random) -> Draft {
     if random.one_in(BACKLOG_RATE) {
         return Draft::Backlog(backlogs::random_streams(random));
+    }
+    if random.one_in(CUT_RATE) {
+        return Draft::Cut(cuts::random_whole(random));
     }
     let huge = random.one_in(2_000);
     match random.one_in(2) {

@@ -94,7 +94,7 @@ fn guessed(bytes: Vec<u8>) -> Stream {
     }
 }
 
-fn valid(random: &mut Random) -> Stream {
+pub fn valid(random: &mut Random) -> Stream {
     let mut maker = Maker::new(random);
     let count = maker.random.below(7);
     maker.items(count);
@@ -150,7 +150,7 @@ fn raw(random: &mut Random) -> Stream {
 }
 
 /// A few ordinary items, one at some limit, and a few more; sometimes the end is cut off.
-fn at_a_limit(random: &mut Random) -> Stream {
+pub fn at_a_limit(random: &mut Random) -> Stream {
     let mut maker = Maker::new(random);
     let before = maker.random.below(3);
     maker.items(before);

@@ -1,7 +1,10 @@
-//! How often each answer came, and whether every answer that can arise did.
+//! How often each answer came and where streams were cut off, and whether every answer that
+//! can arise did, and every kind of place.
 
+use crate::cuts;
+use crate::requests::Request;
 use crate::single::{EVAL, LIST, WRITE};
-use std::collections::BTreeMap;
+use std::collections::{BTreeMap, BTreeSet};
 
 /// A line that is no request, whatever it begins with.
 const NO_REQUEST: &str = "no request";
@@ -67,13 +70,58 @@ fn expected(single: bool) -> Vec<(String, String)> {
     all.filter(|(call, _)| compared(call)).collect()
 }
 
-/// Counts by call and answer.
+/// Counts by call and by what came of it.
+#[derive(Default)]
+struct Counts(BTreeMap<(String, String), usize>);
+
+impl Counts {
+    fn add(&mut self, call: String, what: String) {
+        *self.0.entry((call, what)).or_insert(0) += 1;
+    }
+
+    fn times(&self, call: &str, what: &str) -> usize {
+        let key = (call.to_string(), what.to_string());
+        self.0.get(&key).copied().unwrap_or(0)
+    }
+
+    /// A table, if there is any: a line for each that came, and a column for each call.
+    fn print(&self, title: &str, order: fn(&str) -> usize) {
+        let mut calls: Vec<&str> = self.0.keys().map(|key| key.0.as_str()).collect();
+        calls.dedup();
+        let lines: BTreeSet<&str> = self.0.keys().map(|key| key.1.as_str()).collect();
+        let mut lines: Vec<&str> = lines.into_iter().collect();
+        lines.sort_by_key(|line| order(line));
+        let Some(longest) = lines.iter().map(|line| line.len()).max() else {
+            return;
+        };
+        let width = longest + 2;
+        print!("{title:<width$}");
+        calls.iter().for_each(|call| print!("{call:>12}"));
+        println!();
+        for line in lines {
+            print!("{line:<width$}");
+            for call in &calls {
+                print!("{:>12}", self.times(call, line));
+            }
+            println!();
+        }
+    }
+}
+
 #[derive(Default)]
 pub struct Tally {
-    counts: BTreeMap<(String, String), usize>,
+    answers: Counts,
+    cuts: Counts,
 }
 
 impl Tally {
+    pub fn count_cuts(&mut self, request: &Request) {
+        for cut in &request.cuts {
+            let call = call_class(&request.line);
+            self.cuts.add(call, cut.to_string());
+        }
+    }
+
     pub fn count(&mut self, request: &[u8], answer: &[u8]) {
         let class = answer_class(answer);
         let call = match class.as_str() {
@@ -83,7 +131,7 @@ impl Tally {
         if call == "backlog" && class == "ok" {
             self.count_streams(answer);
         }
-        self.add(call, class);
+        self.answers.add(call, class);
     }
 
     /// By the first of each stream's four numbers.
@@ -97,57 +145,44 @@ impl Tally {
                 b"0" => "ok".to_string(),
                 _ => format!("refused {}", String::from_utf8_lossy(number)),
             };
-            self.add(IN_BACKLOG.to_string(), class);
+            self.answers.add(IN_BACKLOG.to_string(), class);
         }
     }
 
-    fn add(&mut self, call: String, answer: String) {
-        *self.counts.entry((call, answer)).or_insert(0) += 1;
-    }
-
-    fn times(&self, call: &str, answer: &str) -> usize {
-        let key = (call.to_string(), answer.to_string());
-        self.counts.get(&key).copied().unwrap_or(0)
-    }
-
-    /// One check for each call and answer that can arise; gives those that never did,
-    /// and how many did.
-    pub fn missing(&self, single: bool) -> (Vec<(String, String)>, usize) {
-        let expected = expected(single);
-        let all = expected.len();
-        let missing: Vec<(String, String)> = expected
-            .into_iter()
-            .filter(|(call, answer)| self.times(call, answer) == 0)
+    /// One check for each call and answer that can arise, and for each and kind of place;
+    /// tells those that never did, and how many did.
+    pub fn missing(&self, single: bool) -> (Vec<String>, usize) {
+        let answer = |(call, answer): (String, String)| {
+            let text = format!("{call}: no answer was `{answer}`");
+            (self.answers.times(&call, &answer), text)
+        };
+        let cut = |(call, cut): (&str, &str)| {
+            let text = format!("{call}: no stream was cut off {cut}");
+            (self.cuts.times(call, cut), text)
+        };
+        let answers = expected(single).into_iter().map(answer);
+        let all: Vec<(usize, String)> = answers
+            .chain(cuts::expected().into_iter().map(cut))
             .collect();
-        let arisen = all - missing.len();
+        let count = all.len();
+        let never = all.into_iter().filter(|(times, _)| *times == 0);
+        let missing: Vec<String> = never.map(|(_, text)| text).collect();
+        let arisen = count - missing.len();
         (missing, arisen)
     }
 
-    /// A table: a line for each answer, a column for each call.
     pub fn print(&self) {
-        let mut calls: Vec<&str> = self.counts.keys().map(|key| key.0.as_str()).collect();
-        calls.dedup();
-        let mut answers: Vec<&str> = self.counts.keys().map(|key| key.1.as_str()).collect();
-        answers.sort_by_key(|answer| answer_order(answer));
-        answers.dedup();
-        print!("{:<12}", "answer");
-        calls.iter().for_each(|call| print!("{call:>12}"));
-        println!();
-        for answer in answers {
-            print!("{answer:<12}");
-            for call in &calls {
-                print!("{:>12}", self.times(call, answer));
-            }
-            println!();
-        }
+        self.answers.print("answer", answer_order);
+        self.cuts.print("cut off", cuts::order);
     }
 }
 
 /// Refusals in the order of their numbers.
-fn answer_order(answer: &str) -> (usize, usize, &str) {
+fn answer_order(answer: &str) -> usize {
     match answer.strip_prefix("refused ") {
-        Some(number) => (1, number.parse().unwrap_or(usize::MAX), answer),
-        None => (if answer == "ok" { 0 } else { 2 }, 0, answer),
+        Some(number) => number.parse().unwrap_or(usize::MAX),
+        None if answer == "ok" => 0,
+        None => usize::MAX,
     }
 }
 
