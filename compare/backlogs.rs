@@ -149,11 +149,18 @@ fn several(random: &mut Random) -> Vec<Vec<u8>> {
 }
 
 fn random_message(random: &mut Random) -> Vec<u8> {
-    match random.below(12) {
+    match random.below(14) {
         0 => Vec::new(),
         1 => VERSION.to_vec(),
+        2 | 3 => cut_off(random),
         _ => random_evaluation(random),
     }
+}
+
+fn cut_off(random: &mut Random) -> Vec<u8> {
+    let mut stream = random_evaluation(random);
+    stream.truncate(random.below(stream.len() + 1));
+    stream
 }
 
 fn with_huge(random: &mut Random) -> Vec<Vec<u8>> {

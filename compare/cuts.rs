@@ -27,11 +27,10 @@ const VERSION_ROWS: &[u8] = b"ok 4 1 0 6 4 4 1 3 2 3 3 4 3 3 4 5 4";
 /// In a backlog.
 const VERSION_ANSWER: &str = "0 0 6 4";
 
-const CALLS: [&str; 6] = ["read", "write", "evaluate", "backlog", "item 0", "item 1"];
-
 /// Every call with what must be seen of it. No table is lent for an item.
 pub fn expected() -> Vec<(&'static str, &'static str)> {
-    let places = CALLS.map(|call| parts::LABELS.map(|label| (call, label)));
+    let calls = ["read", "write", "evaluate", "backlog", "item"];
+    let places = calls.map(|call| parts::LABELS.map(|label| (call, label)));
     let short = ["read", "write", "evaluate", "backlog"].map(|call| (call, A_ROW_SHORT));
     let queue = [JOINED, HELD_BACK_AGAIN].map(|label| ("read", label));
     [&places.concat()[..], &short, &queue].concat()

@@ -35,7 +35,7 @@ const MALFORMED_WORDS: [&str; 24] = [
 /// One random draft in so many is a backlog.
 const BACKLOG_RATE: usize = 40;
 /// And one in so many is a stream that is cut off.
-const CUT_RATE: usize = 40;
+const CUT_RATE: usize = 30;
 
 /// A request line, and with what words its answer must begin, whatever the second program
 /// answers.

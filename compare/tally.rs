@@ -117,8 +117,7 @@ pub struct Tally {
 impl Tally {
     pub fn count_cuts(&mut self, request: &Request) {
         for cut in &request.cuts {
-            let call = call_class(&request.line);
-            self.cuts.add(call, cut.to_string());
+            self.cuts.add(call(&request.line), cut.to_string());
         }
     }
 
@@ -157,7 +156,7 @@ impl Tally {
             (self.answers.times(&call, &answer), text)
         };
         let cut = |(call, cut): (&str, &str)| {
-            let text = format!("{call}: no stream was cut off {cut}");
+            let text = format!("{call}: no stream cut off was `{cut}`");
             (self.cuts.times(call, cut), text)
         };
         let answers = expected(single).into_iter().map(answer);
@@ -201,13 +200,17 @@ fn answer_class(answer: &[u8]) -> String {
     }
 }
 
-/// The first word of a request; for an item, the buffer asked for as well.
+/// The call; for an item, with the buffer asked for.
 fn call_class(request: &[u8]) -> String {
     let words: Vec<&[u8]> = request.split(|byte| *byte == b' ').collect();
-    let text = |word: &[u8]| String::from_utf8_lossy(word).into_owned();
     match words[..] {
-        [b"item", _, _, which, ..] => format!("item {}", text(which)),
-        [call, ..] => text(call),
-        [] => String::new(),
+        [b"item", _, _, which, ..] => format!("item {}", String::from_utf8_lossy(which)),
+        _ => call(request),
     }
+}
+
+/// The first word of a request.
+fn call(request: &[u8]) -> String {
+    let word = request.split(|byte| *byte == b' ').next();
+    String::from_utf8_lossy(word.unwrap_or_default()).into_owned()
 }
