@@ -17,7 +17,7 @@ use parts::{Cut, Part, Whole};
 use std::collections::BTreeMap;
 use std::fmt::Write;
 
-/// So that 8 comes before 2.
+/// So that 8 comes where 2 would have been next.
 const A_ROW_SHORT: &str = "a row short";
 const JOINED: &str = "joined with what was held back";
 const HELD_BACK_AGAIN: &str = "held back again";
@@ -168,7 +168,8 @@ fn refused((number, place): (u8, usize)) -> String {
 /// What is seen of a part up to the cut, with so many rows.
 fn labels(part: &Part, rows: usize, cut: &Cut) -> Vec<&'static str> {
     match part.refusal(rows) {
-        Some((8, _)) => vec![A_ROW_SHORT],
+        Some((8, _)) if part.is_unfinished() && rows + 1 == part.rows() => vec![A_ROW_SHORT],
+        Some((8, _)) => Vec::new(),
         _ => cut.labels().to_vec(),
     }
 }
@@ -193,8 +194,8 @@ fn backlog(random: &mut Random, whole: &Whole, cuts: &Cuts) -> Request {
     let cuts = cuts.several(random, 4);
     let mut parts: Vec<Part> = cuts.iter().map(|cut| whole.part(0, cut)).collect();
     let rows = match random.below(3) {
-        0 => whole.part(0, cuts[0]).rows(),
-        1 => whole.part(0, cuts[0]).rows().saturating_sub(1),
+        0 => parts[0].rows(),
+        1 => parts[0].rows().saturating_sub(1),
         _ => backlogs::LARGE.table as usize / 4,
     };
     let seen = parts.iter().zip(&cuts);

@@ -1,8 +1,9 @@
 //! The comparison program: feeds the same requests to two programs and compares their
 //! answers line by line; and runs further programs, each on one stream at a time, and
 //! holds what they print against answers of the second. It knows how to make requests and
-//! how an answer is printed, but no expected answer: except those at the limits, and which
-//! bound stops an evaluation that is given less than it needs.
+//! how an answer is printed, but no expected answer: except those at the limits, which bound
+//! stops an evaluation that is given less than it needs, and what a part of a stream gets
+//! whose rows are known.
 
 mod arguments;
 mod backlogs;

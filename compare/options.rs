@@ -8,8 +8,9 @@ pub const USAGE: &str = "usage: compare FIRST SECOND [FILE-OR-FOLDER ..] [--sing
        compare --print-random [--seed N] [--count N]
 FIRST and SECOND are the programs to compare. Each line of a file is a request; of a
 folder, every file is taken, in the order of names. COUNT random requests, streams to
-evaluate and backlogs are made from SEED; each of these streams gets one to five requests,
-each backlog two or three. Without these, the seed is 1 and the count 100000.
+evaluate, backlogs and streams to cut off are made from SEED. A stream to evaluate gets one
+to five requests, a backlog two or three, and a stream to cut off up to fifteen. Without
+these, the seed is 1 and the count 100000.
 LIST, WRITE and EVAL are three more programs, each run on one stream at a time: document
 01's, some at the limits, and random ones from SEED. LIST must print the rows, WRITE the
 bytes and EVAL the result that SECOND answers to `read`, `write` and `evaluate` for that

@@ -20,6 +20,7 @@ const BEFORE_NAME: [&str; 2] = ["before a name", "before a name, in a form"];
 /// How many whole top-level expressions are in front.
 const BEHIND: [&str; 3] = ["behind none", "behind one", "behind several"];
 
+/// All of these, in the order of the tally.
 pub const LABELS: [&str; 15] = [
     BETWEEN_EXPRESSIONS,
     IN_FORM,
@@ -109,7 +110,7 @@ impl<'s> Whole<'s> {
         cuts
     }
 
-    /// The cuts inside an expression, for a form's as if its elements had no inside.
+    /// The cuts inside an expression. Those of a form's elements come later and take their place.
     fn places(&self, row: &Row, in_form: bool) -> Vec<(usize, &'static str)> {
         let bytes = &self.stream[row.start..row.end];
         let head = head(row.kind, bytes);
