@@ -1,8 +1,8 @@
 -- Document 02, §4, as theorems about what `read` answers and leaves in the table. Above each stands what was asked for, and what it says for a
 -- caller. They follow from the theorems over the definitions (`Parts` of the crate `laws`). Assumes nothing.
-use Prim.Native.Nat.{ℕ, _+_, _*_, _≤_}
+use Prim.Native.Nat.{ℕ, _+_, _*_}
 use mathlib.Core.Path.{_≡_, refl, sym, ap, _∙_}
-use mathlib.Core.Logic.{_⊎_, inl, inr}
+use mathlib.Core.Logic.{inl, inr}
 use mathlib.Core.List.{List, _++_}
 use lib.ListN.{length, take, drop}
 use lib.Seq.{length-take-le, take-take, take-at}
@@ -10,7 +10,7 @@ use native.Mathlib.Omega.{arith}
 use Rattle.spec.specs.Reading.{row-width}
 use Rattle.spec.specs.Calls.{Answer, Read}
 use Rattle.laws.specs.Demands.{Bytes, row-numbers}
-use Rattle.laws.specs.Parts.{LongestFront, passed-on, InTwoParts}
+use Rattle.laws.specs.Parts.{LongestFront, RightSoFar, passed-on, InTwoParts}
 use Rattle.laws.proofs.Theorems.{read-fits, read-keeps}
 use Rattle.laws.proofs.Parts as laws
 use Rattle.bulk.specs.Promises.{Call, ReadOrUnfinished, passes-on, ReadInTurn}
@@ -28,15 +28,15 @@ module _ (s t : List ℕ) (x : Call (Read s t)) where
 
 -- "if a stream is refused by 2 at p, then its first p bytes alone can be read [..], and they are whole top-level expressions": a caller that is told 2
 -- at p can pass on the bytes before p, and no more of them.
-pub read-held : (s t : List ℕ) → Bytes s → (x : Call (Read s t)) (p : ℕ) → x .answer ≡ Refused 2 p
+pub part-held : (s t : List ℕ) → Bytes s → (x : Call (Read s t)) (p : ℕ) → x .answer ≡ Refused 2 p
     → LongestFront s t p × ((y : Call (Read (take p s) t)) → y .answer ≡ Accepted (Read (take p s) t .given))
-read-held s t b x p h =
+part-held s t b x p h =
     let is = rw h at (x .told .is) in
-    let front = rw (← ap (λ (a : Answer). a .place) is) at (laws.held s t b (ap (λ (a : Answer). a .number) (sym is))) in
+    let front = rw (← ap (λ (a : Answer). a .place) is) at (laws.part-held s t b (ap (λ (a : Answer). a .number) (sym is))) in
     (front, λ y. accepts (take p s) t y (front .accepted))
 
 -- an answer by the definition's number
-answered-so : (s : List ℕ) {a : Answer} (y : Call a) → (a .number ≡ 0) ⊎ (a .number ≡ 2) → ReadOrUnfinished (y .answer) × (passes-on s (y .answer) ≡ passed-on s a)
+answered-so : (s : List ℕ) {a : Answer} (y : Call a) → RightSoFar a → ReadOrUnfinished (y .answer) × (passes-on s (y .answer) ≡ passed-on s a)
 answered-so s y (inl zero) = rw (decided y, zero) (tt, refl)
 answered-so s y (inr two) = rw (decided y, two) (refl, refl)
 
@@ -69,8 +69,8 @@ module _ (s next t : List ℕ) (stream : Bytes (s ++ next)) (x : Call (Read (s +
     means = two .means;
   }
 
-  pub read-continued : (y : Call (Read s t)) → ReadOrUnfinished (y .answer) × ReadInTurn s next t x n (passes-on s (y .answer))
-  read-continued y =
-      let c = laws.continued s next t stream whole in
+  pub part-continued : (y : Call (Read s t)) → ReadOrUnfinished (y .answer) × ReadInTurn s next t x n (passes-on s (y .answer))
+  part-continued y =
+      let c = laws.part-continued s next t stream whole in
       let a = answered-so s y (c .0) in
       (a .0, rw (a .1) (read-on (passed-on s (Read s t)) (c .1)))

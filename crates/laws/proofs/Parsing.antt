@@ -53,7 +53,7 @@ first-token p (b ∷ u) t ts e =
     let rest : tokens (p + 1) (further (token p b u)) u ≡ ts = cc in
     (b, u, refl, rw it at (token-from p b u), rw it at rest)
 
-pub no-token : (p : ℕ) (s : List ℕ) → tokens p 0 s ≡ [] → s ≡ []
+no-token : (p : ℕ) (s : List ℕ) → tokens p 0 s ≡ [] → s ≡ []
 unfolding tokens
 no-token p [] e = refl
 no-token p (b ∷ u) e = impossible (cc)

@@ -4,16 +4,16 @@ use Prim.Native.Nat.{ℕ, _+_, _-_, _*_, _/_, _≤_, _<_, max}
 use mathlib.Core.Path.{_≡_, refl, sym, ap, _∙_, subst}
 use mathlib.Core.Logic.{_⊎_, inl, inr}
 use mathlib.Core.List.{List, [], _∷_, _++_, append-assoc, append-nil}
-use lib.ListN.{length, take, drop, length-append, length-drop, take-append-drop}
+use lib.ListN.{length, take, drop, length-append, take-append-drop}
 use lib.Seq.{take-length, take-at, drop-at}
 use native.Mathlib.Omega.{arith}
 use native.Mathlib.Nat.{zero-add}
-use Rattle.spec.specs.Expr.{Expr, Exprs, none, more, append, rows-all, deepest}
+use Rattle.spec.specs.Expr.{Exprs, none, more, append, rows-all, deepest}
 use Rattle.spec.specs.Reading.{tokens, right, wrong, check, lists, Row, rows-of, row-width, numbers, refused, readable, read}
 use Rattle.spec.specs.Calls.{Answer, refusal, acceptance, filled, reading, Read}
-use Rattle.laws.specs.Demands.{Bytes, Begins, row-numbers, meaning-of, CanRead}
+use Rattle.laws.specs.Demands.{Bytes, row-numbers, meaning-of, CanRead}
 use Rattle.laws.specs.Grammar.{SpellsAll}
-use Rattle.laws.specs.Parts.{LongestFront, passed-on, InTwoParts, joined, passed, held-back, AllAnswered, PassedInOrder}
+use Rattle.laws.specs.Parts.{LongestFront, RightSoFar, passed-on, InTwoParts, joined, passed, held-back, AllAnswered, PassedInOrder}
 use Rattle.laws.proofs.Fits.{bytes-front, bytes-back, bytes-append, bytes-drop}
 use Rattle.laws.proofs.Tokens.{Right, right-tokens, tokens-laid, Laid, tokens-few}
 use Rattle.laws.proofs.Rows.{rows-few, rows-room, right-room, rows-ordered, rows-inside, numbers-first}
@@ -72,7 +72,6 @@ reads-joined x y room room′ k b c r q l h =
 -- the rows of a stream that can be read, in front of the others: their numbers are those of the stream alone
 record RowsFirst (x y : List ℕ) : Type 0 where
   others : List Row
-  are : rows-of (tokens 0 0 (x ++ y)) ≡ rows-of (tokens 0 0 x) ++ others
   first : numbers (rows-of (tokens 0 0 (x ++ y))) (rows-of (tokens 0 0 (x ++ y)))
       ≡ numbers (rows-of (tokens 0 0 x)) (rows-of (tokens 0 0 x)) ++ numbers (rows-of (tokens 0 0 (x ++ y))) others
 
@@ -92,12 +91,16 @@ rows-first x y room b c r q =
     let split : rows-of (tokens 0 0 (x ++ y)) ≡ own ++ others = (simp zero-add at (rows-before es x sp 0 y)) ∙ ap (λ (l : List Row). l ++ others) (sym (spelled-rows es x sp)) in
     let numbers-split = numbers-first (length x) own others (rows-ordered (length x + length y) behind (length x) laid)
     (rows-inside (length x) (read-readable x room _ _ r .well) 0 (stream-laid x b)) in
-    record { others = others; are = split; first = rw split numbers-split }
+    record { others = others; first = rw split numbers-split }
+
+-- a stream is read with so many rows, and all of its bytes with it, or refused by 2 at p
+abbrev AnsweredAt : List ℕ → ℕ → ℕ → Type 0
+AnsweredAt s room p = ((p ≡ length s) × Reads s room) ⊎ ((p < length s) × (read s room ≡ refused 2 p))
 
 -- a stream s to which u is added, read in two parts: the bytes x, and with u the bytes y, which are left of s
 record ReadParts (s u : List ℕ) (room : ℕ) (x y : List ℕ) : Type 0 where
   is : s ≡ x ++ y
-  answer : ((length x ≡ length s) × Reads s room) ⊎ ((length x < length s) × (read s room ≡ refused 2 (length x)))
+  answer : AnsweredAt s room (length x)
   front : Reads x room
   back : Reads (y ++ u) room
   means : meaning-of (s ++ u) ≡ append (meaning-of x) (meaning-of (y ++ u))
@@ -134,11 +137,11 @@ module _ (s u : List ℕ) (room : ℕ) (stream : Bytes (s ++ u)) (reads : Reads 
   short-front : length s ≤ 65536
   short-front = omega (arith, short, own-size, length-append left-bytes u)
 
-  its-answer : ((place ≡ length s) × Reads s room) ⊎ ((place < length s) × (read s room ≡ refused 2 place))
+  its-answer : AnsweredAt s room place
   its-answer = go (cut-up .verdict)
     where
       go : ((left-bytes ≡ []) × (check 0 room (tokens 0 0 s) 0 0 ≡ right)) ⊎ ((0 < length left-bytes) × (check 0 room (tokens 0 0 s) 0 0 ≡ wrong 2 (0 + place)))
-          → ((place ≡ length s) × Reads s room) ⊎ ((place < length s) × (read s room ≡ refused 2 place))
+          → AnsweredAt s room place
       go (inl (e, k)) = inl (omega (arith, own-size, ap length e), readable-read s room short-front k)
       go (inr (some, k)) = inr (omega (arith, own-size), wrong-read s room 2 place short-front (simp zero-add at k))
 
@@ -198,8 +201,8 @@ module _ (s t : List ℕ) where
 -- "if a stream is refused by 2 at p, then its first p bytes alone can be read (rows apart), and they are whole top-level expressions"; with the
 -- same table, and p is the last such place
 
-pub held : (s t : List ℕ) → Bytes s → Read s t .number ≡ 2 → LongestFront s t (Read s t .place)
-held s t b two =
+pub part-held : (s t : List ℕ) → Bytes s → Read s t .number ≡ 2 → LongestFront s t (Read s t .place)
+part-held s t b two =
     let room : ℕ = length t / row-width in
     let p : ℕ = Read s t .place in
     let e = refused-by s t two in
@@ -223,7 +226,6 @@ module _ (s next t : List ℕ) where
   two-parts x y r reads =
       let first-is : take (length x) s ≡ x = ap (take (length x)) (r .is) ∙ take-at x y (length x) refl in
       let left-is : drop (length x) s ≡ y = ap (drop (length x)) (r .is) ∙ drop-at x y (length x) refl in
-      let own = rows-of (tokens 0 0 x) in
       let all-is : s ++ next ≡ x ++ (y ++ next) = ap (λ (l : List ℕ). l ++ next) (r .is) ∙ append-assoc x y next in
       let all-rows = accepts-rows (s ++ next) t reads ∙ ap (λ (l : List ℕ). numbers (rows-of (tokens 0 0 l)) (rows-of (tokens 0 0 l))) all-is ∙ r .rows .first in
       record {
@@ -234,26 +236,24 @@ module _ (s next t : List ℕ) where
         means = rw (first-is, left-is) (r .means);
       }
 
-  pub continued : Bytes (s ++ next) → Read (s ++ next) t .number ≡ 0
-      → ((Read s t .number ≡ 0) ⊎ (Read s t .number ≡ 2)) × InTwoParts s next t (passed-on s (Read s t))
-  continued b h = go (read-parts s next rows-there b (accepted-reads (s ++ next) t b h))
+  pub part-continued : Bytes (s ++ next) → Read (s ++ next) t .number ≡ 0 → RightSoFar (Read s t) × InTwoParts s next t (passed-on s (Read s t))
+  part-continued b h = go (read-parts s next rows-there b (accepted-reads (s ++ next) t b h))
     where
       reads : Reads (s ++ next) rows-there
       reads = accepted-reads (s ++ next) t b h
 
-      go : {x y : List ℕ} → ReadParts s next rows-there x y → ((Read s t .number ≡ 0) ⊎ (Read s t .number ≡ 2)) × InTwoParts s next t (passed-on s (Read s t))
+      go : {x y : List ℕ} → ReadParts s next rows-there x y → RightSoFar (Read s t) × InTwoParts s next t (passed-on s (Read s t))
       go {x} {y} r = by-answer (r .answer)
         where
-          by-answer : ((length x ≡ length s) × Reads s rows-there) ⊎ ((length x < length s) × (read s rows-there ≡ refused 2 (length x)))
-              → ((Read s t .number ≡ 0) ⊎ (Read s t .number ≡ 2)) × InTwoParts s next t (passed-on s (Read s t))
+          by-answer : AnsweredAt s rows-there (length x) → RightSoFar (Read s t) × InTwoParts s next t (passed-on s (Read s t))
           by-answer (inl (e, k)) = rw (accepts s t k) (inl refl, rw (← e) (two-parts x y r reads))
           by-answer (inr (e, k)) = rw (read-unread s t 2 (length x) k) (inr refl, two-parts x y r reads)
 
 -- and back: two streams that can be read make one, with bytes and rows enough
 
-pub joined-reads : (x y t : List ℕ) → Bytes x → Bytes y → Read x t .number ≡ 0 → Read y t .number ≡ 0 → length (x ++ y) ≤ 65536
+pub parts-joined : (x y t : List ℕ) → Bytes x → Bytes y → Read x t .number ≡ 0 → Read y t .number ≡ 0 → length (x ++ y) ≤ 65536
     → row-width * (Read x t .given + Read y t .given) ≤ length t → (Read (x ++ y) t .number ≡ 0) × (meaning-of (x ++ y) ≡ append (meaning-of x) (meaning-of y))
-joined-reads x y t b c h k short room =
+parts-joined x y t b c h k short room =
     let rows-there : ℕ = length t / row-width in
     let r = accepted-reads x t b h in
     let q = accepted-reads y t c k in
@@ -279,11 +279,11 @@ unfolding tokens lists
 meaning-none = refl
 
 module _ (t : List ℕ) where
-  still-held : (s : List ℕ) → Bytes s → (Read s t .number ≡ 0) ⊎ (Read s t .number ≡ 2) → NotWhole (drop (passed-on s (Read s t)) s)
+  still-held : (s : List ℕ) → Bytes s → RightSoFar (Read s t) → NotWhole (drop (passed-on s (Read s t)) s)
   still-held s b (inl zero) can = rw zero (none-left s (length s) (omega arith))
   still-held s b (inr two) can =
       let p : ℕ = Read s t .place in
-      let f = held s t b two in
+      let f = part-held s t b two in
       let split = take-append-drop p s in
       let bytes : Bytes (take p s ++ drop p s) = subst Bytes (sym split) b in
       let front = accepted-reads (take p s) t (bytes-front (take p s) (drop p s) bytes) (f .accepted) in
@@ -305,31 +305,30 @@ module _ (t : List ℕ) where
       let p : ℕ = passed-on s (Read s t) in
       let all : held ++ (x ++ joined xs) ≡ s ++ joined xs = sym (append-assoc held x (joined xs)) in
       let bytes : Bytes (s ++ joined xs) = rw all at b in
-      let c = continued s (joined xs) t bytes (rw all at h) in
+      let c = part-continued s (joined xs) t bytes (rw all at h) in
       let rest : Bytes (drop p s ++ joined xs) = bytes-append (drop p s) (joined xs) (bytes-drop p s (bytes-front s (joined xs) bytes)) (bytes-back s (joined xs) bytes) in
       let on = queue-from (drop p s) xs (still-held s (bytes-front s (joined xs) bytes) (c .0)) rest (c .1 .back) in
       (ap (append (meaning-of (take p s))) (on .0) ∙ sym (c .1 .means) ∙ ap (λ (l : List ℕ). meaning-of l) (sym all), on .1)
 
-  pub queue : (xs : List (List ℕ)) → Bytes (joined xs) → Read (joined xs) t .number ≡ 0 → (passed t [] xs ≡ meaning-of (joined xs)) × (held-back t [] xs ≡ [])
-  queue xs b h = queue-from [] xs (λ c. refl) b h
+  pub parts-queue : (xs : List (List ℕ)) → Bytes (joined xs) → Read (joined xs) t .number ≡ 0 → (passed t [] xs ≡ meaning-of (joined xs)) × (held-back t [] xs ≡ [])
+  parts-queue xs b h = queue-from [] xs (λ c. refl) b h
 
   -- and of any bytes, however many: as long as every answer is 0 or 2, what is passed on is what they spell, but for those held back
 
-  front-spelled : (s : List ℕ) → Bytes s → (Read s t .number ≡ 0) ⊎ (Read s t .number ≡ 2)
-      → let p = passed-on s (Read s t) in SpellsAll (meaning-of (take p s)) (take p s)
+  front-spelled : (s : List ℕ) → Bytes s → RightSoFar (Read s t) → let p = passed-on s (Read s t) in SpellsAll (meaning-of (take p s)) (take p s)
   front-spelled s b (inl zero) = rw (zero, take-length s) (read-spells s (length t / row-width) _ _ b (accepted-reads s t b zero))
-  front-spelled s b (inr two) = rw two (held s t b two .whole)
+  front-spelled s b (inr two) = rw two (part-held s t b two .whole)
 
-  pub in-order : (held : List ℕ) (xs : List (List ℕ)) → Bytes (held ++ joined xs) → AllAnswered t held xs → PassedInOrder t held xs
+  pub parts-in-order : (held : List ℕ) (xs : List (List ℕ)) → Bytes (held ++ joined xs) → AllAnswered t held xs → PassedInOrder t held xs
   unfolding joined passed held-back AllAnswered append
-  in-order held [] b all = record { bytes = []; is = append-nil held; spells = refl }
-  in-order held (x ∷ xs) b all =
+  parts-in-order held [] b all = record { bytes = []; is = append-nil held; spells = refl }
+  parts-in-order held (x ∷ xs) b all =
       let s : List ℕ = held ++ x in
       let p : ℕ = passed-on s (Read s t) in
       let whole : held ++ (x ++ joined xs) ≡ s ++ joined xs = sym (append-assoc held x (joined xs)) in
       let bytes : Bytes (s ++ joined xs) = rw whole at b in
       let front = bytes-front s (joined xs) bytes in
-      let on = in-order (drop p s) xs (bytes-append (drop p s) (joined xs) (bytes-drop p s front) (bytes-back s (joined xs) bytes)) (all .1) in
+      let on = parts-in-order (drop p s) xs (bytes-append (drop p s) (joined xs) (bytes-drop p s front) (bytes-back s (joined xs) bytes)) (all .1) in
       record {
         bytes = take p s ++ on .bytes;
         is = whole

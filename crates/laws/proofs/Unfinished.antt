@@ -4,14 +4,14 @@ use Prim.Native.Nat.{ℕ, _+_, _-_, _≤_, _<_}
 use mathlib.Core.Path.{_≡_, refl, sym, ap, _∙_, subst}
 use mathlib.Core.List.{List, [], _∷_, _++_, append-assoc}
 use mathlib.Core.Bool.{Bool, true, false}
-use lib.ListN.{length, take, drop, length-append, length-drop, take-append-drop}
+use lib.ListN.{length, take, drop, length-append, take-append-drop}
 use lib.Seq.{take-at, length-take-le}
 use lib.Dec.{ltb, leb, eqb}
-use borrow.Author.Tests.{ltb-false, le-ltb, leb-false, eqb-true, eqb-false, lt-leb}
+use borrow.Author.Tests.{ltb-false, le-ltb, leb-false, eqb-true, eqb-false}
 use native.Mathlib.Omega.{arith}
 use native.Mathlib.Nat.{zero-add}
-use Rattle.spec.specs.Expr.{if_then_else_, Atom, Exprs, rows-all, deepest}
-use Rattle.spec.specs.Reading.{failed, read-atom, Token, opening, closing, whole, unfinished, bad, tokens, Verdict, right, wrong, began, check, Row, rows-of, Reading, refused, readable, by-verdict, read}
+use Rattle.spec.specs.Expr.{if_then_else_, rows-all}
+use Rattle.spec.specs.Reading.{Token, opening, closing, whole, unfinished, bad, tokens, Verdict, right, wrong, began, check, rows-of, refused, readable, by-verdict, read}
 use Rattle.laws.specs.Demands.{Bytes, meaning-of, CanRead}
 use Rattle.laws.proofs.Basics.{impossible, by-test}
 use Rattle.laws.proofs.Fits.{bytes-front, bytes-back}
@@ -19,13 +19,13 @@ use Rattle.laws.proofs.Spelling.{atom-taken}
 use Rattle.laws.proofs.Atoms.{off-atom}
 use Rattle.laws.proofs.Tokens.{From, from-cut-off, from-bad, Right, at-end, opens, closes-some, stands, tokens-laid, Laid, check-refusal, check-more, check-top}
 use Rattle.laws.proofs.Rows.{right-room, rows-room}
-use Rattle.laws.proofs.Reading.{tokens-opening, tokens-closing, tokens-atom, read-readable, readable-read, meant, check-all}
-use Rattle.laws.proofs.Parsing.{first-token, no-token, from-opening, from-closing, from-whole, read-spells}
+use Rattle.laws.proofs.Reading.{tokens-opening, tokens-closing, tokens-atom, readable-read, meant, check-all}
+use Rattle.laws.proofs.Parsing.{first-token, from-opening, from-closing, from-whole, read-spells}
 
 -- Where 2 comes from
 
--- Bytes u from place q on, with d forms open, the outermost `from` a place on, and n rows taken, are refused by 2 at place p: what is not
--- finished is a form that was open before; or what begins behind the bytes x, which are right.
+-- Bytes u from place q on, with d forms open, the outermost from place `from` on, and n rows taken, are refused by 2 at place p: what is
+-- not finished is a form that was open before; or what begins behind the bytes x, which are right.
 data Unfinished (room from q : ℕ) (u : List ℕ) (d n p : ℕ) : Type 0 where
   before : 0 < d → p ≡ from → Unfinished room from q u d n p
   behind : (x y : List ℕ) → u ≡ x ++ y → 0 < length y → p ≡ q + length x → Right room (tokens q 0 x) d n → Unfinished room from q u d n p

@@ -19,7 +19,11 @@ pub record LongestFront (s table : List ℕ) (p : ℕ) : Type 0 where
   pub whole : SpellsAll (meaning-of (take p s)) (take p s)
   pub longest : (k : ℕ) → k ≤ length s → CanRead (take k s) → k ≤ p
 
--- how many bytes of a stream may be passed on after this answer to it, 0 or 2: all of them, or those before the place
+-- an answer to a stream that is right so far: it can be read, or is not finished
+abbrev pub RightSoFar : Answer → Type 0
+RightSoFar a = (a .number ≡ 0) ⊎ (a .number ≡ 2)
+
+-- how many bytes of the stream may be passed on after such an answer: all of them, or those before the place
 abbrev pub passed-on : List ℕ → Answer → ℕ
 passed-on s a = if eqb (a .number) 0 then length s else a .place
 
@@ -54,13 +58,13 @@ held-back table held (x ∷ xs) =
     let s : List ℕ = held ++ x in
     held-back table (drop (passed-on s (Read s table)) s) xs
 
--- every part is answered 0 or 2
+-- every answer is 0 or 2
 unfoldable pub AllAnswered : List ℕ → List ℕ → List (List ℕ) → Type 0
 AllAnswered table held [] = Unit {0}
 AllAnswered table held (x ∷ xs) =
     let s : List ℕ = held ++ x in
     let a : Answer = Read s table in
-    ((a .number ≡ 0) ⊎ (a .number ≡ 2)) × AllAnswered table (drop (passed-on s a) s) xs
+    RightSoFar a × AllAnswered table (drop (passed-on s a) s) xs
 
 -- the bytes of the parts are those that spell what was passed on, and then what is held back
 pub record PassedInOrder (table held : List ℕ) (xs : List (List ℕ)) : Type 0 where

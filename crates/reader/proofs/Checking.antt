@@ -50,8 +50,8 @@ pub record Counted (s : List ℕ) (p d n saved : ℕ) : Type 0 where
   pub early : n ≤ p
   pub shorter : saved ≤ p
 
--- At place p, d forms are open, the outermost `from` a place on, n rows are taken, and the canonical bytes of the tokens so far are `saved`
--- fewer than p.
+-- At place p, d forms are open, the outermost from place `from` on, n rows are taken, and the canonical bytes of the tokens so far are
+-- `saved` fewer than p.
 pub record Checking (s : List ℕ) (room p from d n saved : ℕ) : Type 0 where
   pub counts : Counted s p d n saved
   pub verdict : check 0 room (tokens 0 0 s) 0 0 ≡ check from room (tokens-from s p) d n

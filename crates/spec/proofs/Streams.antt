@@ -1,7 +1,8 @@
 -- Document 01, "Streams to try": the starred ones, each call with its answer, in one table under one claim. And further tables, with the
 -- answers that its sentences demand: for "Errors that come easily", whose answers a definition with such an error does not give; for
--- reading, and for where what is unfinished began (document 02, §4); for what is visible where; for names and namespaces; for the rules as written wrongly; for the refusals with their limits,
--- and for which of two comes first; and for what the buffers hold afterwards. Assumes nothing.
+-- reading, and for where an unfinished part began (document 02, §4); for what is visible where; for names and namespaces; for the rules
+-- as written wrongly; for the refusals with their limits, and for which of two comes first; and for what the buffers hold afterwards.
+-- Assumes nothing.
 use Prim.Native.Nat.{ℕ, zero, suc, _+_}
 use mathlib.Core.Path.{_≡_, refl}
 use mathlib.Core.List.{List, [], _∷_, _++_, map}

@@ -1,6 +1,5 @@
 -- `reader::began` meets its contract: the definition's own test.
 -- Assumes nothing.
-use mathlib.Core.Path.{_≡_}
 use borrow.Author.Tests.{ne-eqb}
 use Rattle.reader.proofs.began.Statement.{statement}
 use Rattle.reader.proofs.began.Tie as tie
