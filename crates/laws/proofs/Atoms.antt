@@ -23,11 +23,11 @@ head-bounds n = go (array-head-is n)
     go (three-bytes k l) = omega arith
     go (four-bytes k) = omega arith
 
--- what was read off n bytes leaves no more; a refusal is one of an atom's
+-- what was read off n bytes leaves no more; a refusal is one of an atom's, at a byte that is there
 abbrev pub Off : {A : Type 0} → ℕ → Taken A → Type 0
 Off n (taken a s) = length s ≤ n
 Off n cut-off = Unit {0}
-Off n (failed w s) = (length s ≤ n) × (4 ≤ w) × (w ≤ 7)
+Off n (failed w s) = (0 < length s) × (length s ≤ n) × (4 ≤ w) × (w ≤ 7)
 
 off-then : {A B : Type 0} (n : ℕ) (x : Taken A) (f : A → List ℕ → Taken B) → Off n x → ((a : A) (s : List ℕ) → length s ≤ n → Off n (f a s))
     → Off n (and-then x f)
@@ -60,10 +60,10 @@ unfolding marker
 off-marker n m [] h = tt
 off-marker n m (b ∷ s) h = by-test (Off n) (eqb b 0xFF) (λ e. off-marker n (m + b) s (omega arith)) (λ e. omega arith)
 
-off-name : (n : ℕ) (from : List ℕ) → length from ≤ n → (m : ℕ) (s : List ℕ) → length s ≤ n → Off n (name from m s)
+off-name : (n : ℕ) (from : List ℕ) → 0 < length from → length from ≤ n → (m : ℕ) (s : List ℕ) → length s ≤ n → Off n (name from m s)
 unfolding name
-off-name n from k m [] h = tt
-off-name n from k m (b ∷ s) h = by-test (Off n) (ltb 65535 m) (λ e. omega arith) (λ e. omega arith)
+off-name n from i k m [] h = tt
+off-name n from i k m (b ∷ s) h = by-test (Off n) (ltb 65535 m) (λ e. omega arith) (λ e. omega arith)
 
 pub off-atom : (b : ℕ) (s : List ℕ) → Off (suc (length s)) (read-atom b s)
 unfolding read-atom
@@ -73,7 +73,7 @@ off-atom b s =
     by-test (Off n) (eqb b 0x03) (λ e.
     off-then n (and-then (length-expr 7 s) take-bytes) as-array (off-then n (length-expr 7 s) take-bytes (off-length n 7 s (omega arith)) (off-take n)) (λ bs t l. l)) λ e.
     by-test (Off n) (ltb b 0x10) (λ e. omega arith) λ e.
-    by-test (Off n) (ltb b 0x7F) (λ e. off-name n (b ∷ s) (omega arith) b s (omega arith)) λ e.
-    by-test (Off n) (ltb b 0x80) (λ e. off-then n (marker 0x7F s) (name (b ∷ s)) (off-marker n 0x7F s (omega arith)) (off-name n (b ∷ s) (omega arith))) λ e.
+    by-test (Off n) (ltb b 0x7F) (λ e. off-name n (b ∷ s) (omega arith) (omega arith) b s (omega arith)) λ e.
+    by-test (Off n) (ltb b 0x80) (λ e. off-then n (marker 0x7F s) (name (b ∷ s)) (off-marker n 0x7F s (omega arith)) (off-name n (b ∷ s) (omega arith) (omega arith))) λ e.
     by-test (Off n) (ltb b 0xC0) (λ e. omega arith) λ e.
     off-then n (take-bytes (b - 0xC0) s) as-array (off-take n (b - 0xC0) s (omega arith)) (λ bs t l. l)

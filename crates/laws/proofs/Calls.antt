@@ -105,7 +105,7 @@ module _ {s t o : List ℕ} {W : List Row → Exprs → ℕ → ℕ → Type 0} 
 
   pub answers-place : {a : Answer} → Bytes s → ((rs : List Row) (es : Exprs) (v p : ℕ) → reading s t ≡ readable rs es → W rs es v p → p ≤ length s)
       → Answers s t o W A a → a .place ≤ length s
-  answers-place b f (not-read v p e) = read-refused s (length t / row-width) v p b e .2
+  answers-place b f (not-read v p e) = omega (arith, read-refused s (length t / row-width) v p b e .2)
   answers-place b f (refuses {v} {p} rs es e w) = f rs es v p e w
   answers-place b f (accepts rs es e w room) = omega arith
 

@@ -1,12 +1,12 @@
 -- Laws of `read`: what holds of a meaning that was read, and that the canonical bytes of such a meaning are read as that meaning.
 -- Document 01: "Bytes to expressions", "Canonical". Assumes nothing.
-use Prim.Native.Nat.{ℕ, zero, suc, _+_, _-_, _≤_}
+use Prim.Native.Nat.{ℕ, zero, suc, _+_, _-_, _≤_, _<_}
 use mathlib.Core.Path.{_≡_, refl, sym, ap, _∙_, subst}
 use mathlib.Core.List.{List, [], _∷_, _++_, append-assoc, append-nil}
 use mathlib.Core.Bool.{Bool, true, false}
 use lib.ListN.{length, getD, length-append}
 use lib.Dec.{ltb}
-use borrow.Author.Tests.{ltb-false, le-ltb, lt-leb, ne-eqb}
+use borrow.Author.Tests.{ltb-true, ltb-false, le-ltb, lt-leb, ne-eqb}
 use native.Mathlib.Omega.{arith}
 use native.Mathlib.Numerals.{add-one}
 use Rattle.spec.specs.Expr.{if_then_else_, Atom, Expr, atom, form, Exprs, none, more, rows, rows-all, depth, deepest, bytes, canonical}
@@ -90,21 +90,21 @@ pub readable-read : (s : List ℕ) (room : ℕ) → length s ≤ 65536 → check
 unfolding read
 readable-read s room h k = rw (le-ltb 65536 (length s) h, k)
 
--- a refusal has one of reading's numbers, and its place is in the stream; with as many rows as bytes there is always a row left
+-- a refusal has one of reading's numbers, and its place is a byte of the stream; with as many rows as bytes there is always a row left
 pub read-refusal : (s : List ℕ) (room w p : ℕ) → Bytes s → read s room ≡ refused w p
-    → (1 ≤ w) × (w ≤ 8) × (w ≤ 7 + (length s - room)) × (p ≤ length s)
+    → (1 ≤ w) × (w ≤ 8) × (w ≤ 7 + (length s - room)) × (p < length s)
 unfolding read
 read-refusal s room w p b h =
-    let inside = check-refusal 0 (length s) room (length s) (tokens 0 0 s) 0 0 0 0 (omega arith) (omega arith) (omega arith) (stream-laid s b) (omega (arith, tokens-few s 0 0)) in
-    go (ltb 65536 (length s)) (check 0 room (tokens 0 0 s) 0 0) inside h
+    let inside = check-refusal 0 (length s) room (length s) (tokens 0 0 s) 0 0 0 0 (omega arith) (λ z. omega arith) (omega arith) (stream-laid s b) (omega (arith, tokens-few s 0 0)) in
+    go (ltb 65536 (length s)) refl (check 0 room (tokens 0 0 s) 0 0) inside h
   where
-    go : (c : Bool) (v : Verdict) → RefusalInside 0 (length s) room (length s) v
-        → (if c then refused 1 0 else by-verdict v (tokens 0 0 s)) ≡ refused w p → (1 ≤ w) × (w ≤ 8) × (w ≤ 7 + (length s - room)) × (p ≤ length s)
-    go true v r h = let number : 1 ≡ w = cc in let place : 0 ≡ p = cc in omega arith
-    go false right r h = impossible (cc)
-    go false (wrong v q) r h = let number : v ≡ w = cc in let place : q ≡ p = cc in omega arith
+    go : (c : Bool) → ltb 65536 (length s) ≡ c → (v : Verdict) → RefusalInside 0 (length s) room (length s) v
+        → (if c then refused 1 0 else by-verdict v (tokens 0 0 s)) ≡ refused w p → (1 ≤ w) × (w ≤ 8) × (w ≤ 7 + (length s - room)) × (p < length s)
+    go true e v r h = let number : 1 ≡ w = cc in let place : 0 ≡ p = cc in omega (arith, ltb-true 65536 (length s) e)
+    go false e right r h = impossible (cc)
+    go false e (wrong v q) r h = let number : v ≡ w = cc in let place : q ≡ p = cc in omega arith
 
-pub read-refused : (s : List ℕ) (room w p : ℕ) → Bytes s → read s room ≡ refused w p → (1 ≤ w) × (w ≤ 8) × (p ≤ length s)
+pub read-refused : (s : List ℕ) (room w p : ℕ) → Bytes s → read s room ≡ refused w p → (1 ≤ w) × (w ≤ 8) × (p < length s)
 read-refused s room w p b h = omega (arith, read-refusal s room w p b h)
 
 -- the rows that were counted are enough

@@ -364,11 +364,14 @@ module _ (s : List ℕ) (room : ℕ) (rs : List Row) (es : Exprs) (stream : Byte
   pub run-names-rows : Proper (length rs) (run es)
   run-names-rows = rw rows-counted (run-proper es (meant s room rs es stream reads .fits))
 
--- a refusal's place is at most the stream's length
+-- a refusal's place is at most the stream's length; of a stream that can't be read it is a byte of the stream
+
+pub unread-place : (s t : List ℕ) (w p : ℕ) → Bytes s → reading s t ≡ refused w p → p < length s
+unread-place s t w p b h = read-refused s (length t / row-width) w p b h .2
 
 pub read-place : (s t : List ℕ) → Bytes s → Read s t .place ≤ length s
 read-place s t b =
-    read-cases (λ (a : Answer). a .place ≤ length s) s t (λ v p e. read-refused s (length t / row-width) v p b e .2) (λ rs es e. omega arith)
+    read-cases (λ (a : Answer). a .place ≤ length s) s t (λ v p e. omega (arith, unread-place s t v p b e)) (λ rs es e. omega arith)
 
 pub write-place : (s t o : List ℕ) → Bytes s → Write s t o .place ≤ length s
 write-place s t o b = answers-place b (λ rs es v p e w. omega (arith, w .1)) (write-answers s t o)

@@ -106,7 +106,7 @@ Laid p (opening q ∷ ts) end = (p ≤ q) × Laid (q + 1) ts end
 Laid p (closing q ∷ ts) end = (p ≤ q) × Laid (q + 1) ts end
 Laid p (whole a q e ∷ ts) end = (p ≤ q) × (q < e) × (q + length (atom-bytes a) ≤ e) × Fits a × Laid e ts end
 Laid p (unfinished q ∷ ts) end = (p ≤ q) × (q < end)
-Laid p (bad w q ∷ ts) end = (p ≤ q) × (q ≤ end) × (4 ≤ w) × (w ≤ 7)
+Laid p (bad w q ∷ ts) end = (p ≤ q) × (q < end) × (4 ≤ w) × (w ≤ 7)
 
 laid-at : (p q : ℕ) (ts : List Token) (end end′ : ℕ) → p ≡ q → end ≡ end′ → Laid p ts end → Laid q ts end′
 laid-at p q ts end end′ e e′ l = subst (λ (x : ℕ). Laid x ts end′) e (subst (λ (x : ℕ). Laid p ts x) e′ l)
@@ -161,36 +161,38 @@ laid-inside p (whole a q e ∷ ts) end l = omega (arith, l .0, l .1, laid-inside
 laid-inside p (unfinished q ∷ ts) end l = omega (arith, l .0, l .1)
 laid-inside p (bad w q ∷ ts) end l = omega (arith, l .0, l .1)
 
--- A refusal has one of reading's numbers and a place between two. With k rows there is a row for each token: then it is not 8.
+-- A refusal has one of reading's numbers, and its place is a byte between two. With k rows there is a row for each token: then it is not 8.
 abbrev pub RefusalInside : ℕ → ℕ → ℕ → ℕ → Verdict → Type 0
 RefusalInside low end room k right = Unit {0}
-RefusalInside low end room k (wrong w p) = (1 ≤ w) × (w ≤ 8) × (w ≤ 7 + (k - room)) × (low ≤ p) × (p ≤ end)
+RefusalInside low end room k (wrong w p) = (1 ≤ w) × (w ≤ 8) × (w ≤ 7 + (k - room)) × (low ≤ p) × (p < end)
 
 -- the top-level expression of a token at place q begins between the same two
-began-inside : (low end from q d : ℕ) → low ≤ from → from ≤ end → low ≤ q → q ≤ end → (low ≤ began d from q) × (began d from q ≤ end)
-began-inside low end from q d a b c e = by-test (λ (x : ℕ). (low ≤ x) × (x ≤ end)) (eqb d 0) (λ t. (c, e)) (λ t. (a, b))
+began-inside : (low end from q d : ℕ) → low ≤ from → (0 < d → from < end) → low ≤ q → q < end → (low ≤ began d from q) × (began d from q < end)
+began-inside low end from q d a b c e =
+    by-test (λ (x : ℕ). (low ≤ x) × (x < end)) (eqb d 0) (λ t. (c, e)) (λ t. (a, b (let some = eqb-false d 0 t in omega arith)))
 
 module _ (low end room k : ℕ) where
-  pub check-refusal : (ts : List Token) (from p d n : ℕ) → low ≤ from → from ≤ end → low ≤ p → Laid p ts end → n + length ts ≤ k
+  pub check-refusal : (ts : List Token) (from p d n : ℕ) → low ≤ from → (0 < d → from < end) → low ≤ p → Laid p ts end → n + length ts ≤ k
       → RefusalInside low end room k (check from room ts d n)
   unfolding check
-  check-refusal [] from p d n a b c l h = by-test (RefusalInside low end room k) (eqb d 0) (λ e. tt) (λ e. omega arith)
+  check-refusal [] from p d n a b c l h =
+      by-test (RefusalInside low end room k) (eqb d 0) (λ e. tt) (λ e. let some = eqb-false d 0 e in let inside = b (omega arith) in omega arith)
   check-refusal (opening q ∷ ts) from p d n a b c l h =
       let here = laid-inside (q + 1) ts end (l .1) in
       let start = began-inside low end from q d a b (omega (arith, l .0)) (omega arith) in
       by-test (RefusalInside low end room k) (leb 64 d) (λ e. omega (arith, l .0)) λ e.
       by-test (RefusalInside low end room k) (leb room n) (λ e. omega (arith, l .0, leb-true room n e)) λ e.
-      check-refusal ts (began d from q) (q + 1) (d + 1) (n + 1) (start .0) (start .1) (omega (arith, l .0)) (l .1) (omega arith)
+      check-refusal ts (began d from q) (q + 1) (d + 1) (n + 1) (start .0) (λ z. start .1) (omega (arith, l .0)) (l .1) (omega arith)
   check-refusal (closing q ∷ ts) from p d n a b c l h =
       let here = laid-inside (q + 1) ts end (l .1) in
       by-test (RefusalInside low end room k) (eqb d 0) (λ e. omega (arith, l .0)) λ e.
-      check-refusal ts from (q + 1) (d - 1) n a b (omega (arith, l .0)) (l .1) (omega arith)
+      check-refusal ts from (q + 1) (d - 1) n a (λ z. b (omega arith)) (omega (arith, l .0)) (l .1) (omega arith)
   check-refusal (whole x q e ∷ ts) from p d n a b c l h =
       let here = laid-inside e ts end (l .4) in
       by-test (RefusalInside low end room k) (leb room n) (λ t. omega (arith, leb-true room n t, l .0, l .1)) λ t.
       check-refusal ts from e d (n + 1) a b (omega (arith, l .0, l .1)) (l .4) (omega arith)
   check-refusal (unfinished q ∷ ts) from p d n a b c l h =
-      let start = began-inside low end from q d a b (omega (arith, l .0)) (omega (arith, l .1)) in omega (arith, start .0, start .1)
+      let start = began-inside low end from q d a b (omega (arith, l .0)) (l .1) in omega (arith, start .0, start .1)
   check-refusal (bad w q ∷ ts) from p d n a b c l h = omega (arith, l .0, l .1, l .2, l .3)
 
 -- Rows enough

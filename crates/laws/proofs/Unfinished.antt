@@ -36,7 +36,7 @@ not-first true w q p v h e = absurd (h (cc))
 not-first false w q p v h e = (refl, e)
 
 from-bad-above : {p b w q : ℕ} {s : List ℕ} → From p b s (bad w q) → 4 ≤ w
-from-bad-above {b = b} {s = s} (from-bad w t e) = (rw e at (off-atom b s)) .1
+from-bad-above {b = b} {s = s} (from-bad w t e) = (rw e at (off-atom b s)) .2
 
 from-unfinished : {p b q : ℕ} {s : List ℕ} → From p b s (unfinished q) → q ≡ p
 from-unfinished (from-cut-off e) = refl
@@ -159,4 +159,4 @@ read-longest s room p b h k inside can =
     let behind-k : check k more-rows (tokens k 0 y) 0 (rows-all es) ≡ wrong 2 p =
     check-top k 0 more-rows (tokens k 0 y) (rows-all es) ∙ sym (simp zero-add at (rw (size, take-append-drop k s) at pass)) ∙ refusal in
     let laid : Laid k (tokens k 0 y) (k + length y) = subst (λ (q : ℕ). Laid q (tokens k 0 y) (k + length y)) (omega arith) (tokens-laid y k 0 (bytes-back x y bytes) (omega arith)) in
-    (rw behind-k at (check-refusal k (k + length y) more-rows (rows-all es + length (tokens k 0 y)) (tokens k 0 y) k k 0 (rows-all es) (omega arith) (omega arith) (omega arith) laid (omega arith))) .3
+    (rw behind-k at (check-refusal k (k + length y) more-rows (rows-all es + length (tokens k 0 y)) (tokens k 0 y) k k 0 (rows-all es) (omega arith) (λ z. omega arith) (omega arith) laid (omega arith))) .3
