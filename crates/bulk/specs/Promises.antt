@@ -9,6 +9,7 @@ use Rattle.spec.specs.Expr.{Exprs, append, size}
 use Rattle.spec.specs.Reading.{Row, row-width, refused, readable, read}
 use Rattle.spec.specs.Calls.{Answer, Read, Item}
 use Rattle.laws.specs.Demands.{Begins, Lent, evaluation, meaning-of, bytes-of-first}
+use Rattle.laws.specs.Parts.{moved}
 use Rattle.laws.specs.Backlogs.{Night, backlog, stream-at, left-by-lengths, said-of}
 use Rattle.bulk.specs.Answers.{Answered, AnsweredEvaluation, AnsweredBacklog, asked, PartItself}
 use Rattle.bulk.specs.declared.Answer.{Answer as Given}
@@ -73,14 +74,16 @@ abbrev pub passes-on : List ℕ → Given → ℕ
 passes-on s (Accepted given) = length s
 passes-on s (Refused number place) = place
 
--- what was accepted in one call with n rows, read in two: the first p bytes of s; and its others, with the bytes that follow
+-- what was accepted in one call with n rows, read in two: the first p bytes of s; and its others, with the bytes that follow. The rows of the one call are
+-- those of the two, the second's moved
 pub record ReadInTurn (s next table : List ℕ) (x : Call (Read (s ++ next) table)) (n p : ℕ) : Type 0 where
   pub first : ℕ
   pub others : ℕ
   pub counts : n ≡ first + others
   pub front : (y : Call (Read (take p s) table))
       → (y .answer ≡ Accepted first) × (take (row-width * first) (y .table) ≡ take (row-width * first) (x .table))
-  pub back : (z : Call (Read (drop p s ++ next) table)) → z .answer ≡ Accepted others
+  pub back : (z : Call (Read (drop p s ++ next) table))
+      → (z .answer ≡ Accepted others) × (moved p first (take (row-width * others) (z .table)) ≡ take (row-width * others) (drop (row-width * first) (x .table)))
   pub means : meaning-of (s ++ next) ≡ append (meaning-of (take p s)) (meaning-of (drop p s ++ next))
 
 -- a call of `item` with two lent buffers, and the part that it gave

@@ -2,14 +2,15 @@
 -- what Item gives spells the expression that was asked for. Document 01: "Table", "Item". Assumes nothing.
 use Prim.Native.Nat.{ℕ, zero, suc, _+_, _≤_, _<_}
 use mathlib.Core.Path.{_≡_, refl, sym, ap, _∙_}
-use mathlib.Core.List.{List, [], _∷_, _++_, append-assoc, append-nil}
+use mathlib.Core.List.{List, [], _∷_, _++_, append-assoc, append-nil, map, map-append}
 use native.Mathlib.Omega.{arith}
 use lib.ListN.{length, drop, length-append}
 use lib.Seq.{drop-at}
 use Rattle.spec.specs.Expr.{Expr, atom, form, Exprs, none, more, size, first, without, rows, rows-all}
-use Rattle.spec.specs.Reading.{Token, closing, tokens, Row, ends, rows-of}
+use Rattle.spec.specs.Reading.{Token, closing, tokens, Row, atom-kind, ends, rows-of}
 use Rattle.spec.specs.Calls.{Buffer, no-part, row-at, item}
 use Rattle.laws.specs.Grammar.{Spells, SpellsAll, SpellsItem, expr-rows, all-rows}
+use Rattle.laws.proofs.Rows.{shifted}
 use Rattle.laws.proofs.Reading.{form-end, expr-tokens, all-tokens, tokens-expr, tokens-all}
 
 -- the ends of forms that are still open are not changed by whole expressions
@@ -65,13 +66,37 @@ pub rows-before : (es : Exprs) (x : List ℕ) (sp : SpellsAll es x) (p : ℕ) (s
     → rows-of (tokens p 0 (x ++ s)) ≡ all-rows es x sp p ++ rows-of (tokens (p + length x) 0 s)
 rows-before es x sp p s = rw (tokens-all es x sp p s) (all-tokens-rows es x sp p _)
 
--- the rows of a stream that spells expressions
-pub spelled-rows : (es : Exprs) (s : List ℕ) (sp : SpellsAll es s) → rows-of (tokens 0 0 s) ≡ all-rows es s sp 0
+-- the rows of bytes that spell expressions, from place p on
+rows-from : (es : Exprs) (s : List ℕ) (sp : SpellsAll es s) (p : ℕ) → rows-of (tokens p 0 s) ≡ all-rows es s sp p
 unfolding rows-of tokens
-spelled-rows es s sp =
-    ap (λ (x : List ℕ). rows-of (tokens 0 0 x)) (sym (append-nil s))
-    ∙ rows-before es s sp 0 []
-    ∙ append-nil (all-rows es s sp 0)
+rows-from es s sp p =
+    ap (λ (x : List ℕ). rows-of (tokens p 0 x)) (sym (append-nil s)) ∙ rows-before es s sp p [] ∙ append-nil (all-rows es s sp p)
+
+pub spelled-rows : (es : Exprs) (s : List ℕ) (sp : SpellsAll es s) → rows-of (tokens 0 0 s) ≡ all-rows es s sp 0
+spelled-rows es s sp = rows-from es s sp 0
+
+-- they are those of the bytes alone, moved by p
+mutual
+  unfolding expr-rows
+
+  expr-shifted : (e : Expr) (x : List ℕ) (sp : Spells e x) (p q : ℕ) → expr-rows e x sp (p + q) ≡ map (shifted p) (expr-rows e x sp q)
+  expr-shifted (atom a) x sp p q = ap (λ (n : ℕ). record { kind = atom-kind a; start = p + q; end = n } ∷ []) (omega arith)
+  expr-shifted (form es) x sp p q =
+      let next : p + q + 1 ≡ p + (q + 1) = omega arith in
+      let end : p + q + length x ≡ p + (q + length x) = omega arith in
+      rw (next, end, all-shifted es (sp .0) (sp .2) p (q + 1))
+
+  all-shifted : (es : Exprs) (x : List ℕ) (sp : SpellsAll es x) (p q : ℕ) → all-rows es x sp (p + q) ≡ map (shifted p) (all-rows es x sp q)
+  all-shifted none x sp p q = refl
+  all-shifted (more e es) x sp p q =
+      let next : p + q + length (sp .0) ≡ p + (q + length (sp .0)) = omega arith in
+      rw (next, expr-shifted e (sp .0) (sp .3) p q, all-shifted es (sp .1) (sp .4) p (q + length (sp .0)))
+      (sym (map-append (shifted p) (expr-rows e (sp .0) (sp .3) q) (all-rows es (sp .1) (sp .4) (q + length (sp .0)))))
+
+pub rows-shifted : (es : Exprs) (s : List ℕ) → SpellsAll es s → (p : ℕ) → rows-of (tokens p 0 s) ≡ map (shifted p) (rows-of (tokens 0 0 s))
+rows-shifted es s sp p =
+    let place : p ≡ p + 0 = omega arith in
+    rows-from es s sp p ∙ ap (all-rows es s sp) place ∙ all-shifted es s sp p 0 ∙ ap (map (shifted p)) (sym (spelled-rows es s sp))
 
 -- Item
 

@@ -3,7 +3,7 @@
 use Prim.Native.Nat.{ℕ, _+_, _-_, _*_, _/_, _≤_, _<_, max}
 use mathlib.Core.Path.{_≡_, refl, sym, ap, _∙_, subst}
 use mathlib.Core.Logic.{_⊎_, inl, inr}
-use mathlib.Core.List.{List, [], _∷_, _++_, append-assoc, append-nil}
+use mathlib.Core.List.{List, [], _∷_, _++_, append-assoc, append-nil, map}
 use lib.ListN.{length, take, drop, length-append, take-append-drop}
 use lib.Seq.{take-length, take-at, drop-at}
 use native.Mathlib.Omega.{arith}
@@ -13,14 +13,14 @@ use Rattle.spec.specs.Reading.{tokens, right, wrong, check, lists, Row, rows-of
 use Rattle.spec.specs.Calls.{Answer, refusal, acceptance, filled, reading, Read}
 use Rattle.laws.specs.Demands.{Bytes, row-numbers, meaning-of, CanRead}
 use Rattle.laws.specs.Grammar.{SpellsAll}
-use Rattle.laws.specs.Parts.{LongestFront, RightSoFar, passed-on, InTwoParts, joined, passed, held-back, AllAnswered, PassedInOrder}
+use Rattle.laws.specs.Parts.{LongestFront, RightSoFar, passed-on, moved, InTwoParts, joined, passed, held-back, AllAnswered, PassedInOrder}
 use Rattle.laws.proofs.Fits.{bytes-front, bytes-back, bytes-append, bytes-drop}
-use Rattle.laws.proofs.Tokens.{Right, right-tokens, tokens-laid, Laid, tokens-few}
-use Rattle.laws.proofs.Rows.{rows-few, rows-room, right-room, rows-ordered, rows-inside, numbers-first}
-use Rattle.laws.proofs.Reading.{stream-laid, read-readable, readable-read, read-refused, read-enough, meant, check-all, read-spelled}
+use Rattle.laws.proofs.Tokens.{tokens-few}
+use Rattle.laws.proofs.Rows.{rows-few, rows-inside, shifted, numbers-joined}
+use Rattle.laws.proofs.Reading.{stream-laid, read-readable, readable-read, read-refused, read-enough, meant, read-spelled}
 use Rattle.laws.proofs.Parsing.{read-spells}
 use Rattle.laws.proofs.Steps.{none-left}
-use Rattle.laws.proofs.Items.{rows-before, spelled-rows}
+use Rattle.laws.proofs.Items.{rows-before, spelled-rows, rows-shifted}
 use Rattle.laws.proofs.Prefixes.{Parted, parted}
 use Rattle.laws.proofs.Unfinished.{read-wrong, wrong-read, read-before, read-longest}
 use Rattle.laws.proofs.Calls.{read-cases, filled-numbers}
@@ -69,29 +69,22 @@ reads-joined x y room room′ k b c r q l h =
     let whole = reads-spelled (append es fs) (x ++ y) k sp (omega (arith, deepest-append es fs, m .shallow, n .shallow)) l (omega (arith, rows-append es fs)) in
     (whole .0, sym (whole .1))
 
--- the rows of a stream that can be read, in front of the others: their numbers are those of the stream alone
-record RowsFirst (x y : List ℕ) : Type 0 where
-  others : List Row
-  first : numbers (rows-of (tokens 0 0 (x ++ y))) (rows-of (tokens 0 0 (x ++ y)))
-      ≡ numbers (rows-of (tokens 0 0 x)) (rows-of (tokens 0 0 x)) ++ numbers (rows-of (tokens 0 0 (x ++ y))) others
+-- the numbers of its rows
+abbrev row-numbers-of : List ℕ → List ℕ
+row-numbers-of s = numbers (rows-of (tokens 0 0 s)) (rows-of (tokens 0 0 s))
 
-rows-first : (x y : List ℕ) (room : ℕ) → Bytes x → Bytes y → Reads x room → Reads (x ++ y) room → RowsFirst x y
-rows-first x y room b c r q =
+-- of two streams that can be read, one behind the other
+rows-joined : (x y : List ℕ) (room : ℕ) → Bytes x → Bytes y → Reads x room → Reads y room
+    → row-numbers-of (x ++ y) ≡ row-numbers-of x ++ moved (length x) (length (rows-of (tokens 0 0 x))) (row-numbers-of y)
+rows-joined x y room b c r q =
     let es = meaning-of x in
-    let m = meant x room _ es b r in
     let sp = read-spells x room _ es b r in
     let own = rows-of (tokens 0 0 x) in
-    let others = rows-of (tokens (length x) 0 y) in
-    let whole = read-readable (x ++ y) room _ _ q .well in
-    let pass = check-all room es x sp 0 0 0 0 y (omega (arith, m .shallow)) (omega (arith, m .roomy)) in
-    let behind : Right room (tokens (length x) 0 y) 0 (rows-all es) =
-    right-tokens 0 room _ 0 _ (sym (simp zero-add at pass) ∙ right-room whole 0 room (rows-room whole (omega arith))) in
-    let laid : Laid (length x) (tokens (length x) 0 y) (length x + length y) =
-    subst (λ (p : ℕ). Laid p (tokens (length x) 0 y) (length x + length y)) (omega arith) (tokens-laid y (length x) 0 c (omega arith)) in
-    let split : rows-of (tokens 0 0 (x ++ y)) ≡ own ++ others = (simp zero-add at (rows-before es x sp 0 y)) ∙ ap (λ (l : List Row). l ++ others) (sym (spelled-rows es x sp)) in
-    let numbers-split = numbers-first (length x) own others (rows-ordered (length x + length y) behind (length x) laid)
-    (rows-inside (length x) (read-readable x room _ _ r .well) 0 (stream-laid x b)) in
-    record { others = others; first = rw split numbers-split }
+    let others = rows-of (tokens 0 0 y) in
+    let split : rows-of (tokens 0 0 (x ++ y)) ≡ own ++ map (shifted (length x)) others =
+    (simp zero-add at (rows-before es x sp 0 y))
+    ∙ rw (← spelled-rows es x sp) (ap (λ (l : List Row). own ++ l) (rows-shifted (meaning-of y) y (read-spells y room _ (meaning-of y) c q) (length x))) in
+    rw split (numbers-joined (length x) own others (rows-inside (length x) (read-readable x room _ _ r .well) 0 (stream-laid x b)))
 
 -- a stream is read with so many rows, and all of its bytes with it, or refused by 2 at p
 abbrev AnsweredAt : List ℕ → ℕ → ℕ → Type 0
@@ -104,7 +97,7 @@ record ReadParts (s u : List ℕ) (room : ℕ) (x y : List ℕ) : Type 0 where
   front : Reads x room
   back : Reads (y ++ u) room
   means : meaning-of (s ++ u) ≡ append (meaning-of x) (meaning-of (y ++ u))
-  rows : RowsFirst x (y ++ u)
+  rows : row-numbers-of (s ++ u) ≡ row-numbers-of x ++ moved (length x) (length (rows-of (tokens 0 0 x))) (row-numbers-of (y ++ u))
   counts : length (rows-of (tokens 0 0 (s ++ u))) ≡ length (rows-of (tokens 0 0 x)) + length (rows-of (tokens 0 0 (y ++ u)))
 
 module _ (s u : List ℕ) (room : ℕ) (stream : Bytes (s ++ u)) (reads : Reads (s ++ u) room) where
@@ -163,7 +156,7 @@ module _ (s u : List ℕ) (room : ℕ) (stream : Bytes (s ++ u)) (reads : Reads 
         front = front .0;
         back = back .0;
         means = means;
-        rows = rows-first first-bytes (left-bytes ++ u) room front-bytes back-bytes (front .0) (subst (λ (l : List ℕ). Reads l room) all-is reads);
+        rows = rw all-is (rows-joined first-bytes (left-bytes ++ u) room front-bytes back-bytes (front .0) (back .0));
         counts = omega (
           arith,
           m .counted,
@@ -226,12 +219,11 @@ module _ (s next t : List ℕ) where
   two-parts x y r reads =
       let first-is : take (length x) s ≡ x = ap (take (length x)) (r .is) ∙ take-at x y (length x) refl in
       let left-is : drop (length x) s ≡ y = ap (drop (length x)) (r .is) ∙ drop-at x y (length x) refl in
-      let all-is : s ++ next ≡ x ++ (y ++ next) = ap (λ (l : List ℕ). l ++ next) (r .is) ∙ append-assoc x y next in
-      let all-rows = accepts-rows (s ++ next) t reads ∙ ap (λ (l : List ℕ). numbers (rows-of (tokens 0 0 l)) (rows-of (tokens 0 0 l))) all-is ∙ r .rows .first in
+      let whole-rows = accepts-rows (s ++ next) t reads ∙ r .rows in
       record {
         front = rw first-is (ap (λ (a : Answer). a .number) (accepts x t (r .front)));
         back = rw left-is (ap (λ (a : Answer). a .number) (accepts (y ++ next) t (r .back)));
-        rows = rw first-is (record { back = _; is = all-rows ∙ ap (λ (l : List ℕ). l ++ numbers (rows-of (tokens 0 0 (x ++ (y ++ next)))) (r .rows .others)) (sym (accepts-rows x t (r .front))) });
+        rows = rw (first-is, left-is, accepts-rows x t (r .front), accepts-rows (y ++ next) t (r .back), accepts x t (r .front)) whole-rows;
         counts = rw (first-is, left-is, accepts (s ++ next) t reads, accepts x t (r .front), accepts (y ++ next) t (r .back)) (r .counts);
         means = rw (first-is, left-is) (r .means);
       }
@@ -251,17 +243,22 @@ module _ (s next t : List ℕ) where
 
 -- and back: two streams that can be read make one, with bytes and rows enough
 
-pub parts-joined : (x y t : List ℕ) → Bytes x → Bytes y → Read x t .number ≡ 0 → Read y t .number ≡ 0 → length (x ++ y) ≤ 65536
-    → row-width * (Read x t .given + Read y t .given) ≤ length t → (Read (x ++ y) t .number ≡ 0) × (meaning-of (x ++ y) ≡ append (meaning-of x) (meaning-of y))
-parts-joined x y t b c h k short room =
-    let rows-there : ℕ = length t / row-width in
-    let r = accepted-reads x t b h in
-    let q = accepted-reads y t c k in
-    let given = rw (accepts x t r, accepts y t q) at room in
-    let m = meant x rows-there _ _ b r in
-    let n = meant y rows-there _ _ c q in
-    let j = reads-joined x y rows-there rows-there rows-there b c r q short (omega (arith, given, m .counted, n .counted)) in
-    (ap (λ (a : Answer). a .number) (accepts (x ++ y) t (j .0)), j .1)
+module _ (x y t : List ℕ) (b : Bytes x) (c : Bytes y) (front : Read x t .number ≡ 0) (back : Read y t .number ≡ 0) (short : length (x ++ y) ≤ 65536) where
+  pub parts-joined : row-width * (Read x t .given + Read y t .given) ≤ length t
+      → (Read (x ++ y) t .number ≡ 0) × (meaning-of (x ++ y) ≡ append (meaning-of x) (meaning-of y))
+      × (row-numbers (Read (x ++ y) t) ≡ row-numbers (Read x t) ++ moved (length x) (Read x t .given) (row-numbers (Read y t)))
+  parts-joined room =
+      let rows-there : ℕ = length t / row-width in
+      let r = accepted-reads x t b front in
+      let q = accepted-reads y t c back in
+      let given = rw (accepts x t r, accepts y t q) at room in
+      let m = meant x rows-there _ _ b r in
+      let n = meant y rows-there _ _ c q in
+      let j = reads-joined x y rows-there rows-there rows-there b c r q short (omega (arith, given, m .counted, n .counted)) in (
+        ap (λ (a : Answer). a .number) (accepts (x ++ y) t (j .0)),
+        j .1,
+        rw (accepts-rows (x ++ y) t (j .0), accepts-rows x t r, accepts-rows y t q, accepts x t r) (rows-joined x y rows-there b c r q),
+      )
 
 -- "So a queue can hold back the bytes from p on and give them to the next part": in however many parts a stream that can be read is given, what is
 -- passed on is its meaning, and nothing is held back at last.

@@ -1,8 +1,9 @@
 -- Laws of `rows-of`, for tokens that are right and laid out: how many rows there are, that they stand in the order of their starts, and
 -- that each starts before it ends and ends in the stream. And laws of `next-row` and `numbers`, for any rows. Document 01: "Table". Assumes nothing.
 use Prim.Native.Nat.{ℕ, zero, suc, _+_, _-_, _*_, _≤_, _<_}
-use mathlib.Core.Path.{_≡_, refl, ap, _∙_}
-use mathlib.Core.List.{List, [], _∷_, _++_}
+use mathlib.Core.Path.{_≡_, refl, _∙_}
+use mathlib.Core.List.{List, [], _∷_, _++_, map}
+use mathlib.Core.Bool.{Bool, true, false}
 use lib.ListN.{length, drop, getD, length-drop, List·getD-append}
 use lib.Dec.{leb}
 use borrow.Author.Tests.{leb-true, leb-false, le-leb, lt-leb, ne-eqb}
@@ -10,6 +11,7 @@ use native.Mathlib.Omega.{arith}
 use Rattle.spec.specs.Expr.{Expr, atom, form, Exprs, rows, rows-all}
 use Rattle.spec.specs.Reading.{Token, opening, closing, whole, unfinished, bad, right, began, check, put, wrap, lists, Row, ends, rows-of, row-width, next-row, numbers}
 use Rattle.laws.specs.Sanity.{Inside, FirstFrom}
+use Rattle.laws.specs.Parts.{moved}
 use Rattle.laws.proofs.Basics.{by-test}
 use Rattle.laws.proofs.Tokens.{Right, at-end, opens, closes, stands, Laid}
 
@@ -133,25 +135,59 @@ unfolding next-row
 next-row-here e [] o = refl
 next-row-here e (r ∷ rs) o = rw (le-leb e (r .start) (o .0))
 
--- Rows in front of others that start at e or after it, and end no later: their numbers do not depend on the others
+-- Rows behind others
 
-next-row-before : (e x : ℕ) (rs qs : List Row) → Ordered e qs → x ≤ e → next-row x (rs ++ qs) ≡ next-row x rs
+-- a row as it is behind p bytes
+abbrev pub shifted : ℕ → Row → Row
+shifted p r = record { kind = r .kind; start = p + r .start; end = p + r .end }
+
+leb-shifted : (p a b : ℕ) → leb (p + a) (p + b) ≡ leb a b
+leb-shifted p a b = go (leb a b) refl
+  where
+    go : (c : Bool) → leb a b ≡ c → leb (p + a) (p + b) ≡ leb a b
+    go true e = rw e (le-leb (p + a) (p + b) (omega (arith, leb-true a b e)))
+    go false e = rw e (lt-leb (p + a) (p + b) (omega (arith, leb-false a b e)))
+
+next-row-shifted : (p e : ℕ) (qs : List Row) → next-row (p + e) (map (shifted p) qs) ≡ next-row e qs
 unfolding next-row
-next-row-before e x [] qs o h = next-row-here x qs (ordered-from-lower x e qs h o)
-next-row-before e x (r ∷ rs) qs o h = rw (next-row-before e x rs qs o h)
+next-row-shifted p e [] = refl
+next-row-shifted p e (r ∷ qs) = rw (leb-shifted p e (r .start), next-row-shifted p e qs)
 
-numbers-before : (e : ℕ) (all rs qs : List Row) → Ordered e qs → Inside e rs → numbers (all ++ qs) rs ≡ numbers all rs
-unfolding numbers
-numbers-before e all [] qs o i = refl
-numbers-before e all (r ∷ rs) qs o i = rw (next-row-before e (r .end) all qs o (i .1), numbers-before e all rs qs o (i .2))
+-- rows of the first p bytes, and the others
+module _ (p : ℕ) (qs : List Row) where
+  next-row-before : (x : ℕ) (rs : List Row) → x ≤ p → next-row x (rs ++ map (shifted p) qs) ≡ next-row x rs
+  unfolding next-row
+  next-row-before x [] h = go qs
+    where
+      go : (qs : List Row) → next-row x (map (shifted p) qs) ≡ 0
+      go [] = refl
+      go (r ∷ qs) = rw (le-leb x (p + r .start) (omega arith))
+  next-row-before x (r ∷ rs) h = rw (next-row-before x rs h)
+
+  next-row-behind : (e : ℕ) (rs : List Row) → Inside p rs → next-row (p + e) (rs ++ map (shifted p) qs) ≡ length rs + next-row e qs
+  unfolding next-row
+  next-row-behind e [] i = next-row-shifted p e qs ∙ omega arith
+  next-row-behind e (r ∷ rs) i = rw (lt-leb (p + e) (r .start) (omega (arith, i .0, i .1))) (omega (arith, next-row-behind e rs (i .2)))
+
+  numbers-before : (all rs : List Row) → Inside p rs → numbers (all ++ map (shifted p) qs) rs ≡ numbers all rs
+  unfolding numbers
+  numbers-before all [] i = refl
+  numbers-before all (r ∷ rs) i = rw (next-row-before (r .end) all (i .1), numbers-before all rs (i .2))
+
+  numbers-behind : (all rs : List Row) → Inside p all → numbers (all ++ map (shifted p) qs) (map (shifted p) rs) ≡ moved p (length all) (numbers qs rs)
+  unfolding numbers moved
+  numbers-behind all [] i = refl
+  numbers-behind all (r ∷ rs) i = rw (next-row-behind (r .end) all i, numbers-behind all rs i)
 
 numbers-append : (all rs qs : List Row) → numbers all (rs ++ qs) ≡ numbers all rs ++ numbers all qs
 unfolding numbers
 numbers-append all [] qs = refl
 numbers-append all (r ∷ rs) qs = rw (numbers-append all rs qs)
 
-pub numbers-first : (e : ℕ) (rs qs : List Row) → Ordered e qs → Inside e rs → numbers (rs ++ qs) (rs ++ qs) ≡ numbers rs rs ++ numbers (rs ++ qs) qs
-numbers-first e rs qs o i = numbers-append (rs ++ qs) rs qs ∙ ap (λ (l : List ℕ). l ++ numbers (rs ++ qs) qs) (numbers-before e rs rs qs o i)
+-- the numbers of both
+pub numbers-joined : (p : ℕ) (rs qs : List Row) → Inside p rs
+    → let all = rs ++ map (shifted p) qs in numbers all all ≡ numbers rs rs ++ moved p (length rs) (numbers qs qs)
+numbers-joined p rs qs i = numbers-append (rs ++ map (shifted p) qs) rs (map (shifted p) qs) ∙ rw (numbers-before p qs rs rs i, numbers-behind p qs rs qs i)
 
 -- Rows by their numbers; `other` is the row that `getD` gives past the last
 

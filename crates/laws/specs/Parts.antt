@@ -8,7 +8,7 @@ use lib.ListN.{length, take, drop}
 use lib.Dec.{eqb}
 use Rattle.spec.specs.Expr.{if_then_else_, Exprs, none, append}
 use Rattle.spec.specs.Calls.{Answer, Read}
-use Rattle.laws.specs.Demands.{Begins, row-numbers, meaning-of, CanRead}
+use Rattle.laws.specs.Demands.{row-numbers, meaning-of, CanRead}
 use Rattle.laws.specs.Grammar.{SpellsAll}
 
 -- The first p bytes of a stream can be read, with that table, and are whole top-level expressions; of more of its bytes this is not so, with
@@ -27,12 +27,21 @@ RightSoFar a = (a .number ≡ 0) ⊎ (a .number ≡ 2)
 abbrev pub passed-on : List ℕ → Answer → ℕ
 passed-on s a = if eqb (a .number) 0 then length s else a .place
 
+-- the numbers of rows as they are behind p bytes and k rows: places are counted from the first byte of all, and rows from the first of all
+unfoldable pub moved : ℕ → ℕ → List ℕ → List ℕ
+moved p k [] = []
+moved p k (kind ∷ []) = []
+moved p k (kind ∷ start ∷ []) = []
+moved p k (kind ∷ start ∷ end ∷ []) = []
+moved p k (kind ∷ start ∷ end ∷ next ∷ ns) = kind ∷ (p + start) ∷ (p + end) ∷ (k + next) ∷ moved p k ns
+
 -- A stream and the bytes that follow it, read in two parts: its first p bytes; and the others, which were held back, with those that follow.
--- Both can be read, and of the whole the same rows and the same meaning come first.
+-- Both can be read, and the rows and the meaning of the whole are those of the first, and then those of the second.
 pub record InTwoParts (s next table : List ℕ) (p : ℕ) : Type 0 where
   pub front : Read (take p s) table .number ≡ 0
   pub back : Read (drop p s ++ next) table .number ≡ 0
-  pub rows : Begins (row-numbers (Read (s ++ next) table)) (row-numbers (Read (take p s) table))
+  pub rows : row-numbers (Read (s ++ next) table)
+      ≡ row-numbers (Read (take p s) table) ++ moved p (Read (take p s) table .given) (row-numbers (Read (drop p s ++ next) table))
   pub counts : Read (s ++ next) table .given ≡ Read (take p s) table .given + Read (drop p s ++ next) table .given
   pub means : meaning-of (s ++ next) ≡ append (meaning-of (take p s)) (meaning-of (drop p s ++ next))
 
