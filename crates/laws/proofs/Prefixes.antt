@@ -192,8 +192,8 @@ module _ (room : ℕ) where
 
 -- Streams
 
--- Of bytes that spell expressions, those of s are read from place p on, with n rows taken: the first `whole` of them spell the expressions
--- that are whole in s, the others with t those that are left; and at the end of s nothing is open, or an expression is, which begins there.
+-- Of bytes that spell expressions, those of s are read from place p on, with n rows taken: `first` spells the expressions that are whole in
+-- s, and `left` with t those that are left; and at the end of s nothing is open, or an expression is, which begins behind `first`.
 pub record Parted (room from p n : ℕ) (es : Exprs) (s t : List ℕ) : Type 0 where
   pub es-first : Exprs
   pub es-left : Exprs
