@@ -8,7 +8,7 @@ use native.Mathlib.Omega.{arith}
 use Rattle.spec.specs.Expr.{Atom, Expr, atom, form, Exprs, none, size}
 use Rattle.spec.specs.Reading.{taken, read-atom, Token, opening, closing, whole, token, further, tokens, put, wrap, lists, Row, readable, read}
 use Rattle.laws.specs.Demands.{Bytes}
-use Rattle.laws.specs.Grammar.{Spells, SpellsAll}
+use Rattle.laws.specs.Grammar.{SpellsAtom, Spells, SpellsAll}
 use Rattle.laws.proofs.Basics.{impossible}
 use Rattle.laws.proofs.Fits.{bytes-back}
 use Rattle.laws.proofs.Spelling.{atom-taken}
@@ -64,8 +64,28 @@ from-opening (from-01 h) = (h, refl)
 pub from-closing : {p b q : ℕ} {s : List ℕ} → From p b s (closing q) → b ≡ 0x02
 from-closing (from-02 h) = h
 
-pub from-whole : {p b q k : ℕ} {s : List ℕ} {a : Atom} → From p b s (whole a q k) → (t : List ℕ) × (read-atom b s ≡ taken a t)
+from-whole : {p b q k : ℕ} {s : List ℕ} {a : Atom} → From p b s (whole a q k) → (t : List ℕ) × (read-atom b s ≡ taken a t)
 from-whole (from-atom a t h) = (t, h)
+
+-- an atom that is the first token: the bytes that spell it, and those behind it
+pub record FirstAtom (p : ℕ) (s : List ℕ) (a : Atom) (ts : List Token) : Type 0 where
+  pub front : List ℕ
+  pub rest : List ℕ
+  pub is : s ≡ front ++ rest
+  pub spells : SpellsAtom a front
+  pub stream : Bytes rest
+  pub are : tokens (p + length front) 0 rest ≡ ts
+
+pub first-atom : (p : ℕ) (s : List ℕ) (a : Atom) (q k : ℕ) (ts : List Token) → Bytes s → tokens p 0 s ≡ whole a q k ∷ ts → FirstAtom p s a ts
+first-atom p s a q k ts b e =
+    let f = first-token p s _ ts e in
+    let bs : Bytes (f .0 ∷ f .1) = rw (f .2) at b in
+    let r = from-whole (f .3) in
+    let o = atom-taken (f .0) (f .1) a (r .0) (bs .0) (bs .1) (r .1) in
+    let x = o .front in
+    let same : s ≡ x ++ r .0 = f .2 ∙ o .is in
+    let split : whole a p (p + length x) ∷ tokens (p + length x) 0 (r .0) ≡ whole a q k ∷ ts = sym (tokens-atom a x (o .holds) p (r .0)) ∙ rw same at e in
+    record { front = x; rest = r .0; is = same; spells = o .holds; stream = bytes-back x (r .0) (rw same at b); are = cc }
 
 close-spells : (ls : List Exprs) (s : List ℕ) → SpellsLists ls s → SpellsLists (none ∷ ls) (0x02 ∷ s)
 close-spells [] s h = absurd h
@@ -85,16 +105,8 @@ tokens-spell (closes {ts} c) p s b e =
     let bs : Bytes (f .0 ∷ f .1) = rw (f .2) at b in
     rw (f .2, from-closing (f .3)) (close-spells (lists ts) (f .1) (tokens-spell c (p + 1) (f .1) (bs .1) (f .4)))
 tokens-spell (stands {ts} {a} {q} {e = k} h c) p s b e =
-    let f = first-token p s _ ts e in
-    let bs : Bytes (f .0 ∷ f .1) = rw (f .2) at b in
-    let r = from-whole (f .3) in
-    let o = atom-taken (f .0) (f .1) a (r .0) (bs .0) (bs .1) (r .1) in
-    let x = o .front in
-    let same : s ≡ x ++ r .0 = f .2 ∙ o .is in
-    let split : whole a p (p + length x) ∷ tokens (p + length x) 0 (r .0) ≡ whole a q k ∷ ts = sym (tokens-atom a x (o .holds) p (r .0)) ∙ rw same at e in
-    let rest : tokens (p + length x) 0 (r .0) ≡ ts = cc in
-    let inner = tokens-spell c (p + length x) (r .0) (bytes-back x (r .0) (rw same at b)) rest in
-    rw same (put-spells (atom a) x (o .holds) (lists ts) (r .0) inner)
+    let f = first-atom p s a q k ts b e in
+    rw (f .is) (put-spells (atom a) (f .front) (f .spells) (lists ts) (f .rest) (tokens-spell c (p + length (f .front)) (f .rest) (f .stream) (f .are)))
 
 pub read-spells : (s : List ℕ) (room : ℕ) (rs : List Row) (es : Exprs) → Bytes s → read s room ≡ readable rs es → SpellsAll es s
 read-spells s room rs es b h =

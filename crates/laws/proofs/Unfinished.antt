@@ -15,12 +15,11 @@ use Rattle.spec.specs.Reading.{Token, opening, closing, whole, unfinished, bad,
 use Rattle.laws.specs.Demands.{Bytes, meaning-of, CanRead}
 use Rattle.laws.proofs.Basics.{impossible, by-test}
 use Rattle.laws.proofs.Fits.{bytes-front, bytes-back}
-use Rattle.laws.proofs.Spelling.{atom-taken}
 use Rattle.laws.proofs.Atoms.{off-atom}
 use Rattle.laws.proofs.Tokens.{From, from-cut-off, from-bad, Right, at-end, opens, closes-some, stands, tokens-laid, Laid, check-refusal, check-more, check-top}
 use Rattle.laws.proofs.Rows.{right-room, rows-room}
 use Rattle.laws.proofs.Reading.{tokens-opening, tokens-closing, tokens-atom, readable-read, meant, check-all}
-use Rattle.laws.proofs.Parsing.{first-token, from-opening, from-closing, from-whole, read-spells}
+use Rattle.laws.proofs.Parsing.{first-token, from-opening, from-closing, first-atom, read-spells}
 
 -- Where 2 comes from
 
@@ -88,20 +87,13 @@ module _ (room : ℕ) where
       (λ y w. rw (tokens-closing q y) (closes-some d some w))
       (refused-by-2 ts from (q + 1) (f .1) (d - 1) n p (bs .1) (f .4) (top .1)))
   refused-by-2 (whole a r k ∷ ts) from q u d n p b e c =
-      let f = first-token q u _ ts e in
-      let bs : Bytes (f .0 ∷ f .1) = rw (f .2) at b in
-      let t = from-whole (f .3) in
-      let o = atom-taken (f .0) (f .1) a (t .0) (bs .0) (bs .1) (t .1) in
-      let x = o .front in
-      let same : u ≡ x ++ t .0 = f .2 ∙ o .is in
-      let split : whole a q (q + length x) ∷ tokens (q + length x) 0 (t .0) ≡ whole a r k ∷ ts = sym (tokens-atom a x (o .holds) q (t .0)) ∙ rw same at e in
-      let rest : tokens (q + length x) 0 (t .0) ≡ ts = cc in
+      let f = first-atom q u a r k ts b e in
       let full = not-first (leb room n) 8 r p _ (λ z. omega arith) c in
-      rw same
-      (next-begun from from q x (t .0) d d n (n + 1) p
+      rw (f .is)
+      (next-begun from from q (f .front) (f .rest) d d n (n + 1) p
       (λ h k. before h k)
-      (λ y w. rw (tokens-atom a x (o .holds) q y) (stands (leb-false room n (full .0)) w))
-      (refused-by-2 ts from (q + length x) (t .0) d (n + 1) p (bytes-back x (t .0) (rw same at b)) rest (full .1)))
+      (λ y w. rw (tokens-atom a (f .front) (f .spells) q y) (stands (leb-false room n (full .0)) w))
+      (refused-by-2 ts from (q + length (f .front)) (f .rest) d (n + 1) p (f .stream) (f .are) (full .1)))
   refused-by-2 (unfinished r ∷ ts) from q u d n p b e c =
       let f = first-token q u _ ts e in
       let place : began d from r ≡ p = cc in
