@@ -10,7 +10,7 @@ pub const STREAM_LIMIT: usize = 65536;
 const TOO_MANY: usize = STREAM_LIMIT + 1;
 
 // A row's first number.
-#[derive(Drop)]
+#[derive(Clone, Copy)]
 pub struct Kind;
 
 impl Kind {
@@ -25,7 +25,7 @@ impl Kind {
     pub const REFERENCE: u32 = 4;
 }
 
-#[derive(Drop)]
+#[derive(Clone, Copy)]
 pub enum Token {
     Opening,
     Closing,
@@ -38,7 +38,7 @@ pub enum Token {
 }
 
 // A length expression's number, held at `TOO_MANY`, and where the expression ends.
-#[derive(Drop)]
+#[derive(Clone, Copy)]
 enum Length {
     Is { value: usize, end: usize },
     // The stream ends inside it.

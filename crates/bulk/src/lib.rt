@@ -26,28 +26,28 @@ pub const WORKSPACE_LIMIT: usize = evaluator::WORKSPACE_LIMIT;
 pub const ANSWER_WIDTH: usize = 4;
 
 // What Read, Write and Backlog answer: the number of rows or the length, or a refusal's number and place.
-#[derive(Drop)]
+#[derive(Clone, Copy)]
 pub enum Answer {
     Accepted { given: usize },
     Refused { number: u32, place: usize },
 }
 
 // What Evaluate answers: the result's length and the steps taken, or a refusal's number and place.
-#[derive(Drop)]
+#[derive(Clone, Copy)]
 pub enum Evaluation {
     Accepted { length: usize, steps: u64 },
     Refused { number: u32, place: usize },
 }
 
 // Which of Item's two buffers.
-#[derive(Drop)]
+#[derive(Clone, Copy)]
 pub enum Buffer {
     Stream,
     Result,
 }
 
 // Where an item is in its buffer.
-#[derive(Drop)]
+#[derive(Clone, Copy)]
 pub enum Part {
     Of { start: usize, end: usize },
     Empty,
@@ -82,7 +82,7 @@ pub fn write(stream: &[u8], table: &mut [u32], output: &mut [u8]) -> Answer
             }
             // A stream that is as long as its canonical stream is that stream.
             if length == stream.len() {
-                bytes::copy(stream, output);
+                output[..stream.len()].copy_from_slice(stream);
                 return Answer::Accepted { given: length };
             }
             writer::emit(stream, output);
@@ -117,7 +117,7 @@ pub fn evaluate(
                             place: 0,
                         };
                     }
-                    bytes::copy(&workspace[..size], output);
+                    output[..size].copy_from_slice(&workspace[..size]);
                     Evaluation::Accepted {
                         length: size,
                         steps: taken,
@@ -148,7 +148,7 @@ fn is_23(buffer: &[u8], ends: &[u64], answers: &[u64]) -> bool
 }
 
 // What a backlog tells of a stream.
-#[derive(Drop)]
+#[derive(Clone, Copy)]
 struct Numbers {
     number: u64,
     place: u64,

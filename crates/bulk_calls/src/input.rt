@@ -8,7 +8,7 @@ pub const SOURCE_SIZE: usize = 4096;
 pub type Source = [u8; SOURCE_SIZE];
 
 // Where the input stands.
-#[derive(Drop)]
+#[derive(Clone, Copy)]
 pub struct Input {
     // The byte at hand; at the input's end a newline.
     pub byte: u8,

@@ -6,20 +6,20 @@ use crate::words;
 use crate::words::{ENDS_SIZE, Ends, KEPT_SIZE, Kept};
 
 // `stream`, `result`, `buffer` and `ends` are how many bytes or ends were written; other numbers are as written, or the largest of 64 bits.
-#[derive(Drop)]
+#[derive(Clone, Copy)]
 pub struct ReadRequest {
     pub stream: u64,
     pub table: u64,
 }
 
-#[derive(Drop)]
+#[derive(Clone, Copy)]
 pub struct WriteRequest {
     pub stream: u64,
     pub table: u64,
     pub output: u64,
 }
 
-#[derive(Drop)]
+#[derive(Clone, Copy)]
 pub struct EvaluateRequest {
     pub stream: u64,
     pub table: u64,
@@ -28,7 +28,7 @@ pub struct EvaluateRequest {
     pub steps: u64,
 }
 
-#[derive(Drop)]
+#[derive(Clone, Copy)]
 pub struct BacklogRequest {
     pub buffer: u64,
     pub ends: u64,
@@ -39,7 +39,7 @@ pub struct BacklogRequest {
     pub answers: u64,
 }
 
-#[derive(Drop)]
+#[derive(Clone, Copy)]
 pub struct ItemRequest {
     pub stream: u64,
     pub result: u64,
@@ -47,7 +47,7 @@ pub struct ItemRequest {
     pub k: u64,
 }
 
-#[derive(Drop)]
+#[derive(Clone, Copy)]
 pub enum Request {
     Read(ReadRequest),
     Write(WriteRequest),
@@ -60,14 +60,14 @@ pub enum Request {
 }
 
 // A line's request, and the input at the line's end.
-#[derive(Drop)]
+#[derive(Clone, Copy)]
 pub struct Line {
     pub request: Request,
     pub input: Input,
 }
 
 // The words for what every evaluation is lent, and the input behind them.
-#[derive(Drop)]
+#[derive(Clone, Copy)]
 struct Lent {
     table: u64,
     workspace: u64,

@@ -15,7 +15,7 @@ pub const ENDS_SIZE: usize = 2048;
 pub type Ends = [u64; ENDS_SIZE];
 
 // What a word says, and the input behind it.
-#[derive(Drop)]
+#[derive(Clone, Copy)]
 pub struct Word {
     pub value: u64,
     pub input: Input,

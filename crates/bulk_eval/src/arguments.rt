@@ -6,13 +6,13 @@ const STEPS: u64 = 1_000_000;
 // A longer word is no number.
 const WORD_SIZE: usize = 64;
 
-#[derive(Drop)]
+#[derive(Clone, Copy)]
 pub enum Bounds {
     Are { steps: u64, workspace: u64 },
     Malformed,
 }
 
-#[derive(Drop)]
+#[derive(Clone, Copy)]
 enum Word {
     Number(u64),
     Other,

@@ -91,14 +91,14 @@ pub fn name_list(s: &[u8], table: &mut [u32], list: usize) -> bool
 }
 
 // What an expression is in a flat list.
-#[derive(Drop)]
+#[derive(Clone, Copy)]
 pub enum Role {
     Operator { arity: usize },
     Operand,
 }
 
 // The arity lists that tell operators: the one at a row, or at row 0 all that are around.
-#[derive(Drop)]
+#[derive(Clone, Copy)]
 pub struct Arities {
     pub tree: usize,
 }

@@ -17,7 +17,7 @@ use rows::words::Core;
 use rows::{forms, table};
 
 // The row that comes next, and the arity list of the nearest `prefix*` form around it; 0 if there is none.
-#[derive(Drop)]
+#[derive(Clone, Copy)]
 struct Scan {
     row: usize,
     around: usize,

@@ -7,7 +7,7 @@ use crate::numbers;
 use rows::table;
 
 // Where a search by key ends: at the reference with that key, or where it would be put.
-#[derive(Drop)]
+#[derive(Clone, Copy)]
 pub enum Place {
     Taken { row: usize },
     Vacant { row: usize, bit: usize },

@@ -22,21 +22,21 @@ use workspace::values::{Out, State};
 use workspace::{made, packed, values};
 
 // An expression of a list: what it is, and its row.
-#[derive(Drop)]
+#[derive(Clone, Copy)]
 pub struct Element {
     pub node: Node,
     pub row: usize,
 }
 
 // What an expression leaves: the state or a refusal, and what is visible to what follows.
-#[derive(Drop)]
+#[derive(Clone, Copy)]
 pub struct Left {
     pub out: Out,
     pub scope: Scope,
 }
 
 // The values of a form's elements, which stand from `start` up to the top; and the form's row.
-#[derive(Drop)]
+#[derive(Clone, Copy)]
 pub struct Values {
     pub state: State,
     pub start: usize,
@@ -44,7 +44,7 @@ pub struct Values {
 }
 
 // After an expression's step: a refusal's number and row, or it is done, or a list is to be evaluated first, and what becomes of its values.
-#[derive(Drop)]
+#[derive(Clone, Copy)]
 pub enum Step {
     Refused(u32, usize),
     Leaves { state: State, scope: Scope },
@@ -138,7 +138,7 @@ fn row_of(table: &[u32], first: usize, steps: u64) -> usize
 }
 
 // A task, with the state before it and the row of the expression if it is an atom. Or a refusal's number and row.
-#[derive(Drop)]
+#[derive(Clone, Copy)]
 enum Decision {
     Task(State, Task, usize),
     Refused(u32, usize),

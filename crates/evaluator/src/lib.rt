@@ -23,7 +23,7 @@ pub const WORKSPACE_LIMIT: usize = 65536;
 const VERSION_ROWS: usize = 4;
 
 // The result's length and the steps taken, or a refusal.
-#[derive(Drop)]
+#[derive(Clone, Copy)]
 pub enum Result {
     Is { length: usize, steps: u64 },
     Refused { number: u32, place: usize },

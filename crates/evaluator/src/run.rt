@@ -18,7 +18,7 @@ use workspace::made;
 use workspace::values::{Out, State};
 
 // A form whose elements are evaluated: its row, where their values start, and what becomes of them.
-#[derive(Drop)]
+#[derive(Clone, Copy)]
 struct Open {
     row: usize,
     start: usize,

@@ -15,7 +15,7 @@ pub const STREAM_LIMIT: usize = atoms::STREAM_LIMIT;
 // The numbers of a row.
 pub const ROW_WIDTH: usize = 4;
 
-#[derive(Drop)]
+#[derive(Clone, Copy)]
 pub enum Checked {
     // How many rows the stream has, and the length of its canonical bytes.
     Right(usize, usize),
@@ -217,7 +217,7 @@ pub fn expression_end(s: &[u8], at: usize) -> usize
     }
 }
 
-#[derive(Drop)]
+#[derive(Clone, Copy)]
 pub enum Found {
     // Where the expression starts and ends.
     At(usize, usize),

@@ -12,7 +12,7 @@ use atoms::Kind;
 
 // The elements of a form: those from row `first` up to row `end`. In a flat list operators stand for the forms that are made of them and their
 // operands.
-#[derive(Drop)]
+#[derive(Clone, Copy)]
 pub struct Form {
     pub first: usize,
     pub end: usize,
@@ -20,14 +20,14 @@ pub struct Form {
 }
 
 // An atom, or a form.
-#[derive(Drop)]
+#[derive(Clone, Copy)]
 pub enum Node {
     Leaf,
     Branch(Form),
 }
 
 // How many elements a form has, 4 standing for more, and the rows of its second and third.
-#[derive(Drop)]
+#[derive(Clone, Copy)]
 pub struct Parts {
     pub count: usize,
     pub second: usize,

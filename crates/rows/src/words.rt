@@ -4,7 +4,7 @@ ghost use Rattle.spec.specs.Nodes.{plain, is, word};
 ghost use Rattle.rows.specs.Forms.{meant, reserved};
 
 // What a reference is as a head: one of the function names, or plain.
-#[derive(Drop)]
+#[derive(Clone, Copy)]
 pub enum Word {
     Ns,
     Define,
@@ -16,7 +16,7 @@ pub enum Word {
 }
 
 // Each name as the key of its reference: the marker times 256, plus the name's byte.
-#[derive(Drop)]
+#[derive(Clone, Copy)]
 pub struct Core;
 
 impl Core {

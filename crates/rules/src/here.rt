@@ -6,7 +6,7 @@ ghost use Rattle.rules.specs.Settings.{at_top_level, in_list_of, showing, in_cod
 use crate::scope::Scope;
 
 // What list an expression is an element of: the top level, a data form, or another.
-#[derive(Drop)]
+#[derive(Clone, Copy)]
 pub enum Within {
     Top,
     Element,
@@ -14,14 +14,14 @@ pub enum Within {
 }
 
 // How many codes are in progress, how many arguments the nearest has, and where in the workspace they end.
-#[derive(Drop)]
+#[derive(Clone, Copy)]
 pub struct Frame {
     pub depth: usize,
     pub count: usize,
     pub end: usize,
 }
 
-#[derive(Drop)]
+#[derive(Clone, Copy)]
 pub struct Here {
     pub scope: Scope,
     pub within: Within,

@@ -24,7 +24,7 @@ use rows::{arrays, forms, table};
 use workspace::packed;
 
 // What the values of a list are made into.
-#[derive(Drop)]
+#[derive(Clone, Copy)]
 pub enum Making {
     Form,
     Define { key: u32 },
@@ -32,7 +32,7 @@ pub enum Making {
 }
 
 // What becomes of the values of a list: they are made into others, or are the arguments of a code.
-#[derive(Drop)]
+#[derive(Clone, Copy)]
 pub enum After {
     Make(Making),
     Function { code: usize, visible: usize },
@@ -67,7 +67,7 @@ impl After {
     }
 }
 
-#[derive(Drop)]
+#[derive(Clone, Copy)]
 pub enum Task {
     // A refusal's number.
     Refuse(u32),

@@ -11,13 +11,13 @@ use crate::entries;
 use workspace::packed;
 
 // Of `definitions` and of `associations` the first so many are visible; the latest is the last.
-#[derive(Drop)]
+#[derive(Clone, Copy)]
 pub struct Scope {
     pub defined: usize,
     pub associated: usize,
 }
 
-#[derive(Drop)]
+#[derive(Clone, Copy)]
 pub enum Found {
     Value { from: usize, to: usize },
     Function { code: usize, visible: usize },

@@ -71,7 +71,7 @@ pub fn wrapped(w: &mut [u8], state: State, start: usize, from: usize, row: usize
     values::charged(state, n, start + n)
 }
 
-#[derive(Drop)]
+#[derive(Clone, Copy)]
 enum Bytes {
     Array { from: usize, to: usize },
     Other,

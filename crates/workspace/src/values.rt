@@ -13,7 +13,7 @@ use rows::forms::Form;
 use rows::{arrays, table};
 
 // Steps and workspace that are left, where the finished values end, and where the definitions' begin.
-#[derive(Drop)]
+#[derive(Clone, Copy)]
 pub struct State {
     pub steps: u64,
     pub room: usize,
@@ -22,7 +22,7 @@ pub struct State {
 }
 
 // The state that is left, or a refusal's number and row.
-#[derive(Drop)]
+#[derive(Clone, Copy)]
 pub enum Out {
     Done(State),
     Refused(u32, usize),
@@ -85,7 +85,7 @@ pub fn charged(state: State, n: usize, top: usize) -> Out
 }
 
 // The body of an atom of that kind: an array's bytes, or all bytes of another atom.
-#[derive(Drop)]
+#[derive(Clone, Copy)]
 struct Body {
     kind: u32,
     from: usize,

@@ -35,7 +35,9 @@ fn put_bytes(part: &[u8], out: &mut [u8], to: usize) -> usize
     requires { to + length part.now ≤ length out.old }
     ensures { Put out.old to part.now out.new result }
 {
-    to + bytes::copy(part, &mut out[to..])
+    let end = to + part.len();
+    out[to..end].copy_from_slice(part);
+    end
 }
 
 // Writes the head of an array of n bytes.
