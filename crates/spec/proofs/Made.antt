@@ -61,6 +61,8 @@ similar_map : {A : Type 0} (f : Part → A) (xs ys : List Element) → Similar x
     → map (λ (x : Element). f x.alone) xs ≡ map (λ (x : Element). f x.alone) ys
 similar_map f [] [] s = refl
 similar_map f (x ∷ xs) (y ∷ ys) s = rw (s.0, similar_map f xs ys s.2)
+similar_map {A = A} f [] (y ∷ ys) s = elim s [ ]
+similar_map {A = A} f (x ∷ xs) [] s = elim s [ ]
 
 similar_take : (m n : ℕ) (xs ys : List Element) → m ≤ length (take n xs) → Similar (take n xs) ys → Similar (take m xs) (take m ys)
 similar_take zero n xs ys l s = tt
@@ -71,6 +73,8 @@ similar_take (suc m) (suc n) (x ∷ xs) (y ∷ ys) l s = (
   (λ k u. s.1 k (omega (arith, length-take m xs))),
   similar_take m n xs ys (omega arith) s.2,
 )
+similar_take (suc m) (suc n) [] (y ∷ ys) l s = elim l [ ]
+similar_take (suc m) (suc n) (x ∷ xs) [] l s = elim s [ ]
 
 -- an operator that is not short has its operands
 enough : (os : List Operator) (k : ℕ) (xs : List Element) → short os k (nodes (parts xs)) ≡ false → k ≤ length xs
@@ -87,6 +91,9 @@ gathered_similar os zero (x ∷ xs) (y ∷ ys) s q =
     let one = operator_holds (λ p q n. n ≤ length xs → p ≡ q) x.leading y.leading x.alone x.alone s.1 (λ u. refl) os x.alone.node in
     rw (← s.0, one (enough os _ xs q), gathered_similar os _ xs ys s.2 q)
 gathered_similar os (suc k) (x ∷ xs) (y ∷ ys) s q = gathered_similar os k xs ys s.2 q
+gathered_similar os k [] (y ∷ ys) s q = elim s [ ]
+gathered_similar os zero (x ∷ xs) [] s q = elim s [ ]
+gathered_similar os (suc k) (x ∷ xs) [] s q = elim s [ ]
 
 -- what is asked of the elements of bytecode: whether an operator is short, the rows, what they are gathered to
 abbrev outcome_of : ℕ → Around → Bool → List ℕ → List Part → Outcome
@@ -114,6 +121,8 @@ arities_similar r around (x ∷ xs) (y ∷ ys) s = rw (← s.0) (go (operators x
     go : (a : Arities) → with_operators r around xs a ≡ with_operators r around ys a
     go (listed os) = outcome_similar r os _ xs ys s.2
     go ill_formed = refl
+arities_similar r around [] (y ∷ ys) s = elim s [ ]
+arities_similar r around (x ∷ xs) [] s = elim s [ ]
 
 headed_similar : (r : ℕ) (around : Around) (e : Part) (xs ys : List Element) → Similar xs ys → headed r e xs around ≡ headed r e ys around
 headed_similar r around e xs ys s =
