@@ -6,9 +6,9 @@ use Rattle.writer.proofs.put_bytes.Tie as tie
 
 returns : tie.Need-returns
 returns c =
-    let a = c.before.before.before.before.before.before.args in
+    let a = c.args in
     let e = c.before.before.copy.ensures in
-    rw (e.1, e.0) (copied a.out.now a.to a.part.now c.before.before.before.before.before.before.requires)
+    rw (e.1, e.0) (copied a.out.now a.to a.part.now c.requires)
 
 pub put_bytes_spec : {M : Type 1} → statement M
 put_bytes_spec =

@@ -11,5 +11,5 @@ is_made_spec =
     tie.close
     (tie.spec
     (λ c κs. search rules)
-    (λ c. rw (eq-eqb _ 0 (sym c.before.link.ensures ∙ c.if1.true)) (sym (and_false c.before.before.before.args.flat)))
-    (λ c. rw (ne_eqb _ 0 (λ e. c.if1.false (c.before.link.ensures ∙ e))) (sym (and-true c.before.before.before.args.flat))))
+    (λ c. rw (eq-eqb _ 0 (sym c.link.ensures ∙ c.if-link-eq0.true)) (sym (and_false c.args.flat)))
+    (λ c. rw (ne_eqb _ 0 (λ e. c.if-link-eq0.false (c.link.ensures ∙ e))) (sym (and-true c.args.flat))))
