@@ -3,11 +3,11 @@
 use Prim.Native.Nat.{ℕ, ◌+◌, ◌*◌, ◌-◌, ◌≤◌, min}
 use mathlib.Core.Path.{◌≡◌, refl, sym, ap, ◌∙◌}
 use mathlib.Core.List.{List}
-use mathlib.Core.Logic.{⊎_elim}
 use native.Mathlib.Omega.{arith}
 use lib.ListN.{take, drop, get_or}
 use Rattle.spec.specs.Reading.{natural}
 use Rattle.atoms.proofs.Places.{natural_held, natural_step, natural_end}
+use Rattle.atoms.proofs.number.Lts.{then-v-gt-TOO_MANY, else-v-gt-TOO_MANY}
 use Rattle.atoms.proofs.number.Statement.{statement}
 use Rattle.atoms.proofs.number.Tie as tie
 
@@ -29,7 +29,7 @@ loop-i-init c = record { begun = omega arith; inside = omega arith; small = omeg
 -- where the arms meet, `v` is the next number, held
 held : (c : tie.Joined-v-gt-TOO_MANY invariant-loop-i decreases-loop-i)
     → c.if-v-gt-TOO_MANY.v ≡ min (c.loop-i.v * 256 + get_or c.args.s.now c.loop-i.i 0) 65537
-held c = ⊎_elim (λ w. omega arith) (λ w. omega arith) c.if-v-gt-TOO_MANY.branch
+held c = elim c.if-v-gt-TOO_MANY.branch [ then-v-gt-TOO_MANY w ↦ omega arith | else-v-gt-TOO_MANY w ↦ omega arith ]
 
 loop-i-preserved : tie.Need-loop-i-preserved invariant-loop-i decreases-loop-i
 loop-i-preserved c =
