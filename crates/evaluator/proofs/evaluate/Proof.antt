@@ -44,7 +44,6 @@ restored c =
 -- the part of the workspace that counts
 sized : (c : tie.After-work_size-size) → length (take c.work_size-size.result c.args.work.now) ≡ c.work_size-size.result
 sized c =
-    let c.before.before.before.before.before.before.before.before.before.before = c.before.before.before.before.before.before.before.before.before.before in
     omega (arith, length-take c.work_size-size.result c.args.work.now, c.work_size-size.ensures)
 
 -- how the run ended, where that is this
@@ -132,10 +131,9 @@ evaluate_spec =
     (λ c. search rules)
     -- slice_bounds-evaluate_all-end slice_bounds-evaluate_all-end-2 evaluate_all-left-requires restore-requires enum_known-left start-requires refused-requires-in-Refused enum_known-left-in-Done-1
     (λ c.
-    let told = c.before.before in
-    let r = ran told.before.before.before.before in
+    let r = ran c.before.before.before.before in
     let has = (known (arranging r)).before.requires in
-    (ended r _ told.left2.given.1 has.before has.rows has.means has.is).fewer)
+    (ended r _ c.in-Done.is has.before has.rows has.means has.is).fewer)
     (λ c. search rules)
     (λ c. search rules)
     returns-in-Refused

@@ -50,8 +50,7 @@ is_versioned_spec =
     (tie.spec
     -- no row
     (λ c t rs es reads.
-    let known = c.before.before in
-    rw (read_once known.before.requires t rs es reads).1 (versioned_none _ _ _ _ (stream_nodes _ _ _ (bytes known) known.before.requires) c.if1.true))
+    rw (read_once c.requires t rs es reads).1 (versioned_none _ _ _ _ (stream_nodes _ _ _ (bytes c.before.before) c.requires) c.if-rows-eq0.true))
     (λ c κs. node_whole _ _ _ _ _ (first c).1)
     (λ c. search rules)
     (λ c. search rules)

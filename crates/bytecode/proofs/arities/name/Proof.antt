@@ -41,7 +41,6 @@ rows_inside : (c : tie.After-put_mark) → let last = c.in-Vacant.last in
     (row_width * last + row_width ≤ length c.put_mark.new.0) × (c.in-Vacant.bit < 2)
     × (c.args.row < 65536)
 rows_inside c =
-    let c.before.before = c.before.before in
     let given = c.requires in
     let at = sought_vacant given.0.2.lists.tree (vacancy c.before.before) in
     (rw c.put_mark.ensures.0.same_length at.2, at.3, (one_reference given.0.2 given.1).here.row.few)
@@ -51,8 +50,6 @@ put_there : (c : tie.After-put_child) → let a = c.args in let t = a.table.now 
     Changed t t' a.list (next t a.row) × ((e : Node) (os : List Operator) → Naming a.s.now t a.list a.row (next t a.row) os (cons e empty)
     → NamedBy a.s.now t' a.list (next t a.row) (series a.arity (cons e empty) os) true)
 put_there c =
-    let c.before.before.before.before.before.before = c.before.before.before.before.before.before in
-    let c.before.before.before.before.before.before.before.before.before.before.before.before.before.before.before = c.before.before.before.before.before.before.before.before.before.before.before.before.before.before.before in
     let given = c.requires in
     let r = one_reference given.0.2 given.1 in
     let key = key_at c.before.before.before.before.before.before.before.before in

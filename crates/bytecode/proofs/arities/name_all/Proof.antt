@@ -46,7 +46,6 @@ kind_is c = sym c.kind.ensures ∙ c.if-kind-ne-REFERENCE.false
 
 after : (c : tie.After-name invariant-loop-row decreases-loop-row) → let a = c.args in Changed a.table.now c.name.new.1.0 a.list a.end
 after c =
-    let c.before.before.before.before.before = c.before.before.before.before.before in
     changed_then c.loop-row.invariant.0 (changed_wider c.name.ensures.0 _ _ (omega arith) (given c.before.before.before.before).inside)
 
 pub name_all_spec : {M : Type 1} → statement M

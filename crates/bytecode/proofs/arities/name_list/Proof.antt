@@ -31,11 +31,10 @@ first c e l = left_first arities_folds (c.loop-row.invariant.1 e l) c.loop-row-t
 
 given : (c : tie.In-loop-row invariant-loop-row decreases-loop-row) → let loop = c.loop-row in
     First c.args.s.now loop.table c.args.list loop.row c.next-end.result arities (operators c.requires.0)
-given c = let c.before.before.before.before.before.before.before.before.before = c.before.before.before.before.before.before.before.before.before in first c c.requires.0 c.requires.1
+given c = first c c.requires.0 c.requires.1
 
 after : (c : tie.After-entry invariant-loop-row decreases-loop-row) → let a = c.args in Changed a.table.now c.entry.new.1.0 a.list c.next-end.result
 after c =
-    let c.before.before = c.before.before in
     changed_then c.loop-row.invariant.0 (changed_wider c.entry.ensures.0 _ _ (omega arith) (given c.before.before).inside)
 
 -- the row behind the form is still that

@@ -39,7 +39,6 @@ left : (c : tie.After-switch invariant-loop-list decreases-loop-list) → let a 
     × ((n : ℕ) → n ≡ link c.switch.new.1.0 c.loop-list.list
     → Reached a.s.now a.table.now c.switch.new.1.0 a.row a.around out n)
 left c out a =
-    let c.before.before.before.before.before = c.before.before.before.before.before in
     let l = c.loop-list.invariant out a in
     let ended = rw c.link.ensures at c.if-row-link.false in
     let w = c.switch.ensures in

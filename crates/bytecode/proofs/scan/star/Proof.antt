@@ -46,12 +46,11 @@ put_link-requires-2 c κs =
 -- before the list is entered
 left : (c : tie.After-switch-arg-1) → let a = c.args in (es : Nodes) (out : Around) → HeadedAt a.s.now a.table.now a.form es
     → StarOn a.s.now c.star_flat-refusal.new.1.0 a.form out es
-left c es out h = let c.before.before.before.before.before.before.before.before.before.before.before.before.before.before.before.before.before = c.before.before.before.before.before.before.before.before.before.before.before.before.before.before.before.before.before in star_on _ _ _ out es (arity_list es) _ refl (c.star_flat-refusal.ensures.1 es out h) c.if-refusal-ne0.false
+left c es out h = star_on _ _ _ out es (arity_list es) _ refl (c.star_flat-refusal.ensures.1 es out h) c.if-refusal-ne0.false
 
 all_put : (c : tie.After-switch-arg-1) → let a = c.args in
     StarPut c.star_flat-refusal.new.1.0 c.put_link-2.new.0 a.form a.around
 all_put c =
-    let c.before.before.before.before.before.before.before.before.before.before.before.before.before.before.before.before.before = c.before.before.before.before.before.before.before.before.before.before.before.before.before.before.before.before.before in
     let a = c.args in
     let verdict = c.put_verdict.ensures in
     let head = c.put_link.ensures in

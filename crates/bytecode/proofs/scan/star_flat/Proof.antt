@@ -22,13 +22,11 @@ Headed c es = let a = (start c).args in HeadedAt a.s.now a.table.now a.form es
 given : (c : tie.Else-not-name_list) (es : Nodes) → Headed c.before.before.before es → let a = (start c.before.before.before).args in
     StarGiven a.s.now a.table.now c.name_list.new.1.0 a.form es
 given c es h =
-    let c.before.before.before = c.before.before.before in
     star_given _ _ _ _ c.name_list.result c.name_list.ensures.1 es h c.if-form-list.false (not-false _ c.if-not-name_list.false)
 
 named : (c : tie.Else-not-name_list) (es : Nodes) → (h : Headed c.before.before.before es) → let a = (start c.before.before.before).args in
     StarNamed a.s.now a.table.now c.name_list.new.1.0 a.form (given c es h).given (given c es h).rest
 named c es h =
-    let c.before.before.before = c.before.before.before in
     let g = given c es h in
     star_named (start c.before.before.before).args.form g.given g.list g.rest (rw g.is at h) c.name_list.ensures.0 g.lists
 

@@ -64,7 +64,6 @@ told : {end : ℕ} {fs : List Frame} (c : tie.After-head_key-key) → let n = ne
     (h : Found (start n).args.s.now n.nearest.last.1.0 (start n).args.scan.row n.nearest.result end fs)
     → HeadKey c.head_key-key.result (form_here _ _ (start n).args.scan _ _ _ few h _ (seen c.before)).elements
 told c few h =
-    let c.before.before.before = c.before.before.before in
     let n = near c.before in
     let known = n.before.before.before in
     let head = form_head _ _ (start n).args.scan _ _ _ few h _ (seen c.before) in

@@ -30,7 +30,6 @@ decides : (c : tie.After-decided-decision) → let a = (start c.before.before).a
     (bound : ℕ) (e : Node) (h : Here) → Begins c.before.before bound e h
     → Decided a.s.now a.table.now bound a.w.now (view a.associations.now a.definitions.now a.here.scope) a.here.scope a.state a.e.row e h c.decided-decision.result
 decides c bound e h b =
-    let c.before.before = c.before.before in
     c.decided-decision.ensures bound (start c.before.before).args.w.now (start c.before.before).args.state e h (taken c.before.before).0 (taken c.before.before).1 b
 
 decided-decision-requires : tie.Need-decided-decision-requires

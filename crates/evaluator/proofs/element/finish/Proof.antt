@@ -41,21 +41,19 @@ finish_spec =
     (omega (arith, c.before.before.stored.ensures.floor, can.0), omega (arith, fits.below, fits.short)))
     -- `add` wrapped-requires
     (λ c κs.
-    let told = c.before.before.before.before.before.before.before in
-    let some = told.before.before.before.before.requires in
-    (can_define (rw told.making.given.1 at some.by) some.finishing).1)
+    let some = c.requires in
+    (can_define (rw c.before.before.before.before.before.before.before.making.given.1 at some.by) some.finishing).1)
     (λ c κs. search rules)
     (λ c. search rules)
     -- returns-in-Form stored-stored-requires pack-part-requires
     (λ c.
     let wrapped = c.before.before.before.wrapped in
-    let told = c.before.before.before.before.before in
-    let row = told.before.before.before.before.args.values.row in
-    (rw (c.leaves.ensures, told.enum_told.given.1) (form_finished _ wrapped.new.0 _ _ _ _ row wrapped.result wrapped.ensures), λ numbers. refl))
+    let row = c.args.values.row in
+    (rw (c.leaves.ensures, c.before.before.before.before.before.enum_told.given.1) (form_finished _ wrapped.new.0 _ _ _ _ row wrapped.result wrapped.ensures), λ numbers. refl))
     (λ c. search rules)
     -- returns-in-Form shape_of-w-in-Concat
     (λ c.
-    let told = c.before.before.before.before.before.enum-told2.given.1 in
-    (rw (c.leaves2.ensures, told) (concat_finished _ _ _ _ _ _ _ _ c.before.before.before.joined.ensures), λ numbers. refl))
+    let told = c.in-Concat.is in
+    (rw (c.leaves-in-Concat.ensures, told) (concat_finished _ _ _ _ _ _ _ _ c.joined.ensures), λ numbers. refl))
     (λ c. search rules)
     returns-in-Define)

@@ -79,7 +79,7 @@ returns-then-here-ge256 c definitions args r q es at =
 
 -- whether it is code
 is_code : (c : tie.After-is_subst) → (e : Node) → NodeAt (s (o c.before.before.before.before)) (t (o c.before.before.before.before)) false (p (o c.before.before.before.before)).third e → headed_by subst e ≡ c.is_subst.result
-is_code c e at = let c.before.before.before.before = c.before.before.before.before.before.before.before.before in headed c.word_at-word.result subst e c.is_subst.ensures (c.word_at-word.ensures e at)
+is_code c e at = headed c.word_at-word.result subst e c.is_subst.ensures (c.word_at-word.ensures e at)
 
 returns-then-is_subst : tie.Need-returns-then-is_subst
 returns-then-is_subst c definitions args r q es at =
@@ -105,7 +105,7 @@ definition_spec =
     (λ c κs. let at = c.requires.2.1 in
     (node_whole _ _ _ _ _ (two_at _ _ _ _ _ _ at (c.parts-p.ensures _ _ at) c.if-p-ne3.false).one).0)
     (λ c definitions args r q es at w st h set.
-    rw (define_refused _ _ _ _ es _ at (c.before.before.before.before.parts.ensures _ es at) h (λ n k v l f. c.if2.true (c.before.kind.ensures ∙ k))) (refuses 11))
+    rw (define_refused _ _ _ _ es _ at (c.parts-p.ensures _ es at) h (λ n k v l f. c.if-kind-ne-REFERENCE.true (c.kind.ensures ∙ k))) (refuses 11))
     (λ c κs. (_, (some_right c).there))
     (λ c κs. search rules)
     returns-then-is_rest

@@ -54,7 +54,6 @@ done : (c : tie.After-look_up) (f : Found) → c.look_up.result ≡ f → let i 
     (associations args : List ℕ) (place : ℕ) (a : Atom) → At c.before.before.before.before a
     → Answers i.s.now i.table.now args (view associations i.definitions.now i.here.scope) i.here i.row (leaf place a) (plan (leaf place a)) (reference_task f)
 done c f is associations args place a l w st h set =
-    let c.before.before.before.before = c.before.before.before.before in
     let r = reference c.before.before.before.before a l in
     let k = rw r.2 at l in
     let key = c.key-key.ensures _ _ k in

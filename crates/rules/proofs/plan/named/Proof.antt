@@ -46,7 +46,6 @@ found : (c : tie.After-look_up) {es : Nodes} → let a = (start c.before.before.
     (l : Led c.before.before.before es) (w : List ℕ) (floor : ℕ) (ds : Definitions) → Shows a.s.now a.table.now w floor (latest a.definitions.now a.here.scope.defined) ds
     → Answers a.s.now a.table.now w floor (latest a.definitions.now a.here.scope.defined) c.look_up.result (look_up l.marker l.name ds)
 found c l w floor ds shows =
-    let c.before.before.before = c.before.before.before in
     rw (← c.key-key.ensures _ _ l.here, ← c.look_up.ensures) at (answers _ _ w floor l.marker l.name (fits c.before.before.before l) _ ds shows)
 
 look_up-requires : tie.Need-look_up-requires

@@ -80,7 +80,6 @@ answered : (c : tie.After-clash) (clashing full : Bool) → c.clash.result ≡ c
     → Answers i.s.now i.table.now args (view i.associations.now definitions i.here.scope) i.here r (branch i.row es) (λ h. plan_ns h.within es h)
     (if clashing then Refuse 14 else if full then Refuse 19 else Ns i.form (c.key-marker.result / 256) (id stream c.body-from.result (c.end-to.result - c.body-from.result)))
 answered c clashing full is counted definitions args r es at led =
-    let c.before.before.before.before.before = c.before.before.before.before.before in
     let g = right c.before.before.before.before.before.before.before es at in
     let bytes = all_bytes (s c.before.before.before.before.before.before.before) (λ i. (c.shared_slice_known-1.given i).fits) in
     ns_answers g bytes _ _ _ (c.key-marker.ensures _ _ g.reference) (c.body-from.ensures _ g.array_there) c.end-to.ensures (omega arith) (omega arith) _ _ definitions _ (start c.before.before.before.before.before.before.before).requires.0 at led
@@ -99,11 +98,11 @@ namespace_spec =
     (λ c definitions args r es at led. ns_refuses _ _ _ _ es _ at (c.parts-p.ensures _ es at) c.requires.0 (λ n r bs l low high. c.if-p-ne3.true n))
     (λ c κs. (node_whole _ _ _ _ _ (some_two c).one).0)
     (λ c definitions args r es at led.
-    ns_refuses _ _ _ _ es _ at (c.before.before.before.before.parts.ensures _ es at) c.before.before.before.before.before.before.before.requires.0 (λ n r bs l low high. c.if2.true (c.before.kind.ensures ∙ r)))
+    ns_refuses _ _ _ _ es _ at (c.parts-p.ensures _ es at) c.requires.0 (λ n r bs l low high. c.if-kind-ne-REFERENCE.true (c.kind.ensures ∙ r)))
     (λ c κs. (node_whole _ _ _ _ _ (some_two c.before.before).two).0)
     (λ c definitions args r es at led.
-    ns_refuses _ _ _ _ es _ at (c.before.before.before.before.before.before.parts.ensures _ es at) c.before.before.before.before.before.before.before.before.before.requires.0
-    (λ n r bs l low high. c.if3.true (c.before.kind2.ensures ∙ l.row.kind_is)))
+    ns_refuses _ _ _ _ es _ at (c.parts-p.ensures _ es at) c.requires.0
+    (λ n r bs l low high. c.if-kind-ne-ARRAY.true (c.kind-2.ensures ∙ l.row.kind_is)))
     (λ c κs. (some_right c).array_there.row.inside)
     (λ c κs. let g = some_right c.before in (g.id, g.array_there))
     (λ c. let g = some_right c.before.before in (part c g.id g.array_there).0)
@@ -115,4 +114,4 @@ namespace_spec =
     (λ c. answered c.before.before.before false true c.if-clash.false (le-leb 64 _ c.if-scope-ge64.true))
     id-id-requires
     (λ c definitions args r es at led.
-    rw c.id.ensures (answered c.before.before.before.before false false c.before.before.before.if6.false (lt-leb 64 _ c.before.if7.false) definitions args r es at led)))
+    rw c.id-id.ensures (answered c.before.before.before.before false false c.if-clash.false (lt-leb 64 _ c.if-scope-ge64.false) definitions args r es at led)))

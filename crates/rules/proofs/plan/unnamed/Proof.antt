@@ -82,7 +82,7 @@ unnamed_spec =
     (λ c κs. search rules)
     (λ c κs. search rules)
     (λ c associations definitions args r q es at w st h set.
-    let none = nodes_done _ _ _ _ _ es at (at_end c.before.before.is-empty.ensures c.before.if1.true) in
+    let none = nodes_done _ _ _ _ _ es at (at_end c.is_empty.ensures c.if-is_empty.true) in
     rw (c.make.ensures, none) (data_planned _ _ (rw none at at)))
     (λ c κs. more_whole _ _ _ _ (some_first c))
     (λ c. search rules)

@@ -46,13 +46,10 @@ role_spec =
     (λ c κs. search rules)
     (λ c. search rules)
     (λ c os e l w.
-    let told = c.before.before in
-    let key = told.before.before.before.before in
-    let row = told.before.named.given.0.0 in
-    let t = key.before.before.before.before.before.args.table.now in
-    c.role_by.ensures ∙ ap role_by c.before.mark.ensures ∙ sym (role_some t row (sought_some (found told)))
-    ∙ ap (role_at t) (sym (sought_found l.tree (found told))) ∙ sym (l.roles key.key.result) ∙ role_of_it key os e w)
+    let row = c.in-Taken.named in
+    let t = c.args.table.now in
+    c.role_by.ensures ∙ ap role_by c.mark.ensures ∙ sym (role_some t row (sought_some (found c.before.before)))
+    ∙ ap (role_at t) (sym (sought_found l.tree (found c.before.before))) ∙ sym (l.roles c.key.result) ∙ role_of_it c.before.before.before.before os e w)
     (λ c os e l w.
-    let key = c.before.before.before in
-    let t = key.before.before.before.before.before.args.table.now in
-    ap (role_at t) (sym (sought_found l.tree (rw c.enum_told.given.1 at c.before.before.seek.ensures))) ∙ sym (l.roles key.key.result) ∙ role_of_it key os e w))
+    let t = c.args.table.now in
+    ap (role_at t) (sym (sought_found l.tree (rw c.in-Vacant.is at c.seek.ensures))) ∙ sym (l.roles c.key.result) ∙ role_of_it c.before.before os e w))
