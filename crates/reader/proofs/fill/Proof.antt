@@ -61,7 +61,7 @@ end_row-requires : tie.Need-end_row-requires invariant-loop-at decreases-loop-at
 end_row-requires c κs = (at_closing c.before).1
 
 loop-at-preserved-in-Closing : tie.Need-loop-at-preserved-in-Closing invariant-loop-at decreases-loop-at
-loop-at-preserved-in-Closing c = rw c.before.before.End-row.ensures (at_closing c.before.before.before.before).2
+loop-at-preserved-in-Closing c = rw c.end_row.ensures (at_closing c.before.before.before.before).2
 
 start_row-requires-in-Whole : tie.Need-start_row-requires-in-Whole invariant-loop-at decreases-loop-at
 start_row-requires-in-Whole c κs = (at_whole c.before).2
