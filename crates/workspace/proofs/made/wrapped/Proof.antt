@@ -24,7 +24,7 @@ shallow-requires c κs =
 sized : (c : tie.Else-not-shallow) → let a = c.args in (vs : Exprs) → Stand a.w.now a.from a.state.top vs
     → FitsAll vs → Sized (only (form vs)) (a.state.top - a.from + 2)
 sized c vs there fits =
-    form_sized vs _ (omega (arith, stand_size there)) (leb-true (deepest vs) 63 (sym (c.shallow.ensures vs (stand_part there) fits) ∙ not-false _ c.if-not-shallow.false))
+    form_sized vs _ (omega (arith, stand_size there)) (leb-true (deepest vs) 63 (sym (c.shallow.ensures vs (stand_part there) fits) ∙ c.if-not-shallow.false))
 
 returns : tie.Need-returns
 returns c vs there fits =
@@ -43,7 +43,7 @@ wrapped_spec =
     (λ c. search rules)
     shallow-requires
     (λ c. search rules)
-    (λ c vs there fits. form_deep vs (leb-false (deepest vs) 63 (sym (c.shallow.ensures vs (stand_part there) fits) ∙ not-true _ c.if-not-shallow.true)))
+    (λ c vs there fits. form_deep vs (leb-false (deepest vs) 63 (sym (c.shallow.ensures vs (stand_part there) fits) ∙ c.if-not-shallow.true)))
     (λ c. search rules)
     (λ c. search rules)
     (λ c. search rules)
@@ -53,7 +53,7 @@ wrapped_spec =
     (λ c. search rules)
     (λ c. search rules)
     (λ c. search rules)
-    (λ c. simp length-set (omega (arith, c.move_bytes.auto.0)))
+    (λ c. simp length-set (omega (arith, c.move_bytes.auto.w)))
     (λ c. search rules)
     (λ c κs. search rules)
     (λ c. search rules)

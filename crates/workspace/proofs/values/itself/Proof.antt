@@ -23,17 +23,14 @@ decreases-loop-row s table w₀ state place top room end row₀ n₀ w row n = e
 
 -- the next of the atoms, if they are these
 module _ (c : tie.In-loop-row invariant-loop-row decreases-loop-row) where
-  abbrev start : tie.Start invariant-loop-row decreases-loop-row
-  start = c.before.before.before.before.before.before
-
-  next : (es : Nodes) → let a = start.args in let l = c.before.loop in NodesAt a.s.now a.table.now false a.range.first a.range.end es → Atoms es
+  next : (es : Nodes) → let a = c.args in let l = c.loop-row in NodesAt a.s.now a.table.now false a.range.first a.range.end es → Atoms es
       → AtomNext a.s.now a.table.now a.w.now l.w a.state.top l.n l.row a.range.end es
   next es at atoms =
-      let inv = c.before.loop.invariant in
-      atoms_next (inv.3 es at atoms) (omega (arith, inv.1, start.pre.0.paid, start.pre.0.below)) c.loop-test.true
+      let inv = c.loop-row.invariant in
+      atoms_next (inv.3 es at atoms) (omega (arith, inv.1, c.requires.0.paid, c.requires.0.below)) c.loop-row-test.true
 
-  some : (a : Atom) × LeafAt start.args.s.now start.args.table.now c.before.loop.row a
-  some = let a = next _ start.pre.1.at start.pre.1.atoms in (a.own, a.leaf)
+  some : (a : Atom) × LeafAt c.args.s.now c.args.table.now c.loop-row.row a
+  some = let a = next _ c.requires.1.at c.requires.1.atoms in (a.own, a.leaf)
 
 returns-then-room-n : tie.Need-returns-then-room-n invariant-loop-row decreases-loop-row
 returns-then-room-n c es at atoms =
