@@ -129,8 +129,11 @@ finish-code-requires t c =
 
 pub finish-returns-in-Make : goal.finish-returns-in-Make
 finish-returns-in-Make t c =
-    let f = c.finish in (
-      ends_as _ _ _ _ _ _ _ _ _ _ f.result refl c.in-Make.is (making_ends _ _ _ _ _ f.result (λ codes. f.ensures.0 _ _ _ (run_code codes))),
+    let a = c.args in
+    let f = c.finish in
+    let see : Scope → View = view a.associations.now f.new.definitions in (
+      ends_as a.s.now a.table.now a.w.now f.new.w (view a.associations.now a.definitions.now a.here.scope) see a.here a.values.start a.values.row a.after f.result refl
+          c.in-Make.is (making_ends a.values.state a.values.start f.new.w see a.values.row f.result (λ codes. f.ensures.0 _ _ _ (run_code codes))),
       f.ensures.1 _,
     )
 
