@@ -65,24 +65,22 @@ start-requires c κs =
     rw (restored c.before.before.before, has.filled_in) (filled_whole has.rows has.before _ (omega (arith, stops.1, has.counted)))
 
 returns-in-Refused : tie.Need-returns-in-Refused
-returns-in-Refused c =
-    (
-      restored c.before.before.before.before.before,
-      λ t out rs es reads fills.
-          let has = c.requires in
-          let stops = ended c.before.before.before.before.before.before.before.before.before _ c.in-Refused.is t rs es reads in
-          rw c.refused-in-Refused.ensures
-          (answer_stopped _ t _ out _ rs es reads (all_bytes _ (λ i. (c.shared_slice_known-1.given i).fits)) (ap not (rw c.has_version.ensures at c.if-not-has_version.false)) _ c.work_size-size.ensures _ (rw (read_once has t rs es reads).0 has.counted) _ _ _
-          stops (rw (restored c.before.before.before.before.before, fills) at c.start.ensures)),
-    )
+returns-in-Refused c = (
+  restored c.before.before.before.before.before,
+  λ t out rs es reads fills.
+      let has = c.requires in
+      let stops = ended c.before.before.before.before.before.before.before.before.before _ c.in-Refused.is t rs es reads in
+      rw c.refused-in-Refused.ensures
+      (answer_stopped _ t _ out _ rs es reads (all_bytes _ (λ i. (c.shared_slice_known-1.given i).fits)) (ap not (rw c.has_version.ensures at c.if-not-has_version.false)) _ c.work_size-size.ensures _ (rw (read_once has t rs es reads).0 has.counted) _ _ _
+      stops (rw (restored c.before.before.before.before.before, fills) at c.start.ensures)),
+)
 
 returns-in-Done : tie.Need-returns-in-Done
-returns-in-Done c =
-    (
-      restored c.before.before.before.before,
-      λ t out rs es reads fills.
-          answer_done _ t _ out _ rs es reads (all_bytes _ (λ i. (c.shared_slice_known-1.given i).fits)) (ap not (rw c.has_version.ensures at c.if-not-has_version.false)) _ c.work_size-size.ensures _ _ (ended c.before.before.before.before.before.before.before.before _ c.in-Done.is t rs es reads),
-    )
+returns-in-Done c = (
+  restored c.before.before.before.before,
+  λ t out rs es reads fills.
+      answer_done _ t _ out _ rs es reads (all_bytes _ (λ i. (c.shared_slice_known-1.given i).fits)) (ap not (rw c.has_version.ensures at c.if-not-has_version.false)) _ c.work_size-size.ensures _ _ (ended c.before.before.before.before.before.before.before.before _ c.in-Done.is t rs es reads),
+)
 
 pub evaluate_spec : {M : Type 1} → statement M
 evaluate_spec =

@@ -30,9 +30,9 @@ loop-row-preserved c =
     let e = c.loop-row.invariant in
     let within = (row_inside c.before.before).0 in
     elim c.if-kind-eq-REFERENCE.branch [
-      then-kind-eq-REFERENCE w ↦ rw w.table-is (switching_on e within w.switch_one.ensures)
-    | else-kind-eq-REFERENCE w ↦
-      rw w.table-is (switching_skip e within (λ h. w.if-kind-eq-REFERENCE.false (c.kind.ensures ∙ ((switching_aside e c.requires).same_rows c.loop-row.row).same_kind ∙ h)))
+      | then-kind-eq-REFERENCE w ↦ rw w.table-is (switching_on e within w.switch_one.ensures)
+      | else-kind-eq-REFERENCE w ↦
+          rw w.table-is (switching_skip e within (λ h. w.if-kind-eq-REFERENCE.false (c.kind.ensures ∙ ((switching_aside e c.requires).same_rows c.loop-row.row).same_kind ∙ h)))
     ]
 
 returns : tie.Need-returns invariant-loop-row decreases-loop-row

@@ -24,13 +24,12 @@ put_verdict-requires c κs =
     )
 
 returns-then-refusal-ne0 : tie.Need-returns-then-refusal-ne0
-returns-then-refusal-ne0 c =
-    (
-      form_marked c.requires.0.1 c.star_flat-refusal.ensures.0 c.put_verdict.ensures.0 c.put_verdict.ensures.2,
-      (λ es out h r. star_refused _ _ c.args.form out es c.put_verdict.new.table _ (arity_list es) _ (c.star_flat-refusal.ensures.1 es out h) c.if-refusal-ne0.true
-          (c.put_verdict.ensures.1 ∙ rw (ne_eqb c.star_flat-refusal.result 0 c.if-refusal-ne0.true))
-          (around_later _ (written_order _ _ _ _ es h.fresh.written) (around_later _ (omega arith) (nested_around h r c.star_flat-refusal.ensures.0 c.put_verdict.ensures.0)))),
-    )
+returns-then-refusal-ne0 c = (
+  form_marked c.requires.0.1 c.star_flat-refusal.ensures.0 c.put_verdict.ensures.0 c.put_verdict.ensures.2,
+  (λ es out h r. star_refused _ _ c.args.form out es c.put_verdict.new.table _ (arity_list es) _ (c.star_flat-refusal.ensures.1 es out h) c.if-refusal-ne0.true
+      (c.put_verdict.ensures.1 ∙ rw (ne_eqb c.star_flat-refusal.result 0 c.if-refusal-ne0.true))
+      (around_later _ (written_order _ _ _ _ es h.fresh.written) (around_later _ (omega arith) (nested_around h r c.star_flat-refusal.ensures.0 c.put_verdict.ensures.0)))),
+)
 
 put_link-requires : tie.Need-put_link-requires
 put_link-requires c κs =

@@ -37,11 +37,10 @@ returns-then-form-list : tie.Need-returns-then-form-list
 returns-then-form-list c = (changed_none _ _ _, λ es out h. star_bare _ _ _ es out h c.if-form-list.true)
 
 returns-then-not-name_list : tie.Need-returns-then-not-name_list
-returns-then-not-name_list c =
-    (
-      changed_wider c.name_list.ensures.0 _ _ (omega arith) (list_within _ _ _ c.requires.0 c.requires.1 c.if-form-list.false).1,
-      λ es out h. star_ungiven _ _ _ _ c.name_list.result c.name_list.ensures.1 es out h c.if-not-name_list.true,
-    )
+returns-then-not-name_list c = (
+  changed_wider c.name_list.ensures.0 _ _ (omega arith) (list_within _ _ _ c.requires.0 c.requires.1 c.if-form-list.false).1,
+  λ es out h. star_ungiven _ _ _ _ c.name_list.result c.name_list.ensures.1 es out h c.if-not-name_list.true,
+)
 
 next-requires : tie.Need-next-requires
 next-requires c κs = let pre = c.requires in (named c.before pre.0 pre.1).lists.tree.inside

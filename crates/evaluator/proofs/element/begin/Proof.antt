@@ -14,7 +14,6 @@ use Rattle.evaluator.proofs.element.begin.Tie as tie
 
 -- the step is taken
 module _ (c : tie.In-Done) where
-
   taken : let a = c.args in (c.in-Done.stepped ≡ stepped a.state) × (0 < a.state.steps)
   taken = begin_some _ _ (sym c.step.ensures ∙ c.in-Done.is)
 

@@ -116,7 +116,7 @@ finish-function-requires t c =
     let a = c.args in (
       omega (arith, c.decreases),
       subst (SomeEnding a.s.now a.table.now a.w.now (view a.associations.now a.definitions.now a.here.scope) a.values.state a.here a.values.start)
-      c.in-Function.is c.requires,
+          c.in-Function.is c.requires,
     )
 
 pub finish-code-requires : goal.finish-code-requires
@@ -124,7 +124,7 @@ finish-code-requires t c =
     let a = c.args in (
       omega (arith, c.decreases),
       subst (SomeEnding a.s.now a.table.now a.w.now (view a.associations.now a.definitions.now a.here.scope) a.values.state a.here a.values.start)
-      c.in-Code.is c.requires,
+          c.in-Code.is c.requires,
     )
 
 pub finish-returns-in-Make : goal.finish-returns-in-Make
@@ -226,11 +226,11 @@ list-loop-row-preserved t c =
     let left = c.expression-left in
     let see : Scope → View = view left.new.associations left.new.definitions in
     let Listed : Type 0 =
-        SomeReady a.s.now a.table.now a.w.now a.args.now (view a.associations.now a.definitions.now a.here.scope) a.state a.here a.form.flat a.form.first a.form.end in
+    SomeReady a.s.now a.table.now a.w.now a.args.now (view a.associations.now a.definitions.now a.here.scope) a.state a.here a.form.flat a.form.first a.form.end in
     let left_as = λ (y : Listed).
-        let g = l.invariant.going y in
-        subst (LeftOut a.s.now a.table.now l.w left.new.w see l.here.scope l.state (held_next g on) left.result.scope) c.in-Done.is
-        (left.ensures.0 _ _ _ _ (going_evaluates g on c.element-node.ensures)) in
+    let g = l.invariant.going y in
+    subst (LeftOut a.s.now a.table.now l.w left.new.w see l.here.scope l.state (held_next g on) left.result.scope) c.in-Done.is
+    (left.ensures.0 _ _ _ _ (going_evaluates g on c.element-node.ensures)) in
     let i = l.invariant.extends in
     let past = going_past (l.invariant.going c.requires) on c.element-node.ensures c.behind-behind.ensures in
     let more = (left_as c.requires).1 in

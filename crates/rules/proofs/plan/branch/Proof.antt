@@ -16,7 +16,6 @@ use Rattle.rules.proofs.plan.branch.Statement.{statement}
 use Rattle.rules.proofs.plan.branch.Tie as tie
 
 module _ (c : tie.After-word) where
-
   abbrev Element : Node → Type 0
   Element e = let a = c.args in IsElement a.s.now a.table.now a.row (Branch a.form) e
 

@@ -23,7 +23,6 @@ use Rattle.rules.proofs.plan.definition.Tie as tie
 
 -- a head, a reference and a value
 module _ (c : tie.Else-kind-ne-REFERENCE) where
-
   abbrev s : List ℕ
   s = c.args.s.now
 
@@ -50,7 +49,6 @@ returns-then-is_rest c definitions args r q es at w st h set =
 
 -- the value is no `rest` form, and the reference has the key
 module _ (c : tie.After-undefinable) where
-
   abbrev DefineForm : Nodes → Type 0
   DefineForm es = DefineAt (s c.before.before.before.before.before.before) (t c.before.before.before.before.before.before) c.args.form.end (p c.before.before.before.before.before.before) es
 

@@ -25,7 +25,6 @@ returns-then-kind-ne-REFERENCE c associations args place a l w st h set = rw (ow
 
 -- a reference
 module _ (c : tie.Else-kind-ne-REFERENCE) where
-
   abbrev At : Atom → Type 0
   At a = LeafAt c.args.s.now c.args.table.now c.args.row a
 

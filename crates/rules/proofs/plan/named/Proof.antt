@@ -26,7 +26,6 @@ use Rattle.rules.proofs.plan.named.Tie as tie
 
 -- the head
 module _ (c : tie.After-shared_slice_known-1) where
-
   abbrev Led : Nodes → Type 0
   Led es = let a = c.args in LedAt a.s.now a.table.now a.form.flat a.form.first a.form.end es
 

@@ -33,7 +33,6 @@ some_two c =
 
 -- a head, a reference and an array
 module _ (c : tie.Else-kind-ne-ARRAY) where
-
   abbrev s : List ℕ
   s = c.args.s.now
 

@@ -15,7 +15,6 @@ use Rattle.rules.proofs.plan.result.Statement.{statement}
 use Rattle.rules.proofs.plan.result.Tie as tie
 
 module _ (c : tie.After-result) where
-
   abbrev Result : ℕ → Node → Type 0
   Result place e = let a = c.args in ResultAt a.s.now a.table.now place a.flat e
 

@@ -14,7 +14,6 @@ use Rattle.rules.proofs.plan.unnamed.Statement.{statement}
 use Rattle.rules.proofs.plan.unnamed.Tie as tie
 
 module _ (c : tie.Else-is_empty) where
-
   abbrev HeadNode : Node → Type 0
   HeadNode e = let a = c.args in NodeAt a.s.now a.table.now a.form.flat a.form.first e
 
