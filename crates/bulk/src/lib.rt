@@ -1,5 +1,7 @@
 // The public calls: document 01, "The calls" and "How much the contracts must say", and document 02, §2. Each answers for every input, asks nothing of
 // its caller, and assumes nothing.
+#![tactic(auto)]
+
 ghost use Rattle.std.specs.Prelude.{◌≡◌, List, [], ◌∷◌, ℕ, length};
 ghost use Rattle.std.specs.Borrow.{Bor};
 ghost use Rattle.spec.specs.Reading.{read};

@@ -17,12 +17,12 @@ use Rattle.bulk.proofs.evaluate.Statement.{statement}
 use Rattle.bulk.proofs.evaluate.Tie as tie
 
 -- what the first pass told, where it is this
-at_check : (c : tie.After-check) (v : Checked) → c.check.result ≡ v → let a = c.before.before.before.before.before.args in
+at_check : (c : tie.After-check) (v : Checked) → c.check.result ≡ v → let a = c.args in
     Told a.stream.now (length a.table.now / row_width) v
-at_check c v e = told c.before.before.before.before.before.args.stream.now _ v (λ i. (c.before.before.before.before.shared-slice-known.given i).fits) (sym e ∙ c.check.ensures)
+at_check c v e = told c.args.stream.now _ v (λ i. (c.shared_slice_known-1.given i).fits) (sym e ∙ c.check.ensures)
 
 abbrev reading : tie.After-fill → tie.After-check
-reading c = c.before.before.before.before.before
+reading c = c.before.before.before
 
 abbrev start : tie.After-fill → tie.Start
 start c = (reading c).before.before.before.before.before
@@ -31,16 +31,16 @@ fill-requires : tie.Need-fill-requires
 fill-requires c κs = can_fill c.before.before.before.before.before.before.before.before.before.args.table.now (at_check c.before.before.before.before _ c.before.before.rows.given.1)
 
 -- the stream was read
-read_in : (c : tie.After-fill) → let a = (start c).args in let given = c.before.before.before.rows.given.0 in
+read_in : (c : tie.After-fill) → let a = (start c).args in let given = c.rows-1.given.0 in
     WasRead a.stream.now a.table.now c.fill.new.1.0 given.0 given.1.0
-read_in c = was_read _ (at_check (reading c) _ c.before.before.before.rows.given.1) c.fill.ensures
+read_in c = was_read _ (at_check (reading c) _ c.in-Right.is) c.fill.ensures
 
 evaluate-requires : tie.Need-evaluate-requires
 evaluate-requires c κs = has_read (read_in c.before.before.before.before)
 
 -- the rows are still in the table
-after : (c : tie.After-evaluate) → let fill = c.before.before.before.before.before in let a = (start fill).args in
-    let given = fill.before.before.before.rows.given.0 in
+after : (c : tie.After-evaluate) → let a = (start c.before.before.before.before.before).args in
+    let given = c.rows-1.given.0 in
     WasRead a.stream.now a.table.now c.evaluate.new.1.0 given.0 given.1.0
 after c =
     let r = read_in c.before.before.before.before.before in
@@ -51,19 +51,18 @@ ran : (c : tie.After-evaluate) (r : Result) → c.evaluate.result ≡ r → let 
     let rows = rows_of (tokens 0 0 a.stream.now) in
     Evaluated a.stream.now a.table.now a.workspace.now c.evaluate.new.1.1.1.0 a.output.now a.steps rows r
 ran c r e =
-    let fill = c.before.before.before.before.before in
-    rw e at (c.evaluate.ensures.1 _ (start fill).args.output.now _ _ (read_in fill).right.is (read_in fill).filled_in)
+    rw e at (c.evaluate.ensures.1 _ (start c.before.before.before.before.before).args.output.now _ _ (read_in c.before.before.before.before.before).right.is (read_in c.before.before.before.before.before).filled_in)
 
-abbrev evaluated : tie.After-size → tie.After-evaluate
-evaluated c = c.before.before.before.before.before.before
+abbrev evaluated : tie.In-Is → tie.After-evaluate
+evaluated c = c.before.before.before.before
 
 -- the workspace afterwards
-abbrev work : tie.After-size → List ℕ
+abbrev work : tie.In-Is → List ℕ
 work c = (evaluated c).evaluate.new.1.1.1.0
 
 -- a result is in it
-inside : (c : tie.After-size) → c.size.given.0.0 ≤ length (work c)
-inside c = (ran (evaluated c) _ c.size.given.1).0
+inside : (c : tie.In-Is) → c.in-Is.size ≤ length (work c)
+inside c = (ran (evaluated c) _ c.in-Is.is).0
 
 returns : tie.Need-returns
 returns c =

@@ -23,38 +23,38 @@ chosen_lent of_result stream result = refl
 
 -- the part that was told, where it is this
 at_locate : (c : tie.After-locate) (r : Found) → c.locate.result ≡ r → (b : Buffer) (stream result : Bor (List ℕ))
-    → lent b stream result ≡ c.before.before.args.buffer → found_part b r ≡ Item stream.now result.now b c.before.before.args.k
+    → lent b stream result ≡ c.args.buffer → found_part b r ≡ Item stream.now result.now b c.args.k
 unfolding Item
 at_locate c r e b stream result same = rw (← chosen_lent b stream result, same) (rw e at (c.locate.ensures b))
 
 -- it lies in the buffer
-inside : (c : tie.After-start) → let start = c.start.given.0 in
-    (start.0 ≤ start.1.0) × (start.1.0 ≤ length c.before.before.before.before.args.buffer.now)
+inside : (c : tie.In-At) → let start = c.start-1.given.0 in
+    (start.0 ≤ start.1.0) × (start.1.0 ≤ length c.args.buffer.now)
 inside c =
-    let x = c.before.before.before.before.args.buffer in
-    item_inside of_stream x.now x.now _ _ _ (all_bytes x.now (λ i. (c.before.before.before.shared-slice-known.given i).fits))
-    (at_locate c.before.before _ c.start.given.1 of_stream x x refl)
+    let x = c.args.buffer in
+    item_inside of_stream x.now x.now _ _ _ (all_bytes x.now (λ i. (c.shared_slice_known-1.given i).fits))
+    (at_locate c.before _ c.in-At.is of_stream x x refl)
 
-sub-result : tie.Need-overflow-sub-result
-sub-result c = (inside c.before).0
+slice_bounds-result-count : tie.Need-slice_bounds-result-count
+slice_bounds-result-count c = (inside c).0
 
-part-result-start : tie.Need-slice-bounds-result-start
-part-result-start c = let i = inside c.before in search rules
+slice_bounds-result-start : tie.Need-slice_bounds-result-start
+slice_bounds-result-start c = let i = inside c in search rules
 
-part-result-end : tie.Need-slice-bounds-result-end
-part-result-end c = let i = inside c.before in search rules
+slice_bounds-result-end : tie.Need-slice_bounds-result-end
+slice_bounds-result-end c = let i = inside c in search rules
 
-returns : tie.Need-returns
-returns c =
-    let in_Buffer = inside c.before.before in
-    λ b stream result same. rw (← at_locate c.before.before.before.before _ c.before.before.start.given.1 b stream result same) (record {
+returns-in-At : tie.Need-returns-in-At
+returns-in-At c =
+    let in_Buffer = inside c.before in
+    λ b stream result same. rw (← at_locate c.before.before _ c.in-At.is b stream result same) (record {
       bytes = rw (← chosen_lent b stream result, same);
       place = rw same (record { block = refl; offset = omega arith; size = simp (length-take, length-drop) (omega arith) });
     })
 
-returns-2 : tie.Need-returns-2
-returns-2 c =
-    λ b stream result same. rw (← at_locate c.before.before.before Nothing c.before.enum_told.given.1 b stream result same)
+returns-in-Nothing : tie.Need-returns-in-Nothing
+returns-in-Nothing c =
+    λ b stream result same. rw (← at_locate c.before Nothing c.in-Nothing.is b stream result same)
     (record { bytes = refl; place = tt })
 
 pub item_of_spec : {M : Type 1} → statement M
@@ -63,10 +63,10 @@ item_of_spec =
     (tie.spec
     (λ c κs. search rules)
     (λ c. search rules)
-    sub-result
-    part-result-start
-    part-result-end
+    slice_bounds-result-count
+    slice_bounds-result-start
+    slice_bounds-result-end
     (λ c. search rules)
     (λ c. search rules)
-    returns
-    returns-2)
+    returns-in-At
+    returns-in-Nothing)

@@ -13,12 +13,12 @@ use Rattle.bulk.proofs.write.Statement.{statement}
 use Rattle.bulk.proofs.write.Tie as tie
 
 -- what the first pass told, where it is this
-at_check : (c : tie.After-check) (v : Checked) → c.check.result ≡ v → let a = c.before.before.before.before.args in
+at_check : (c : tie.After-check) (v : Checked) → c.check.result ≡ v → let a = c.args in
     Told a.stream.now (length a.table.now / row_width) v
-at_check c v e = told c.before.before.before.before.args.stream.now _ v (λ i. (c.before.before.before.shared-slice-known.given i).fits) (sym e ∙ c.check.ensures)
+at_check c v e = told c.args.stream.now _ v (λ i. (c.shared_slice_known-1.given i).fits) (sym e ∙ c.check.ensures)
 
 abbrev reading : tie.After-fill → tie.After-check
-reading c = c.before.before.before.before.before
+reading c = c.before.before.before
 
 abbrev start : tie.After-fill → tie.Start
 start c = (reading c).before.before.before.before
@@ -27,9 +27,9 @@ fill-requires : tie.Need-fill-requires
 fill-requires c κs = can_fill c.before.before.before.before.before.before.before.before.args.table.now (at_check c.before.before.before.before _ c.before.before.length.given.1)
 
 -- the stream was read
-read_in : (c : tie.After-fill) → let a = (start c).args in let given = c.before.before.before.length.given.0 in
+read_in : (c : tie.After-fill) → let a = (start c).args in let given = c.length-1.given.0 in
     WasRead a.stream.now a.table.now c.fill.new.1.0 given.0 given.1.0
-read_in c = was_read _ (at_check (reading c) _ c.before.before.before.length.given.1) c.fill.ensures
+read_in c = was_read _ (at_check (reading c) _ c.in-Right.is) c.fill.ensures
 
 returns : tie.Need-returns
 returns c = write_short (read_in c.before.before.before) _ c.if1.true

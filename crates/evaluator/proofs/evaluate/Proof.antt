@@ -1,4 +1,4 @@
--- `evaluator::evaluate` meets its contract: no version, another version, or the run in the first bytes of the workspace. Assumes nothing.
+-- `evaluator::evaluate` meets its contract: slice_bounds-evaluate_all-end version, another version, or the run in the first bytes of the workspace. Assumes nothing.
 use borrow.Author.Rules.{rules}
 use borrow.Author.Tests.{not-false}
 use Prim.Native.Nat.{ℕ}
@@ -19,21 +19,21 @@ use Rattle.evaluator.proofs.Evaluations.{stream_plain, stream_room, read_once, a
 use Rattle.evaluator.proofs.evaluate.Statement.{statement}
 use Rattle.evaluator.proofs.evaluate.Tie as tie
 
-bytes : (c : tie.After-shared-slice-known) → Bytes c.before.args.s.now
-bytes c = all_bytes c.before.args.s.now (λ i. (c.shared-slice-known.given i).fits)
+bytes : (c : tie.After-shared_slice_known-1) → Bytes c.args.s.now
+bytes c = all_bytes c.args.s.now (λ i. (c.shared_slice_known-1.given i).fits)
 
-abbrev known : tie.After-arrange → tie.After-shared-slice-known
+abbrev known : tie.After-arrange-arranged → tie.After-shared_slice_known-1
 known c = c.before.before.before.before.before.before
 
-abbrev arranging : tie.After-evaluate-all → tie.After-arrange
+abbrev arranging : tie.After-evaluate_all-left → tie.After-arrange-arranged
 arranging c = c.before.before.before.before.before.before
 
-abbrev ran : tie.After-restore → tie.After-evaluate-all
+abbrev ran : tie.After-restore → tie.After-evaluate_all-left
 ran c = c.before.before.before.before
 
 -- the stream begins with version 1.0
-versioned : (c : tie.After-arrange) → not (same (take 6 (known c).before.args.s.now) version_bytes) ≡ false
-versioned c = rw c.before.before.before.has-version.ensures at c.before.before.if1.false
+versioned : (c : tie.After-arrange-arranged) → not (same (take 6 (known c).before.args.s.now) version_bytes) ≡ false
+versioned c = rw c.has_version.ensures at c.if-not-has_version.false
 
 -- the table is as it was
 restored : (c : tie.After-restore) → c.restore.new.0 ≡ (known (arranging (ran c))).before.args.table.now
@@ -42,21 +42,19 @@ restored c =
     c.restore.ensures _ a.arrange.ensures.0 (stream_plain _ _ _ (bytes (known a)) (known a).before.pre)
 
 -- the part of the workspace that counts
-sized : (c : tie.After-work-size) → let start = c.before.before.before.before.before.before.before.before.before.before in
-    length (take c.work-size.result start.args.work.now) ≡ c.work-size.result
+sized : (c : tie.After-work_size-size) → length (take c.work_size-size.result c.args.work.now) ≡ c.work_size-size.result
 sized c =
-    let start = c.before.before.before.before.before.before.before.before.before.before in
-    omega (arith, length-take c.work-size.result start.args.work.now, c.work-size.ensures)
+    omega (arith, length-take c.work_size-size.result c.args.work.now, c.work_size-size.ensures)
 
 -- how the run ended, where that is this
-ended : (c : tie.After-evaluate-all) (out : Out) → c.evaluate-all.result ≡ out → let x = (known (arranging c)).before.args in
+ended : (c : tie.After-evaluate_all-left) (out : Out) → c.evaluate_all-left.result ≡ out → let x = (known (arranging c)).before.args in
     (t : List ℕ) (rs : List Row) (es : Exprs) → reading x.s.now t ≡ readable rs es
-    → Ended x.steps (take c.before.before.before.work-size.result x.work.now) c.evaluate-all.new.1.1.1.0 x.rows es out
+    → Ended x.steps (take c.work_size-size.result x.work.now) c.evaluate_all-left.new.1.1.1.0 x.rows es out
 ended c out e t rs es reads =
     let x = (known (arranging c)).before.args in
     subst
-    (λ (o : Out). Ended x.steps (take c.before.before.before.work-size.result x.work.now) c.evaluate-all.new.1.1.1.0 x.rows es o) e
-    (c.evaluate-all.ensures es ((arranging c).arrange.ensures.1 t rs es reads))
+    (λ (o : Out). Ended x.steps (take c.work_size-size.result x.work.now) c.evaluate_all-left.new.1.1.1.0 x.rows es o) e
+    (c.evaluate_all-left.ensures es ((arranging c).arrange.ensures.1 t rs es reads))
 
 returns : tie.Need-returns
 returns c = (
@@ -73,51 +71,43 @@ arrange-requires c κs =
     let if1 = c.before in
     (if1.before.before.before.before.before.requires, sym if1.before.has-version.ensures ∙ not-false _ if1.if1.false)
 
-evaluate-all-requires : tie.Need-evaluate-all-requires
-evaluate-all-requires c κs =
-    let size = c.before.before in
-    let a = size.before.before.before in
-    let has = (known a).before.requires in
-    ((has.means, a.arrange.ensures.1 has.before has.rows has.means has.is), omega (arith, sized size, size.work-size.ensures))
+has_version-requires : tie.Need-has_version-requires
+has_version-requires c κs =
+    let has = (known c.before.before.before.before.before).before.requires in
+    ((has.means, c.before.before.before.before.before.arrange.ensures.1 has.before has.rows has.means has.is), omega (arith, sized c.before.before, c.before.before.work-size.ensures))
 
-restore-requires : tie.Need-restore-requires
-restore-requires c κs =
+wrong_version-requires : tie.Need-wrong_version-requires
+wrong_version-requires c κs =
     let a = arranging c.before.before.before in
     omega (arith, a.arrange.ensures.0.changed.same_length, stream_room _ _ _ (bytes (known a)) (known a).before.pre)
 
-start-requires : tie.Need-start-requires
-start-requires c κs =
-    let told = c.before.before in
-    let over = told.before.before.before.before in
-    let a = arranging (ran over) in
+shape_of-table-then-not-has_version : tie.Need-shape_of-table-then-not-has_version
+shape_of-table-then-not-has_version c κs =
+    let a = arranging (ran c.before.before.before.before.before.before) in
     let has = (known a).before.pre in
-    let stops = ended (ran over) _ told.left.given.1 has.before has.rows has.means has.is in
-    rw (restored over, has.filled_in) (filled_whole has.rows has.before _ (omega (arith, stops.1, has.counted)))
+    let stops = ended (ran c.before.before.before.before.before.before) _ c.before.before.left.given.1 has.before has.rows has.means has.is in
+    rw (restored c.before.before.before.before.before.before, has.filled_in) (filled_whole has.rows has.before _ (omega (arith, stops.1, has.counted)))
 
-returns-2 : tie.Need-returns-2
-returns-2 c =
-    let told = c.before.before.before.before in
-    let over = told.before.before.before.before in
-    let a = arranging (ran over) in (
-      restored over,
+returns-in-Refused : tie.Need-returns-in-Refused
+returns-in-Refused c =
+    let a = arranging (ran c.before.before.before.before.before) in (
+      restored c.before.before.before.before.before,
       λ t out rs es reads fills.
           let has = (known a).before.pre in
-          let stops = ended (ran over) _ told.left.given.1 t rs es reads in
-          let size = (ran over).before.before.before in
-          rw c.refused2.ensures
+          let stops = ended (ran c.before.before.before.before.before) _ c.in-Refused.is t rs es reads in
+          let size = (ran c.before.before.before.before.before).before.before.before in
+          rw c.refused-in-Refused.ensures
           (answer_stopped _ t _ out _ rs es reads (bytes (known a)) (versioned a) _ size.work-size.ensures _ (rw (read_once has t rs es reads).0 has.counted) _ _ _
-          stops (rw (restored over, fills) at c.before.start.ensures)),
+          stops (rw (restored c.before.before.before.before.before, fills) at c.start.ensures)),
     )
 
-returns-3 : tie.Need-returns-3
-returns-3 c =
-    let told = c.before.before in
-    let over = told.before.before.before.before in
-    let a = arranging (ran over) in (
-      restored over,
+returns-in-Done : tie.Need-returns-in-Done
+returns-in-Done c =
+    let a = arranging (ran c.before.before.before.before) in (
+      restored c.before.before.before.before,
       λ t out rs es reads fills.
-          let size = (ran over).before.before.before in
-          answer_done _ t _ out _ rs es reads (bytes (known a)) (versioned a) _ size.work-size.ensures _ _ (ended (ran over) _ told.left2.given.1 t rs es reads),
+          let size = (ran c.before.before.before.before).before.before.before in
+          answer_done _ t _ out _ rs es reads (bytes (known a)) (versioned a) _ size.work-size.ensures _ _ (ended (ran c.before.before.before.before) _ c.in-Done.is t rs es reads),
     )
 
 pub evaluate_spec : {M : Type 1} → statement M
@@ -133,21 +123,20 @@ evaluate_spec =
     (λ c κs. search rules)
     (λ c. search rules)
     (λ c. sym (sized c.before.before))
-    evaluate-all-requires
-    restore-requires
+    has_version-requires
+    wrong_version-requires
     (λ c. search rules)
-    start-requires
+    shape_of-table-then-not-has_version
     (λ c κs. search rules)
     (λ c. search rules)
-    -- no more steps than there were are left
+    -- slice_bounds-evaluate_all-end slice_bounds-evaluate_all-end-2 evaluate_all-left-requires restore-requires enum_known-left start-requires refused-requires-in-Refused enum_known-left-in-Done-1
     (λ c.
-    let told = c.before.before in
-    let r = ran told.before.before.before.before in
+    let r = ran c.before.before.before.before in
     let has = (known (arranging r)).before.requires in
-    (ended r _ told.left2.given.1 has.before has.rows has.means has.is).fewer)
+    (ended r _ c.in-Done.is has.before has.rows has.means has.is).fewer)
     (λ c. search rules)
     (λ c. search rules)
-    returns-2
+    returns-in-Refused
     (λ c. search rules)
     (λ c. search rules)
-    returns-3)
+    returns-in-Done)
