@@ -23,27 +23,25 @@ use Rattle.rules.proofs.plan.definition.Tie as tie
 
 -- a head, a reference and a value
 module _ (c : tie.Else-kind-ne-REFERENCE) where
-  abbrev start : tie.Start
-  start = c.before.before.before.before.before.before.before
 
   abbrev s : List ℕ
-  s = start.args.s.now
+  s = c.args.s.now
 
   abbrev t : List ℕ
-  t = start.args.table.now
+  t = c.args.table.now
 
   abbrev p : Parts
-  p = c.before.before.before.before.parts.result
+  p = c.parts-p.result
 
-  right : (es : Nodes) → NodesAt s t false start.args.form.first start.args.form.end es → DefineAt s t start.args.form.end p es
+  right : (es : Nodes) → NodesAt s t false c.args.form.first c.args.form.end es → DefineAt s t c.args.form.end p es
   right es at =
-      define_at _ _ _ _ es p at (c.before.before.before.before.parts.ensures _ es at) c.before.before.if1.false (sym c.before.kind.ensures ∙ c.if2.false)
+      define_at _ _ _ _ es p at (c.parts-p.ensures _ es at) c.if-p-ne3.false (sym c.kind.ensures ∙ c.if-kind-ne-REFERENCE.false)
 
-  some_right : DefineAt s t start.args.form.end p start.pre.2.0
-  some_right = right _ start.pre.2.1
+  some_right : DefineAt s t c.args.form.end p c.requires.2.0
+  some_right = right _ c.requires.2.1
 
   bytes : Bytes s
-  bytes = all_bytes s (λ i. (c.before.before.before.before.before.before.shared-slice-known.given i).fits)
+  bytes = all_bytes s (λ i. (c.shared_slice_known-1.given i).fits)
 
 returns-then-is_rest : tie.Need-returns-then-is_rest
 returns-then-is_rest c definitions args r q es at w st h set =
@@ -52,48 +50,45 @@ returns-then-is_rest c definitions args r q es at w st h set =
 
 -- the value is no `rest` form, and the reference has the key
 module _ (c : tie.After-undefinable) where
-  abbrev o : tie.Else-kind-ne-REFERENCE
-  o = c.before.before.before.before.before
 
   abbrev DefineForm : Nodes → Type 0
-  DefineForm es = DefineAt (s o) (t o) (start o).args.form.end (p o) es
+  DefineForm es = DefineAt (s c.before.before.before.before.before.before) (t c.before.before.before.before.before.before) c.args.form.end (p c.before.before.before.before.before.before) es
 
   no_rest : {es : Nodes} (g : DefineForm es) → headed_by rest g.value ≡ false
   no_rest g =
-      let k = c.before.before.before in
-      headed k.before.word_at.result rest g.value k.is-rest.ensures (k.before.word_at.ensures g.value g.there) ∙ c.before.before.if3.false
+      headed c.word_at-word.result rest g.value c.is_rest.ensures (c.word_at-word.ensures g.value g.there) ∙ c.if-is_rest.false
 
-  key_is : {es : Nodes} (g : DefineForm es) → c.before.key.result ≡ key_of g.marker g.name
-  key_is g = c.before.key.ensures g.marker g.name g.reference
+  key_is : {es : Nodes} (g : DefineForm es) → c.key-key.result ≡ key_of g.marker g.name
+  key_is g = c.key-key.ensures g.marker g.name g.reference
 
 returns-then-undefinable : tie.Need-returns-then-undefinable
 returns-then-undefinable c definitions args r q es at =
-    let g = right (o c.before) es at in
-    define_answers (start (o c.before)).args.form (start (o c.before)).pre.1 g (bytes (o c.before)) _ (key_is c.before g) (no_rest c.before g) _ definitions _ r q true _ _ (λ ks l. sym (c.undefinable.ensures _ ks l) ∙ c.if-undefinable.true) refl refl
+    let g = right c.before.before.before.before.before.before.before es at in
+    define_answers c.args.form c.requires.1 g (bytes c.before.before.before.before.before.before.before) _ (key_is c.before g) (no_rest c.before g) _ definitions _ r q true _ _ (λ ks l. sym (c.undefinable.ensures _ ks l) ∙ c.if-undefinable.true) refl refl
 
 returns-then-here-ge256 : tie.Need-returns-then-here-ge256
 returns-then-here-ge256 c definitions args r q es at =
-    let g = right (o c.before.before.before) es at in
-    define_answers (start (o c.before.before.before)).args.form (start (o c.before.before.before)).pre.1 g (bytes (o c.before.before.before)) _ (key_is c.before.before.before g) (no_rest c.before.before.before g) _ definitions _ r q false true _ (λ ks l. sym (c.undefinable.ensures _ ks l) ∙ c.if-undefinable.false)
+    let g = right c.before.before.before.before.before.before.before.before.before es at in
+    define_answers c.args.form c.requires.1 g (bytes c.before.before.before.before.before.before.before.before.before) _ (key_is c.before.before.before g) (no_rest c.before.before.before g) _ definitions _ r q false true _ (λ ks l. sym (c.undefinable.ensures _ ks l) ∙ c.if-undefinable.false)
     (le-leb 256 _ c.if-here-ge256.true) refl
 
 -- whether it is code
-is_code : (c : tie.After-is_subst) → (e : Node) → NodeAt (s (o c.before.before.before.before)) (t (o c.before.before.before.before)) false (p (o c.before.before.before.before)).third e → headed_by subst e ≡ c.is_subst.result
+is_code : (c : tie.After-is_subst) → (e : Node) → NodeAt (s c.before.before.before.before.before.before.before.before.before.before) (t c.before.before.before.before.before.before.before.before.before.before) false (p c.before.before.before.before.before.before.before.before.before.before).third e → headed_by subst e ≡ c.is_subst.result
 is_code c e at = headed c.word_at-word.result subst e c.is_subst.ensures (c.word_at-word.ensures e at)
 
 returns-then-is_subst : tie.Need-returns-then-is_subst
 returns-then-is_subst c definitions args r q es at =
-    let g = right (o c.before.before.before.before.before) es at in
+    let g = right c.before.before.before.before.before.before.before.before.before.before.before es at in
     let code = is_code c.before g.value g.there ∙ c.if-is_subst.true in
-    define_answers (start (o c.before.before.before.before.before)).args.form (start (o c.before.before.before.before.before)).pre.1 g (bytes (o c.before.before.before.before.before)) _ (key_is c.before.before.before.before.before g) (no_rest c.before.before.before.before.before g) _ definitions _ r q false false true (λ ks l. sym (c.undefinable.ensures _ ks l) ∙ c.if-undefinable.false)
+    define_answers c.args.form c.requires.1 g (bytes c.before.before.before.before.before.before.before.before.before.before.before) _ (key_is c.before.before.before.before.before g) (no_rest c.before.before.before.before.before g) _ definitions _ r q false false true (λ ks l. sym (c.undefinable.ensures _ ks l) ∙ c.if-undefinable.false)
     (lt-leb 256 _ c.if-here-ge256.false) code
 
 returns : tie.Need-returns
 returns c definitions args r q es at =
-    let g = right (o c.before.before.before.before.before.before.before) es at in
+    let g = right c.before.before.before.before.before.before.before.before.before.before.before.before.before es at in
     let code = is_code c.before.before.before g.value g.there ∙ c.if-is_subst.false in
     rw (c.make.ensures, c.starting_at.ensures)
-    (define_answers (start (o c.before.before.before.before.before.before.before)).args.form (start (o c.before.before.before.before.before.before.before)).pre.1 g (bytes (o c.before.before.before.before.before.before.before)) _ (key_is c.before.before.before.before.before.before.before g) (no_rest c.before.before.before.before.before.before.before g) _ definitions _ r q false false false (λ ks l. sym (c.undefinable.ensures _ ks l) ∙ c.if-undefinable.false)
+    (define_answers c.args.form c.requires.1 g (bytes c.before.before.before.before.before.before.before.before.before.before.before.before.before) _ (key_is c.before.before.before.before.before.before.before g) (no_rest c.before.before.before.before.before.before.before g) _ definitions _ r q false false false (λ ks l. sym (c.undefinable.ensures _ ks l) ∙ c.if-undefinable.false)
     (lt-leb 256 _ c.if-here-ge256.false) code)
 
 pub definition_spec : {M : Type 1} → statement M
@@ -110,12 +105,12 @@ definition_spec =
     (λ c κs. search rules)
     returns-then-is_rest
     (λ c κs. let g = some_right c.before.before.before in (g.marker, g.name, g.reference))
-    (λ c κs. (start c.before.before.before.before).pre.0)
+    (λ c κs. c.requires.0)
     returns-then-undefinable
     returns-then-here-ge256
     (λ c κs. search rules)
-    (λ c. let g = some_right (o c.before.before.before.before.before) in
-    let f = leaf_fits (bytes (o c.before.before.before.before.before)) g.reference in
+    (λ c. let g = some_right c.before.before.before.before.before.before.before.before.before.before.before in
+    let f = leaf_fits (bytes c.before.before.before.before.before.before.before.before.before.before.before) g.reference in
     omega (arith, key_is c.before.before.before.before.before g, key_small g.marker g.name f.1 f.2))
     returns-then-is_subst
     (λ c κs. search rules)

@@ -25,21 +25,19 @@ returns-then-kind-ne-REFERENCE c associations args place a l w st h set = rw (ow
 
 -- a reference
 module _ (c : tie.Else-kind-ne-REFERENCE) where
-  abbrev start : tie.Start
-  start = c.before.before.before.before
 
   abbrev At : Atom → Type 0
-  At a = LeafAt start.args.s.now start.args.table.now start.args.row a
+  At a = LeafAt c.args.s.now c.args.table.now c.args.row a
 
   reference : (a : Atom) → At a → (m : ℕ) × (n : ℕ) × (a ≡ ref m n)
-  reference a l = kind_ref a (leaf_kind l ∙ sym c.before.kind.ensures ∙ c.if1.false)
+  reference a l = kind_ref a (leaf_kind l ∙ sym c.kind.ensures ∙ c.if-kind-ne-REFERENCE.false)
 
   fits : {m n : ℕ} → At (ref m n) → Fits (ref m n)
-  fits l = leaf_fits (all_bytes start.args.s.now (λ i. (c.before.before.before.shared-slice-known.given i).fits)) l
+  fits l = leaf_fits (all_bytes c.args.s.now (λ i. (c.shared_slice_known-1.given i).fits)) l
 
   some_reference : (m : ℕ) × (n : ℕ) × At (ref m n)
   some_reference =
-      let l = start.pre.1 in
+      let l = c.requires.1 in
       let r = reference l.0 l.1 in
       (r.0, r.1, transport At r.2 l.1)
 
@@ -50,21 +48,21 @@ returns-then-is_function c associations args place a l w st h set =
     rw (r.2, name_rule _ r.0 r.1 h.scope true (c.key-key.ensures _ _ k) (fits c.before.before.before k) (sym c.if-is_function.true ∙ c.is_function.ensures)) (refuses 12)
 
 -- what is done with what was found
-done : (c : tie.After-look_up) (f : Found) → c.look_up.result ≡ f → let i = (start c.before.before.before.before).args in
-    (associations args : List ℕ) (place : ℕ) (a : Atom) → At c.before.before.before.before a
+done : (c : tie.After-look_up) (f : Found) → c.look_up.result ≡ f → let i = c.args in
+    (associations args : List ℕ) (place : ℕ) (a : Atom) → At c.before.before.before.before.before a
     → Answers i.s.now i.table.now args (view associations i.definitions.now i.here.scope) i.here i.row (leaf place a) (plan (leaf place a)) (reference_task f)
 done c f is associations args place a l w st h set =
-    let r = reference c.before.before.before.before a l in
+    let r = reference c.before.before.before.before.before a l in
     let k = rw r.2 at l in
     let key = c.key-key.ensures _ _ k in
-    rw (r.2, name_rule _ r.0 r.1 h.scope false key (fits c.before.before.before.before k) (sym c.if-is_function.false ∙ c.is_function.ensures))
-    (reference_planned _ _ k (rw (← key, ← c.look_up.ensures, is) at (answers _ _ w st.floor r.0 r.1 (fits c.before.before.before.before k) _ h.scope set.sees.definitions)))
+    rw (r.2, name_rule _ r.0 r.1 h.scope false key (fits c.before.before.before.before.before k) (sym c.if-is_function.false ∙ c.is_function.ensures))
+    (reference_planned _ _ k (rw (← key, ← c.look_up.ensures, is) at (answers _ _ w st.floor r.0 r.1 (fits c.before.before.before.before.before k) _ h.scope set.sees.definitions)))
 
 look_up-requires : tie.Need-look_up-requires
 look_up-requires c κs =
-    let r = some_reference c.before.before.before in
-    let f = fits c.before.before.before r.2 in
-    ((start c.before.before.before).requires.0, rw (c.key-key.ensures _ _ r.2) (key_small r.0 r.1 f.1 f.2))
+    let r = some_reference c.before.before.before.before in
+    let f = fits c.before.before.before.before r.2 in
+    (c.requires.0, rw (c.key-key.ensures _ _ r.2) (key_small r.0 r.1 f.1 f.2))
 
 pub leaf_spec : {M : Type 1} → statement M
 leaf_spec =

@@ -33,26 +33,23 @@ some_two c =
 
 -- a head, a reference and an array
 module _ (c : tie.Else-kind-ne-ARRAY) where
-  abbrev start : tie.Start
-  start = c.before.before.before.before.before.before.before.before.before
 
   abbrev s : List ℕ
-  s = start.args.s.now
+  s = c.args.s.now
 
   abbrev t : List ℕ
-  t = start.args.table.now
+  t = c.args.table.now
 
   abbrev p : Parts
-  p = c.before.before.before.before.before.before.parts.result
+  p = c.parts-p.result
 
-  right : (es : Nodes) → NodesAt s t false start.args.form.first start.args.form.end es → NsAt s t p es
+  right : (es : Nodes) → NodesAt s t false c.args.form.first c.args.form.end es → NsAt s t p es
   right es at =
-      let k = c.before.before.before in
-      ns_at _ _ _ _ es p at (k.before.before.before.parts.ensures _ es at) k.before.if1.false (sym k.kind.ensures ∙ c.before.before.if2.false)
-      (sym c.before.kind2.ensures ∙ c.if3.false)
+      ns_at _ _ _ _ es p at (c.parts-p.ensures _ es at) c.if-p-ne3.false (sym c.kind.ensures ∙ c.if-kind-ne-REFERENCE.false)
+      (sym c.kind-2.ensures ∙ c.if-kind-ne-ARRAY.false)
 
-  some_right : NsAt s t p start.pre.1.0.0
-  some_right = right _ start.pre.1.0.1
+  some_right : NsAt s t p c.requires.1.0.0
+  some_right = right _ c.requires.1.0.1
 
 -- the array's bytes
 part : (c : tie.After-body-from) → let from = c.body-from.result in
@@ -62,27 +59,27 @@ part c bs l = array_part l (c.body-from.ensures bs l) c.end-to.ensures
 
 returns-then-size-lt1 : tie.Need-returns-then-size-lt1
 returns-then-size-lt1 c definitions args r es at led =
-    ns_refuses _ _ _ _ es _ at (c.parts-p.ensures _ es at) (start c.before.before.before).requires.0 (λ n r bs l low high. omega (arith, part c.before bs l))
+    ns_refuses _ _ _ _ es _ at (c.parts-p.ensures _ es at) c.requires.0 (λ n r bs l low high. omega (arith, part c.before bs l))
 
 returns-then-size-gt64 : tie.Need-returns-then-size-gt64
 returns-then-size-gt64 c definitions args r es at led =
-    ns_refuses _ _ _ _ es _ at (c.parts-p.ensures _ es at) (start c.before.before.before.before).requires.0 (λ n r bs l low high. omega (arith, part c.before.before bs l))
+    ns_refuses _ _ _ _ es _ at (c.parts-p.ensures _ es at) c.requires.0 (λ n r bs l low high. omega (arith, part c.before.before bs l))
 
 clash-requires : tie.Need-clash-requires
 clash-requires c κs =
-    let pre = (start c.before.before.before.before.before.before).pre in
+    let pre = c.requires in
     let l = (some_right c.before.before.before.before.before.before).array_there in
     (some_linked _ _ pre.1.1.2, (some_earlier pre.1.1.2 pre.0, ((part c.before.before.before.before _ l).0, omega (arith, c.end-to.ensures, l.row.ends))))
 
 -- what is answered for whether they clash with what is known, and whether no more can be
-answered : (c : tie.After-clash) (clashing full : Bool) → c.clash.result ≡ clashing → let i = (start c.before.before.before.before.before.before.before).args in
+answered : (c : tie.After-clash) (clashing full : Bool) → c.clash.result ≡ clashing → let i = c.args in
     leb 64 i.here.scope.associated ≡ full → (definitions args : List ℕ) (r : ℕ) (es : Nodes) → NodesAt i.s.now i.table.now false i.form.first i.form.end es → head_word es ≡ ns
     → Answers i.s.now i.table.now args (view i.associations.now definitions i.here.scope) i.here r (branch i.row es) (λ h. plan_ns h.within es h)
     (if clashing then Refuse 14 else if full then Refuse 19 else Ns i.form (c.key-marker.result / 256) (id stream c.body-from.result (c.end-to.result - c.body-from.result)))
 answered c clashing full is counted definitions args r es at led =
     let g = right c.before.before.before.before.before.before.before es at in
     let bytes = all_bytes (s c.before.before.before.before.before.before.before) (λ i. (c.shared_slice_known-1.given i).fits) in
-    ns_answers g bytes _ _ _ (c.key-marker.ensures _ _ g.reference) (c.body-from.ensures _ g.array_there) c.end-to.ensures (omega arith) (omega arith) _ _ definitions _ (start c.before.before.before.before.before.before.before).requires.0 at led
+    ns_answers g bytes _ _ _ (c.key-marker.ensures _ _ g.reference) (c.body-from.ensures _ g.array_there) c.end-to.ensures (omega arith) (omega arith) _ _ definitions _ c.requires.0 at led
     clashing full (λ ks fs earlier l e m. sym (c.clash.ensures ks fs earlier l e m) ∙ is) counted
 
 id-id-requires : tie.Need-id-id-requires

@@ -15,32 +15,30 @@ use Rattle.rules.proofs.plan.result.Statement.{statement}
 use Rattle.rules.proofs.plan.result.Tie as tie
 
 module _ (c : tie.After-result) where
-  abbrev start : tie.Start
-  start = c.before.before.before
 
   abbrev Result : ℕ → Node → Type 0
-  Result place e = let a = start.args in ResultAt a.s.now a.table.now place a.flat e
+  Result place e = let a = c.args in ResultAt a.s.now a.table.now place a.flat e
 
   -- as the code's node
-  node_is : (n : Ranged) → c.result.result ≡ n → let a = start.args in
+  node_is : (n : Ranged) → c.result.result ≡ n → let a = c.args in
       (place : ℕ) (e : Node) → Result place e → IsResult a.s.now a.table.now a.flat.first place n e
   node_is n told place e at =
-      let a = start.args in
-      transport (λ (m : Ranged). IsResult a.s.now a.table.now a.flat.first place m e) (sym c.result.ensures ∙ told) (result_is _ _ place a.flat start.pre.1.0 e at)
+      let a = c.args in
+      transport (λ (m : Ranged). IsResult a.s.now a.table.now a.flat.first place m e) (sym c.result.ensures ∙ told) (result_is _ _ place a.flat c.requires.1.0 e at)
 
 -- a form
 module _ (c : tie.In-Branch) where
   abbrev FormOf : ℕ → Node → Type 0
-  FormOf place e = let a = (start c.before).args in ResultForm a.s.now a.table.now place c.in-Branch.form e
+  FormOf place e = let a = c.args in ResultForm a.s.now a.table.now place c.in-Branch.form e
 
-  form_is : (place : ℕ) (e : Node) → Result c.before.before.before place e → FormOf place e
-  form_is place e at = result_form (node_is c.before.before.before _ c.before.form.given.1 place e at)
+  form_is : (place : ℕ) (e : Node) → Result c.before place e → FormOf place e
+  form_is place e at = result_form (node_is c.before _ c.in-Branch.is place e at)
 
-  some_form : (let pre = (start c.before.before.before).pre.1.1 in FormOf pre.0 pre.1)
-  some_form = let pre = (start c.before.before.before).pre.1.1 in form_is pre.0 pre.1 pre.2
+  some_form : (let pre = c.requires.1.1 in FormOf pre.0 pre.1)
+  some_form = let pre = c.requires.1.1 in form_is pre.0 pre.1 pre.2
 
 -- whether its head is a reference
-all_named : (c : tie.After-is_named) → let a = (start c.before.before).args in
+all_named : (c : tie.After-is_named) → let a = c.args in
     let g = c.in-Branch.form in
     (es : Nodes) → NodesAt a.s.now a.table.now g.flat g.first g.end es → led_by_reference es ≡ c.is_named.result
 all_named c es at = sym (c.is_named.ensures ∙ head_named _ _ _ es (nodes_head _ _ c.in-Branch.form es at))
@@ -60,7 +58,7 @@ returns-else-is_named c associations args place e at = result_answers (form_is c
 
 leaf-requires : tie.Need-leaf-requires
 leaf-requires c κs =
-    let pre = (start c.before).requires in
+    let pre = c.requires in
     let l = result_leaf (node_is c.before _ c.in-Leaf.is pre.1.1.0 pre.1.1.1 pre.1.1.2) in
     (some_defined _ _ pre.0.3, (l.0, l.2))
 
@@ -74,7 +72,7 @@ result_spec =
     (λ c. search rules)
     (λ c κs. let f = some_form c in head_inside _ _ _ f.nodes (nodes_head _ _ c.in-Branch.form f.nodes f.at))
     (λ c κs. let f = some_form c.before.before in
-    ((start c.before.before.before).pre.0, (record { nodes = f.nodes; at = f.at }, λ es at. all_named c.before es at ∙ c.if-is_named.true)))
+    (c.requires.0, (record { nodes = f.nodes; at = f.at }, λ es at. all_named c.before es at ∙ c.if-is_named.true)))
     returns-then-is_named
     (λ c κs. let f = some_form c.before.before in (record { nodes = f.nodes; at = f.at }, λ es at. all_named c.before es at ∙ c.if-is_named.false))
     returns-in-Leaf

@@ -14,27 +14,25 @@ use Rattle.rules.proofs.plan.unnamed.Statement.{statement}
 use Rattle.rules.proofs.plan.unnamed.Tie as tie
 
 module _ (c : tie.Else-is_empty) where
-  abbrev start : tie.Start
-  start = c.before.before.before.before
 
   abbrev HeadNode : Node → Type 0
-  HeadNode e = let a = start.args in NodeAt a.s.now a.table.now a.form.flat a.form.first e
+  HeadNode e = let a = c.args in NodeAt a.s.now a.table.now a.form.flat a.form.first e
 
   abbrev More : Nodes → Type 0
-  More es = let a = start.args in MoreAt a.s.now a.table.now a.form.flat a.form.first a.form.end es
+  More es = let a = c.args in MoreAt a.s.now a.table.now a.form.flat a.form.first a.form.end es
 
   -- the head
-  first : (es : Nodes) → (let a = start.args in NodesAt a.s.now a.table.now a.form.flat a.form.first a.form.end es) → More es
-  first es at = nodes_more _ _ _ _ _ es at (before_end c.before.is-empty.ensures c.if1.false)
+  first : (es : Nodes) → (let a = c.args in NodesAt a.s.now a.table.now a.form.flat a.form.first a.form.end es) → More es
+  first es at = nodes_more _ _ _ _ _ es at (before_end c.is_empty.ensures c.if-is_empty.false)
 
-  some_first : More start.pre.0.nodes
-  some_first = first start.pre.0.nodes start.pre.0.at
+  some_first : More c.requires.0.nodes
+  some_first = first c.requires.0.nodes c.requires.0.at
 
 -- as the code's node
-head_is : (c : tie.After-element) (n : Ranged) → c.element.result ≡ n → let a = (start c.before).args in
+head_is : (c : tie.After-element) (n : Ranged) → c.element.result ≡ n → let a = c.args in
     (e : Node) → HeadNode c.before e → IsElement a.s.now a.table.now a.form.first n e
 head_is c n is e at =
-    let a = (start c.before).args in
+    let a = c.args in
     transport (λ (m : Ranged). IsElement a.s.now a.table.now a.form.first m e) (sym c.element.ensures ∙ is) (element_is _ _ _ _ e at)
 
 -- whether it is headed by `subst`
@@ -47,21 +45,21 @@ returns-then-is_subst c associations definitions args r q es at w st h set =
     let f = first c.before.before.before.before.before.before.before es at in
     let code = is_code c.before.before.before f.head f.node ∙ c.if-is_subst.true in
     let own = head_is c.before.before.before.before.before.before _ c.in-Branch.is f.head f.node in
-    rw (f.is, unnamed_rule _ _ _ _ f.head f.rest h.scope f.node (rw f.is at ((start c.before.before.before.before.before.before.before).pre.1 es at)), code, c.rest-body.ensures, c.rest.ensures)
-    (call_planned (start c.before.before.before.before.before.before.before).args.form f.head f.rest (rw f.is at at) (calls_code _ _ _ h.scope (element_code own code).1 set.sees.definitions))
+    rw (f.is, unnamed_rule _ _ _ _ f.head f.rest h.scope f.node (rw f.is at (c.requires.1 es at)), code, c.rest-body.ensures, c.rest.ensures)
+    (call_planned c.args.form f.head f.rest (rw f.is at at) (calls_code _ _ _ h.scope (element_code own code).1 set.sees.definitions))
 
 returns-in-Leaf : tie.Need-returns-in-Leaf
 returns-in-Leaf c associations definitions args r q es at w st h set =
     let f = first c.before.before.before es at in
     let own = head_is c.before.before _ c.in-Leaf.is f.head f.node in
     let none = ap (λ (e : Node). headed_by subst e) (element_leaf own).1 in
-    rw (c.make-in-Leaf.ensures, f.is, unnamed_rule _ _ _ _ f.head f.rest h.scope f.node (rw f.is at ((start c.before.before.before).pre.1 es at)), none)
+    rw (c.make-in-Leaf.ensures, f.is, unnamed_rule _ _ _ _ f.head f.rest h.scope f.node (rw f.is at (c.requires.1 es at)), none)
     (data_planned _ _ (rw f.is at at))
 
 returns-else-is_subst : tie.Need-returns-else-is_subst
 returns-else-is_subst c associations definitions args r q es at w st h set =
     let f = first c.before.before.before.before.before.before es at in
-    rw (c.make-in-Branch.ensures, f.is, unnamed_rule _ _ _ _ f.head f.rest h.scope f.node (rw f.is at ((start c.before.before.before.before.before.before).pre.1 es at)), is_code c.before.before f.head f.node ∙ c.if-is_subst.false)
+    rw (c.make-in-Branch.ensures, f.is, unnamed_rule _ _ _ _ f.head f.rest h.scope f.node (rw f.is at (c.requires.1 es at)), is_code c.before.before f.head f.node ∙ c.if-is_subst.false)
     (data_planned _ _ (rw f.is at at))
 
 word-requires : tie.Need-word-requires
