@@ -22,7 +22,7 @@ returns-then-not-is_present c =
     let has = c.requires.0 in (
       record { changed = changed_none _ _ _; same = λ z. refl },
       λ t rs es reads. rw (read_once has t rs es reads).1
-          (stream_unnamed _ _ _ (bytes c.before.before.before) has c.requires.1 (λ ns w. c.is_present.ensures.1 ns w (not-true _ c.if-not-is_present.true))),
+          (stream_unnamed _ _ _ (bytes c.before.before.before) has c.requires.1 (λ ns w. c.is_present.ensures.1 ns w c.if-not-is_present.true)),
     )
 
 transform-requires : tie.Need-transform-requires

@@ -38,7 +38,7 @@ vacancy c = rw c.in-Vacant.is at c.seek.ensures
 
 -- the last row and the new one are in the table
 rows_inside : (c : tie.After-put_mark) → let last = c.in-Vacant.last in
-    (row_width * last + row_width ≤ length c.put_mark.new.0) × (c.in-Vacant.bit < 2)
+    (row_width * last + row_width ≤ length c.put_mark.new.table) × (c.in-Vacant.bit < 2)
     × (c.args.row < 65536)
 rows_inside c =
     let given = c.requires in
@@ -46,7 +46,7 @@ rows_inside c =
     (rw c.put_mark.ensures.0.same_length at.2, at.3, (one_reference given.0.2 given.1).here.row.few)
 
 -- the new row is put there
-put_there : (c : tie.After-put_child) → let a = c.args in let t = a.table.now in let t' = c.put_child.new.0 in
+put_there : (c : tie.After-put_child) → let a = c.args in let t = a.table.now in let t' = c.put_child.new.table in
     Changed t t' a.list (next t a.row) × ((e : Node) (os : List Operator) → Naming a.s.now t a.list a.row (next t a.row) os (cons e empty)
     → NamedBy a.s.now t' a.list (next t a.row) (series a.arity (cons e empty) os) true)
 put_there c =

@@ -44,7 +44,7 @@ small_arity c = let asked = c.requires.0 in omega (arith, c.small-arity.ensures 
 kind_is : (c : tie.Else-kind-ne-REFERENCE invariant-loop-row decreases-loop-row) → let loop = c.loop-row in kind loop.table loop.row ≡ 4
 kind_is c = sym c.kind.ensures ∙ c.if-kind-ne-REFERENCE.false
 
-after : (c : tie.After-name invariant-loop-row decreases-loop-row) → let a = c.args in Changed a.table.now c.name.new.1.0 a.list a.end
+after : (c : tie.After-name invariant-loop-row decreases-loop-row) → let a = c.args in Changed a.table.now c.name.new.table a.list a.end
 after c =
     changed_then c.loop-row.invariant.0 (changed_wider c.name.ensures.0 _ _ (omega arith) (given c.before.before.before.before).inside)
 
@@ -75,7 +75,7 @@ name_all_spec =
       λ n es os l h.
           let f = first c.before.before.before.before.before.before.before es os h in
           rw (← c.small-arity.ensures n l) (ill_named _ _ _ _ (first_refused f _ _
-          (c.name.ensures.1 f.node f.operators f.naming) (not-true _ c.if-not-name.true))),
+          (c.name.ensures.1 f.node f.operators f.naming) c.if-not-name.true)),
     ))
     (λ c. search rules)
     (λ c. search rules)
@@ -83,7 +83,7 @@ name_all_spec =
       after c.before.before.before,
       λ es os h.
           let f = first c.before.before.before.before.before.before.before es os h in
-          first_named f _ c.name.ensures.0 (c.name.ensures.1 f.node f.operators f.naming) (not-false _ c.if-not-name.false)
+          first_named f _ c.name.ensures.0 (c.name.ensures.1 f.node f.operators f.naming) c.if-not-name.false
           (sym (one_reference f.naming (kind_is c.before.before.before.before.before)).here.on),
     ))
     (λ c. c.loop-row.invariant.0.same_length)

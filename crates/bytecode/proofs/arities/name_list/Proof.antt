@@ -33,7 +33,7 @@ given : (c : tie.In-loop-row invariant-loop-row decreases-loop-row) → let loop
     First c.args.s.now loop.table c.args.list loop.row c.next-end.result arities (operators c.requires.0)
 given c = first c c.requires.0 c.requires.1
 
-after : (c : tie.After-entry invariant-loop-row decreases-loop-row) → let a = c.args in Changed a.table.now c.entry.new.1.0 a.list c.next-end.result
+after : (c : tie.After-entry invariant-loop-row decreases-loop-row) → let a = c.args in Changed a.table.now c.entry.new.table a.list c.next-end.result
 after c =
     changed_then c.loop-row.invariant.0 (changed_wider c.entry.ensures.0 _ _ (omega arith) (given c.before.before).inside)
 
@@ -59,14 +59,14 @@ name_list_spec =
     (λ c. (
       changed_wider (after c.before.before.before) _ _ (omega arith) (omega (arith, c.next-end.ensures)),
       λ e l. let f = first c.before.before.before.before.before e l in
-          ill_named _ _ _ _ (first_refused f _ _ (c.entry.ensures.1 f.node f.operators f.naming) (not-true _ c.if-not-entry.true)),
+          ill_named _ _ _ _ (first_refused f _ _ (c.entry.ensures.1 f.node f.operators f.naming) c.if-not-entry.true),
     ))
     (λ c κs. omega (arith, (written_whole _ _ _ _ (first_written (given c.before.before.before.before.before))).0, c.entry.ensures.0.same_length))
     (λ c. omega (arith, behind c, (given c.before.before.before.before.before.before).forward, c.loop-row-test.true))
     (λ c. (
       after c.before.before.before.before,
       λ e l. let f = first c.before.before.before.before.before.before e l in
-          first_named f _ c.entry.ensures.0 (c.entry.ensures.1 f.node f.operators f.naming) (not-false _ c.if-not-entry.false) (behind c),
+          first_named f _ c.entry.ensures.0 (c.entry.ensures.1 f.node f.operators f.naming) c.if-not-entry.false (behind c),
     ))
     (λ c. c.loop-row.invariant.0.same_length)
     (λ c. (

@@ -4,10 +4,10 @@ use Prim.Native.Nat.{◌+◌, ◌-◌, ◌*◌, ◌≤◌, ◌<◌}
 use mathlib.Core.Path.{◌≡◌, sym, ◌∙◌}
 use native.Mathlib.Omega.{arith}
 use lib.ListN.{length}
-use mathlib.Core.Logic.{⊎_elim}
 use Rattle.spec.specs.Reading.{row_width}
 use Rattle.rows.specs.Rows.{next}
 use Rattle.bytecode.proofs.Switches.{switch, Switching, switching_begins, switching_skip, switching_on, switching_aside, switching_tree, switching_reference, entry_ends, leave_ends}
+use Rattle.bytecode.proofs.around.switch.Lts.{then-kind-eq-REFERENCE, else-kind-eq-REFERENCE}
 use Rattle.bytecode.proofs.around.switch.Statement.{statement}
 use Rattle.bytecode.proofs.around.switch.Tie as tie
 
@@ -29,10 +29,11 @@ loop-row-preserved : tie.Need-loop-row-preserved invariant-loop-row decreases-lo
 loop-row-preserved c =
     let e = c.loop-row.invariant in
     let within = (row_inside c.before.before).0 in
-    ⊎_elim
-    (λ w. rw w.5 (switching_on e within w.2.ensures))
-    (λ w. rw w.1 (switching_skip e within (λ h. w.0.left (c.kind.ensures ∙ ((switching_aside e c.requires).same_rows c.loop-row.row).same_kind ∙ h))))
-    c.if-kind-eq-REFERENCE.branch
+    elim c.if-kind-eq-REFERENCE.branch [
+      then-kind-eq-REFERENCE w ↦ rw w.table-is (switching_on e within w.switch_one.ensures)
+    | else-kind-eq-REFERENCE w ↦
+      rw w.table-is (switching_skip e within (λ h. w.if-kind-eq-REFERENCE.false (c.kind.ensures ∙ ((switching_aside e c.requires).same_rows c.loop-row.row).same_kind ∙ h)))
+    ]
 
 returns : tie.Need-returns invariant-loop-row decreases-loop-row
 returns c =

@@ -17,9 +17,9 @@ decreases-loop-row s table₀ arities end row₀ table row = end - row
 operator : (c : tie.After-skip-behind invariant-loop-row decreases-loop-row) → let a = c.args in
     Passing a.s.now a.arities c.loop-row.table c.loop-row.row a.flat.end c.skip-behind.result
 operator c =
-    let n = c.arity-1.given in
+    let n = c.in-Operator in
     let next = c.next-next.ensures in
-    record { arity = n.0.0; role = rw n.1 at c.role.ensures; past = rw next at c.skip-behind.ensures }
+    record { arity = n.arity; role = rw n.is at c.role.ensures; past = rw next at c.skip-behind.ensures }
 
 pub gather_spec : {M : Type 1} → statement M
 gather_spec =

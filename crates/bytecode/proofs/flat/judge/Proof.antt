@@ -15,19 +15,19 @@ use Rattle.bytecode.proofs.flat.judge.Tie as tie
 head_key-requires : tie.Need-head_key-requires
 head_key-requires c κs =
     let pre = c.requires in
-    record { nodes = elements pre.0; at = pieces_head _ _ _ (elements pre.0) (form_piece (rw c.before.result.given.1 at pre.1)).pieces }
+    record { nodes = elements pre.0; at = pieces_head _ _ _ (elements pre.0) (form_piece (rw c.in-Branch.is at pre.1)).pieces }
 
 -- what is found of a form
 named : (c : tie.After-is_reserved) (e : Node) → let a = c.args in
-    IsPiece a.s.now a.table.now a.result e → c.is_reserved.result ≡ led_by_name (elements e)
+    IsPiece a.s.now a.table.now a.res e → c.is_reserved.result ≡ led_by_name (elements e)
 named c e h =
-    let head = pieces_head _ _ _ (elements e) (form_piece (rw c.before.before.before.result.given.1 at h)).pieces in
+    let head = pieces_head _ _ _ (elements e) (form_piece (rw c.in-Branch.is at h)).pieces in
     c.is_reserved.ensures ∙ ap reserved (c.head_key.ensures (elements e) head)
     ∙ head_reserved _ _ _ (all_bytes c.args.s.now (λ i. (c.shared_slice_known-1.given i).fits)) (elements e) head
 
 deep : (c : tie.After-is_deep) (e : Node) → let a = c.args in
-    IsPiece a.s.now a.table.now a.result e → c.is_deep.result ≡ ltb 64 (node_depth e)
-deep c e h = c.is_deep.ensures _ e (rw c.before.before.before.before.before.result.given.1 at h)
+    IsPiece a.s.now a.table.now a.res e → c.is_deep.result ≡ ltb 64 (node_depth e)
+deep c e h = c.is_deep.ensures _ e (rw c.in-Branch.is at h)
 
 pub judge_spec : {M : Type 1} → statement M
 judge_spec =
@@ -39,7 +39,7 @@ judge_spec =
     (λ c κs. search rules)
     (λ c e h. rw (sym (named c.before e h) ∙ c.if-is_reserved.true))
     (λ c κs. let pre = c.requires in
-    (_, pre.0, rw c.before.before.before.before.result.given.1 at pre.1))
+    (_, pre.0, rw c.in-Branch.is at pre.1))
     (λ c e h. rw (sym (named c.before.before.before e h) ∙ c.if-is_reserved.false, sym (deep c.before e h) ∙ c.if-is_deep.true))
     (λ c e h. atom_judged (rw c.in-Leaf.is at h))
     (λ c e h. rw (sym (named c.before.before.before e h) ∙ c.if-is_reserved.false, sym (deep c.before e h) ∙ c.if-is_deep.false)))

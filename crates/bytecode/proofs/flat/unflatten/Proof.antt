@@ -18,12 +18,12 @@ use Rattle.bytecode.proofs.flat.unflatten.Statement.{statement}
 use Rattle.bytecode.proofs.flat.unflatten.Tie as tie
 
 -- what is gathered, where nothing is short of operands
-gathered : (c : tie.Else-not-gather) → let a = c.args in let t' = c.gather.new.1.0 in
+gathered : (c : tie.Else-not-gather) → let a = c.args in let t' = c.gather.new.table in
     (os : List Operator) (es : Nodes) → FlatAt a.s.now a.table.now a.arities a.flat.first a.flat.end os es
     → (short os 0 es ≡ false) × GatheredAt t' os 0 a.flat.first es × ((place : ℕ) → IsPiece a.s.now t' (result_at t' a.flat) (result place os es))
 gathered c os es f =
     let g = c.gather.ensures in
-    let is = not-false c.gather.result c.if-not-gather.false in
+    let is = c.if-not-gather.false in
     let all = g.2 os es f in
     let enough = not-true (short os 0 es) (sym all.0 ∙ is) in
     (enough, all.1 is, flat_result _ c.requires.0 f g.0 g.1 enough (all.1 is))
@@ -38,7 +38,7 @@ unflatten_spec =
       g.0,
       g.1,
       λ place os es f.
-          let lacking = not-false (short os 0 es) (sym (g.2 os es f).0 ∙ not-true c.gather.result c.if-not-gather.true) in
+          let lacking = not-false (short os 0 es) (sym (g.2 os es f).0 ∙ c.if-not-gather.true) in
           (rw lacking, λ z. absurd (omega (arith, z))),
     ))
     (λ c κs. let w = written_all_kept _ c.gather.ensures.0 c.requires.1.1 _ _ c.requires.1.2.written in

@@ -64,4 +64,4 @@ measure_spec =
     (λ c. let l = c.loop-row in
     marked_other l.invariant (omega (arith, c.loop-row-test.true)) (λ k. c.if-kind-eq-FORM.false (c.kind.ensures ∙ k)))
     (λ c. c.loop-row.invariant.changed.same_length)
-    (λ c. let k = c.loop-row.invariant in (k.changed, k.links, k.others, λ s. measured_within (k.decreases s) (omega (arith, c.loop-row-test.false)) (omega arith))))
+    (λ c. let k = c.loop-row.invariant in (k.changed, k.links, k.others, λ s. measured_within (k.measured s) (omega (arith, c.loop-row-test.false)) (omega arith))))

@@ -35,9 +35,9 @@ returns-then-row-link c out a = let l = c.loop-list in reached_lasts a (l.invari
 -- a list that has ended is left
 left : (c : tie.After-switch invariant-loop-list decreases-loop-list) → let a = c.args in
     (out : Around) → AroundAt a.s.now a.table.now a.row a.around out
-    → (link c.switch.new.1.0 c.loop-list.list < c.loop-list.list)
-    × ((n : ℕ) → n ≡ link c.switch.new.1.0 c.loop-list.list
-    → Reached a.s.now a.table.now c.switch.new.1.0 a.row a.around out n)
+    → (link c.switch.new.table c.loop-list.list < c.loop-list.list)
+    × ((n : ℕ) → n ≡ link c.switch.new.table c.loop-list.list
+    → Reached a.s.now a.table.now c.switch.new.table a.row a.around out n)
 left c out a =
     let l = c.loop-list.invariant out a in
     let ended = rw c.link.ensures at c.if-row-link.false in

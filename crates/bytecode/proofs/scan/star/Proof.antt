@@ -27,7 +27,7 @@ returns-then-refusal-ne0 : tie.Need-returns-then-refusal-ne0
 returns-then-refusal-ne0 c =
     (
       form_marked c.requires.0.1 c.star_flat-refusal.ensures.0 c.put_verdict.ensures.0 c.put_verdict.ensures.2,
-      (λ es out h r. star_refused _ _ c.args.form out es c.put_verdict.new.0 _ (arity_list es) _ (c.star_flat-refusal.ensures.1 es out h) c.if-refusal-ne0.true
+      (λ es out h r. star_refused _ _ c.args.form out es c.put_verdict.new.table _ (arity_list es) _ (c.star_flat-refusal.ensures.1 es out h) c.if-refusal-ne0.true
           (c.put_verdict.ensures.1 ∙ rw (ne_eqb c.star_flat-refusal.result 0 c.if-refusal-ne0.true))
           (around_later _ (written_order _ _ _ _ es h.fresh.written) (around_later _ (omega arith) (nested_around h r c.star_flat-refusal.ensures.0 c.put_verdict.ensures.0)))),
     )
@@ -45,11 +45,11 @@ put_link-requires-2 c κs =
 
 -- before the list is entered
 left : (c : tie.After-switch-arg-1) → let a = c.args in (es : Nodes) (out : Around) → HeadedAt a.s.now a.table.now a.form es
-    → StarOn a.s.now c.star_flat-refusal.new.1.0 a.form out es
+    → StarOn a.s.now c.star_flat-refusal.new.table a.form out es
 left c es out h = star_on _ _ _ out es (arity_list es) _ refl (c.star_flat-refusal.ensures.1 es out h) c.if-refusal-ne0.false
 
 all_put : (c : tie.After-switch-arg-1) → let a = c.args in
-    StarPut c.star_flat-refusal.new.1.0 c.put_link-2.new.0 a.form a.around
+    StarPut c.star_flat-refusal.new.table c.put_link-2.new.table a.form a.around
 all_put c =
     let a = c.args in
     let verdict = c.put_verdict.ensures in

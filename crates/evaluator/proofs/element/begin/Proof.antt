@@ -14,31 +14,29 @@ use Rattle.evaluator.proofs.element.begin.Tie as tie
 
 -- the step is taken
 module _ (c : tie.In-Done) where
-  abbrev start : tie.Start
-  start = c.before.before.before.before.before
 
-  taken : let a = start.args in (c.stepped.given.0.0 ≡ stepped a.state) × (0 < a.state.steps)
-  taken = begin_some _ _ (sym c.before.before.step.ensures ∙ c.stepped.given.1)
+  taken : let a = c.args in (c.in-Done.stepped ≡ stepped a.state) × (0 < a.state.steps)
+  taken = begin_some _ _ (sym c.step.ensures ∙ c.in-Done.is)
 
   abbrev Begins : ℕ → Node → Here → Type 0
   Begins bound e h =
-      let a = start.args in
+      let a = c.args in
       Beginning a.s.now a.table.now bound a.w.now a.args.now (view a.associations.now a.definitions.now a.here.scope) a.state a.here a.e.node a.e.row e h
 
 -- it is decided what is to be done
-decides : (c : tie.After-decided-decision) → let a = (start c.before.before).args in
-    (bound : ℕ) (e : Node) (h : Here) → Begins c.before.before bound e h
+decides : (c : tie.After-decided-decision) → let a = c.args in
+    (bound : ℕ) (e : Node) (h : Here) → Begins c.before bound e h
     → Decided a.s.now a.table.now bound a.w.now (view a.associations.now a.definitions.now a.here.scope) a.here.scope a.state a.e.row e h c.decided-decision.result
 decides c bound e h b =
-    c.decided-decision.ensures bound (start c.before.before).args.w.now (start c.before.before).args.state e h (taken c.before.before).0 (taken c.before.before).1 b
+    c.decided-decision.ensures bound c.args.w.now c.args.state e h (taken c.before).0 (taken c.before).1 b
 
 decided-decision-requires : tie.Need-decided-decision-requires
 decided-decision-requires c κs =
-    (_, (start c.before).args.state, (taken c.before).0, (taken c.before).1, (start c.before).requires)
+    (_, c.args.state, (taken c).0, (taken c).1, c.requires)
 
 perform-requires : tie.Need-perform-requires
 perform-requires c κs =
-    let some = (start c.before.before.before.before.before.before).pre in
+    let some = c.requires in
     let p = rw c.in-Task.is at (decides c.before.before.before.before some.bound some.expression some.here some.begins) in
     record {
       bound = some.bound;
@@ -53,8 +51,7 @@ perform-requires c κs =
 -- no step is left
 returns-in-Refused : tie.Need-returns-in-Refused
 returns-in-Refused c =
-    let told = c.number-1.given in
-    (λ bound run e h b. begin_none b run told.0.0 told.0.1.0 (sym c.step.ensures ∙ told.1), refl)
+    (λ bound run e h b. begin_none b run c.in-Refused.number c.in-Refused.at (sym c.step.ensures ∙ c.in-Refused.is), refl)
 
 -- too few for a flat list
 returns-in-Refused-decision : tie.Need-returns-in-Refused-decision

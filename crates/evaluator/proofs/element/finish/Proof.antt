@@ -1,4 +1,4 @@
--- `evaluator::element::finish` meets its contract: returns-in-Form stored-stored-requires pack-part-requires, returns-in-Form shape_of-w-in-Concat, or returns-in-Form definition's values moved. Assumes nothing.
+-- `evaluator::element::finish` meets its contract: a data form, a join, or a definition's values moved. Assumes nothing.
 use borrow.Author.Rules.{rules}
 use mathlib.Core.Path.{refl}
 use native.Mathlib.Omega.{arith}
@@ -20,38 +20,37 @@ finish_spec =
     tie.close
     (tie.spec
     (λ c. search rules)
-    -- `wrapped` wrapped-requires
-    (λ c κs. let some = c.before.before.before.before.before.requires in let r = some.finishing in ((r.fitting, omega arith), (some.values, r.stand, r.sound.0)))
+    -- `wrapped` asks
+    (λ c κs. let some = c.requires in let r = some.finishing in ((r.fitting, omega arith), (some.values, r.stand, r.sound.0)))
     (λ c κs. search rules)
     (λ c. search rules)
-    -- `joined` wrapped-requires
-    (λ c κs.
-    let some = c.before.before.before.before.before.requires in
-    (some.finishing.fitting, can_join (rw c.before.enum-told2.given.1 at some.by) some.finishing))
-    (λ c κs. search rules)
-    (λ c. search rules)
-    -- `stored` wrapped-requires
-    (λ c κs. let r = c.before.before.before.before.before.before.requires.finishing in (r.fitting, r.stand.order))
-    -- `pack` wrapped-requires
-    (λ c κs.
-    let told = c.before.before.before.before.before in
-    let some = told.before.before.before.before.requires in
-    let fits = some.finishing.fitting in
-    let can = can_define (rw told.making.given.1 at some.by) some.finishing in
-    (omega (arith, c.before.before.stored.ensures.floor, can.0), omega (arith, fits.below, fits.short)))
-    -- `add` wrapped-requires
+    -- `joined` asks
     (λ c κs.
     let some = c.requires in
-    (can_define (rw c.before.before.before.before.before.before.before.making.given.1 at some.by) some.finishing).1)
+    (some.finishing.fitting, can_join (rw c.in-Concat.is at some.by) some.finishing))
     (λ c κs. search rules)
     (λ c. search rules)
-    -- returns-in-Form stored-stored-requires pack-part-requires
-    (λ c.
-    let wrapped = c.before.before.before.wrapped in
-    let row = c.args.values.row in
-    (rw (c.leaves.ensures, c.before.before.before.before.before.enum_told.given.1) (form_finished _ wrapped.new.0 _ _ _ _ row wrapped.result wrapped.ensures), λ numbers. refl))
+    -- `stored` asks
+    (λ c κs. let r = c.requires.finishing in (r.fitting, r.stand.order))
+    -- `pack` asks
+    (λ c κs.
+    let some = c.requires in
+    let fits = some.finishing.fitting in
+    let can = can_define (rw c.in-Define.is at some.by) some.finishing in
+    (omega (arith, c.stored-stored.ensures.floor, can.0), omega (arith, fits.below, fits.short)))
+    -- `add` asks
+    (λ c κs.
+    let some = c.requires in
+    (can_define (rw c.in-Define.is at some.by) some.finishing).1)
+    (λ c κs. search rules)
     (λ c. search rules)
-    -- returns-in-Form shape_of-w-in-Concat
+    -- a data form
+    (λ c.
+    let wrapped = c.wrapped in
+    let row = c.args.values.row in
+    (rw (c.leaves.ensures, c.in-Form.is) (form_finished _ wrapped.new.w _ _ _ _ row wrapped.result wrapped.ensures), λ numbers. refl))
+    (λ c. search rules)
+    -- a join
     (λ c.
     let told = c.in-Concat.is in
     (rw (c.leaves-in-Concat.ensures, told) (concat_finished _ _ _ _ _ _ _ _ c.joined.ensures), λ numbers. refl))

@@ -5,9 +5,9 @@ use native.Mathlib.Omega.{arith}
 use Rattle.evaluator.proofs.element.returned.Statement.{statement}
 use Rattle.evaluator.proofs.element.returned.Tie as tie
 
-is_single-requires : tie.Need-is_single-requires
-is_single-requires c vs es r at =
-    rw (sym (c.before.before.before.before.before.is-single.ensures es at) ∙ c.before.before.before.before.if1.true) (c.before.before.copied.ensures vs r.stand r.sound.1)
+returns-then-is_single : tie.Need-returns-then-is_single
+returns-then-is_single c vs es r at =
+    rw (sym (c.is_single.ensures es at) ∙ c.if-is_single.true) (c.copied.ensures vs r.stand r.sound.1)
 
 returns : tie.Need-returns
 returns c vs es r at =
@@ -18,11 +18,11 @@ returned_spec =
     tie.close
     (tie.spec
     (λ c κs. search rules)
-    -- `copied` returns-then-is_single
-    (λ c κs. let r = c.before.before.before.before.before.before.requires.1.1 in (r.fitting, (r.stand.order, r.stand.inside, omega arith)))
+    -- `copied` asks
+    (λ c κs. let r = c.requires.1.1 in (r.fitting, (r.stand.order, r.stand.inside, omega arith)))
     (λ c. search rules)
-    is_single-requires
-    -- `wrapped` returns-then-is_single
+    returns-then-is_single
+    -- `wrapped` asks
     (λ c κs. let r = c.requires.1 in ((r.1.fitting, r.1.order), (r.0, r.1.stand, r.1.sound.0)))
     (λ c. search rules)
     returns)
