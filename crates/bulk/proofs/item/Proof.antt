@@ -9,12 +9,12 @@ use Rattle.bulk.proofs.item.Tie as tie
 returns-in-Stream : tie.Need-returns-in-Stream
 returns-in-Stream c =
     let a = c.args in
-    rw c.in-Stream.is (c.item_of.ensures of_stream a.stream a.result refl)
+    rw c.in-Stream.is (c.item_of.ensures of_stream a.stream a.res refl)
 
 returns-in-Result : tie.Need-returns-in-Result
 returns-in-Result c =
     let a = c.args in
-    rw c.in-Result.is (c.item_of-in-Result.ensures of_result a.stream a.result refl)
+    rw c.in-Result.is (c.item_of-in-Result.ensures of_result a.stream a.res refl)
 
 pub item_spec : {M : Type 1} → statement M
 item_spec =

@@ -28,8 +28,7 @@ unfolding Item
 at_locate c r e b stream result same = rw (← chosen_lent b stream result, same) (rw e at (c.locate.ensures b))
 
 -- it lies in the buffer
-inside : (c : tie.In-At) → let start = c.start-1.given.0 in
-    (start.0 ≤ start.1.0) × (start.1.0 ≤ length c.args.buffer.now)
+inside : (c : tie.In-At) → (c.in-At.start ≤ c.in-At.end) × (c.in-At.end ≤ length c.args.buffer.now)
 inside c =
     let x = c.args.buffer in
     item_inside of_stream x.now x.now _ _ _ (all_bytes x.now (λ i. (c.shared_slice_known-1.given i).fits))
