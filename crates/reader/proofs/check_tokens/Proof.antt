@@ -42,15 +42,6 @@ at_whole : (c : tie.In-Whole invariant-loop-at decreases-loop-at)
     → TurnAt c.before.before.before (Whole c.in-Whole.kind c.in-Whole.body c.in-Whole.end)
 at_whole c = at_token c.before _ c.in-Whole.is
 
-returns-then-depth-ge64 : tie.Need-returns-then-depth-ge64 invariant-loop-at decreases-loop-at
-returns-then-depth-ge64 c = (at_opening c.before).0 c.if-depth-ge64.true
-
-returns-then-room-rows : tie.Need-returns-then-room-rows invariant-loop-at decreases-loop-at
-returns-then-room-rows c = (at_opening c.before.before).1 c.if-depth-ge64.false c.if-room-rows.true
-
-loop-at-preserved-in-Opening : tie.Need-loop-at-preserved-in-Opening invariant-loop-at decreases-loop-at
-loop-at-preserved-in-Opening c = rw c.began-from.ensures ((at_opening c.before.before.before).2 c.if-depth-ge64.false c.if-room-rows.false)
-
 returns-then-depth-eq0 : tie.Need-returns-then-depth-eq0 invariant-loop-at decreases-loop-at
 returns-then-depth-eq0 c = (at_closing c.before).0 c.if-depth-eq0.true
 
@@ -93,14 +84,14 @@ check_tokens_spec =
     loop-at-init
     (λ c κs. omega arith)
     (λ c. search rules)
-    returns-then-depth-ge64
-    returns-then-room-rows
+    (λ c. (at_opening c.before).0 c.if-depth-ge64.true)
+    (λ c. (at_opening c.before.before).1 c.if-depth-ge64.false c.if-room-rows.true)
     (λ c κs. omega arith)
     (λ c. omega arith)
     (λ c. omega arith)
     (λ c. omega arith)
     (λ c. omega arith)
-    loop-at-preserved-in-Opening
+    (λ c. rw c.began-from.ensures ((at_opening c.before.before.before).2 c.if-depth-ge64.false c.if-room-rows.false))
     (λ c. search rules)
     returns-then-depth-eq0
     (λ c. omega arith)

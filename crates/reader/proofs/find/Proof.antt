@@ -24,14 +24,8 @@ at_end : (c : tie.After-expression_end-end invariant-loop-at decreases-loop-at)
     → Passed c.args.s.now c.args.k c.loop-at.at c.loop-at.n c.expression_end-end.result
 at_end c = finding_turn _ _ _ _ c.loop-at.invariant _ c.loop-at-test.true c.expression_end-end.ensures
 
-returns-then-n-eq0 : tie.Need-returns-then-n-eq0 invariant-loop-at decreases-loop-at
-returns-then-n-eq0 c = (at_end c.before).this c.if-n-eq0.true
-
 loop-at-smaller : tie.Need-loop-at-smaller invariant-loop-at decreases-loop-at
 loop-at-smaller c = omega (arith, (at_end c.before).forward)
-
-loop-at-preserved : tie.Need-loop-at-preserved invariant-loop-at decreases-loop-at
-loop-at-preserved c = (at_end c.before).later c.if-n-eq0.false
 
 returns : tie.Need-returns invariant-loop-at decreases-loop-at
 returns c = finding_end _ _ _ _ c.loop-at.invariant c.loop-at-test.false
@@ -44,8 +38,8 @@ find_spec =
     decreases-loop-at
     loop-at-init
     expression_end-end-requires
-    returns-then-n-eq0
+    (λ c. (at_end c.before).this c.if-n-eq0.true)
     (λ c. omega arith)
     loop-at-smaller
-    loop-at-preserved
+    (λ c. (at_end c.before).later c.if-n-eq0.false)
     returns)

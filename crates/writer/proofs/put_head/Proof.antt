@@ -4,20 +4,6 @@ use Rattle.writer.proofs.Puts.{head_one, head_three, head_four}
 use Rattle.writer.proofs.put_head.Statement.{statement}
 use Rattle.writer.proofs.put_head.Tie as tie
 
-put_bytes-requires : tie.Need-put_bytes-requires
-put_bytes-requires c κs = rw (head_one c.if-n-lt64.true) at c.requires.1
-
-returns-then-n-lt64 : tie.Need-returns-then-n-lt64
-returns-then-n-lt64 c = rw (head_one c.if-n-lt64.true) c.put_bytes.ensures
-
-put_bytes-requires-then-n-lt256 : tie.Need-put_bytes-requires-then-n-lt256
-put_bytes-requires-then-n-lt256 c κs =
-    rw (head_three c.if-n-lt64.false c.if-n-lt256.true) at c.requires.1
-
-returns-then-n-lt256 : tie.Need-returns-then-n-lt256
-returns-then-n-lt256 c =
-    rw (head_three c.if-n-lt64.false c.if-n-lt256.true) c.put_bytes-then-n-lt256.ensures
-
 put_bytes-requires-2 : tie.Need-put_bytes-requires-2
 put_bytes-requires-2 c κs = rw (head_four c.if-n-lt256.false) at c.requires.1
 
@@ -31,14 +17,14 @@ put_head_spec =
     (λ c. search rules)
     (λ c. search rules)
     (λ c. search rules)
-    put_bytes-requires
+    (λ c κs. rw (head_one c.if-n-lt64.true) at c.requires.1)
     (λ c. search rules)
-    returns-then-n-lt64
+    (λ c. rw (head_one c.if-n-lt64.true) c.put_bytes.ensures)
     (λ c. search rules)
     (λ c. search rules)
-    put_bytes-requires-then-n-lt256
+    (λ c κs. rw (head_three c.if-n-lt64.false c.if-n-lt256.true) at c.requires.1)
     (λ c. search rules)
-    returns-then-n-lt256
+    (λ c. rw (head_three c.if-n-lt64.false c.if-n-lt256.true) c.put_bytes-then-n-lt256.ensures)
     (λ c. search rules)
     (λ c. search rules)
     (λ c. search rules)

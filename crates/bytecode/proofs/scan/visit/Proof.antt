@@ -87,12 +87,6 @@ returns-then-key-ne-PREFIX c end fs k l =
     let f = form_here _ _ c.args.scan _ _ _ k.few h _ (seen c.before.before.before) in
     then c.before.before.before.before.before.before.before l (visit_other _ _ c.args.scan _ _ _ k.few h _ (seen c.before.before.before) _ (told c.before.before k.few h) c.if-key-eq-PREFIX_STAR.false c.if-key-ne-PREFIX.true)
 
-returns-then-around-eq0 : tie.Need-returns-then-around-eq0
-returns-then-around-eq0 c end fs k l =
-    let h = at c.before.before.before.before.before.before.before.before end fs k l in
-    let f = form_here _ _ c.args.scan _ _ _ k.few h _ (seen c.before.before.before.before) in
-    then c.before.before.before.before.before.before.before.before l (visit_outside _ _ c.args.scan _ _ _ k.few h _ (seen c.before.before.before.before) _ (told c.before.before.before k.few h) c.if-key-eq-PREFIX_STAR.false c.if-around-eq0.true)
-
 nested-requires : tie.Need-nested-requires
 nested-requires c κs =
     let few = c.requires.2.few in
@@ -105,16 +99,6 @@ nested-requires c κs =
 returns-in-Leaf : tie.Need-returns-in-Leaf
 returns-in-Leaf c end fs k l =
     then c.before.before.before.before l (visit_atom _ _ c.args.scan _ _ _ k.few (at c.before.before.before.before end fs k l) (sym c.in-Leaf.is ∙ c.element.ensures))
-
-returns-else-around-eq0 : tie.Need-returns-else-around-eq0
-returns-else-around-eq0 c end fs k l =
-    let h = at c.before.before.before.before.before.before.before.before.before.before.before.before end fs k l in
-    let f = form_here _ _ c.args.scan _ _ _ k.few h _ (seen c.before.before.before.before.before.before.before.before) in
-    let head = told c.before.before.before.before.before.before.before k.few h in
-    let nested = c.nested.ensures in
-    let is = c.if-key-ne-PREFIX.false in
-    then c.before.before.before.before.before.before.before.before.before.before.before.before l (visit_nested _ _ c.args.scan _ _ _ k.few h _ (seen c.before.before.before.before.before.before.before.before) _ head nested.0 c.if-key-eq-PREFIX_STAR.false is c.if-around-eq0.false
-    (nested.1 (tail f.elements) h.frame.around (headed_nested _ _ c.args.scan _ _ _ k.few h _ (seen c.before.before.before.before.before.before.before.before) _ head is) (enclosed _ _ c.args.scan _ _ _ k.few h _ (seen c.before.before.before.before.before.before.before.before))))
 
 pub visit_spec : {M : Type 1} → statement M
 visit_spec =
@@ -132,9 +116,17 @@ visit_spec =
     (λ c. (before c.before.before.before.before.before.before.before).same_length)
     returns-then-key-ne-PREFIX
     (λ c. (before c.before.before.before.before.before.before.before.before).same_length)
-    returns-then-around-eq0
+    (λ c end fs k l. let h = at c.before.before.before.before.before.before.before.before end fs k l in
+    let f = form_here _ _ c.args.scan _ _ _ k.few h _ (seen c.before.before.before.before) in
+    then c.before.before.before.before.before.before.before.before l (visit_outside _ _ c.args.scan _ _ _ k.few h _ (seen c.before.before.before.before) _ (told c.before.before.before k.few h) c.if-key-eq-PREFIX_STAR.false c.if-around-eq0.true))
     nested-requires
     (λ c. (before c.before.before.before.before).same_length)
     returns-in-Leaf
     (λ c. c.nested.ensures.0.changed.same_length ∙ (before c.before.before.before.before.before.before.before.before.before.before.before.before).same_length)
-    returns-else-around-eq0)
+    (λ c end fs k l. let h = at c.before.before.before.before.before.before.before.before.before.before.before.before end fs k l in
+    let f = form_here _ _ c.args.scan _ _ _ k.few h _ (seen c.before.before.before.before.before.before.before.before) in
+    let head = told c.before.before.before.before.before.before.before k.few h in
+    let nested = c.nested.ensures in
+    let is = c.if-key-ne-PREFIX.false in
+    then c.before.before.before.before.before.before.before.before.before.before.before.before l (visit_nested _ _ c.args.scan _ _ _ k.few h _ (seen c.before.before.before.before.before.before.before.before) _ head nested.0 c.if-key-eq-PREFIX_STAR.false is c.if-around-eq0.false
+    (nested.1 (tail f.elements) h.frame.around (headed_nested _ _ c.args.scan _ _ _ k.few h _ (seen c.before.before.before.before.before.before.before.before) _ head is) (enclosed _ _ c.args.scan _ _ _ k.few h _ (seen c.before.before.before.before.before.before.before.before))))))

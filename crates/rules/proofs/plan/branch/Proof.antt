@@ -61,30 +61,13 @@ module _ (c : tie.Then-is_named) (e : Node) (el : Element c.before.before.before
   at_reference = head_led _ _ _ _ (element_head el) (sym led)
 
 -- with a mark
-marked : (c : tie.Then-mark-ne0) → let a = c.args in
-    (e : Node) → Element c.before.before.before.before.before e → BytecodeAt a.s.now a.table.now a.row a.form e
-marked c e el = element_marked el (led c.before.before e el) (λ z. c.if-mark-ne0.true (c.mark-mark.ensures ∙ z))
-
-bytecode-requires : tie.Need-bytecode-requires
-bytecode-requires c κs =
-    let pre = c.requires.1 in
-    let b = marked c pre.0 pre.1 in
-    (c.mark-mark.ensures, (at_reference c.before.before pre.0 pre.1).here.row.few, (_, _, b.outcome, b.at))
+marked : (c : tie.After-mark-mark) → let a = c.args in
+    (e : Node) → Element c.before.before.before.before e → (c.mark-mark.result ≡ 0 → ⊥) → BytecodeAt a.s.now a.table.now a.row a.form e
+marked c e el other = element_marked el (led c.before e el) (λ z. other (c.mark-mark.ensures ∙ z))
 
 -- an unmarked reference leads it
-unmarked : (c : tie.Else-mark-ne0) (e : Node) → Element c.before.before.before.before.before e → AsForm c.before.before.before.before.before e
-unmarked c e el = element_unmarked el (sym c.mark-mark.ensures ∙ c.if-mark-ne0.false)
-
-named-requires : tie.Need-named-requires
-named-requires c κs =
-    let pre = c.requires in
-    let f = unmarked c pre.1.0 pre.1.1 in
-    ((_, _, _, pre.0), (record { nodes = f.nodes; at = as_list c.before.before.before.before.before f.nodes f.at }, λ es at. all_named c.before.before.before es at ∙ c.if-is_named.true))
-
-returns-then-is_named : tie.Need-returns-then-is_named
-unfolding plan_form
-returns-then-is_named c e el =
-    form_answers plain (unmarked c.before e el) (headed c.before.before.before.before.before.before _ c.in-Plain.is e el) (λ es at led. c.named.ensures _ _ _ _ es (as_list c.before.before.before.before.before.before es at))
+unmarked : (c : tie.After-mark-mark) (e : Node) → Element c.before.before.before.before e → c.mark-mark.result ≡ 0 → AsForm c.before.before.before.before e
+unmarked c e el none = element_unmarked el (sym c.mark-mark.ensures ∙ none)
 
 unnamed-requires : tie.Need-unnamed-requires
 unnamed-requires c κs =
@@ -133,10 +116,14 @@ branch_spec =
     (λ c. search rules)
     (λ c κs. head_inside _ _ _ _ (element_head c.requires.1.1))
     (λ c κs. let pre = c.requires.1 in (at_reference c pre.0 pre.1).here.row.inside)
-    bytecode-requires
-    (λ c e el. bytecode_answers _ _ _ (marked c.before e el) (λ o at. c.bytecode.ensures _ _ o at))
-    named-requires
-    returns-then-is_named
+    (λ c κs. let pre = c.requires.1 in
+    let b = marked c.before pre.0 pre.1 c.if-mark-ne0.true in
+    (c.mark-mark.ensures, (at_reference c.before.before pre.0 pre.1).here.row.few, (_, _, b.outcome, b.at)))
+    (λ c e el. bytecode_answers _ _ _ (marked c.before.before e el c.if-mark-ne0.true) (λ o at. c.bytecode.ensures _ _ o at))
+    (λ c κs. let pre = c.requires in
+    let f = unmarked c.before pre.1.0 pre.1.1 c.if-mark-ne0.false in
+    ((_, _, _, pre.0), (record { nodes = f.nodes; at = as_list c.before.before.before.before.before f.nodes f.at }, λ es at. all_named c.before.before.before es at ∙ c.if-is_named.true)))
+    (λ c e el. form_answers plain (unmarked c.before.before e el c.if-mark-ne0.false) (headed c.before.before.before.before.before.before _ c.in-Plain.is e el) (λ es at led. c.named.ensures _ _ _ _ es (as_list c.before.before.before.before.before.before es at)))
     unnamed-requires
     (λ c e el. let told = c.in-Ns.is in
     form_answers _ (worded c.before.before _ told refl e el) (headed c.before.before _ told e el) (λ es at led. c.ns.ensures _ _ _ es at led))

@@ -64,30 +64,9 @@ returns-then-undefinable c definitions args r q es at =
     let g = right c.before.before.before.before.before.before.before es at in
     define_answers c.args.form c.requires.1 g (bytes c.before.before.before.before.before.before.before) _ (key_is c.before g) (no_rest c.before g) _ definitions _ r q true _ _ (λ ks l. sym (c.undefinable.ensures _ ks l) ∙ c.if-undefinable.true) refl refl
 
-returns-then-here-ge256 : tie.Need-returns-then-here-ge256
-returns-then-here-ge256 c definitions args r q es at =
-    let g = right c.before.before.before.before.before.before.before.before.before es at in
-    define_answers c.args.form c.requires.1 g (bytes c.before.before.before.before.before.before.before.before.before) _ (key_is c.before.before.before g) (no_rest c.before.before.before g) _ definitions _ r q false true _ (λ ks l. sym (c.undefinable.ensures _ ks l) ∙ c.if-undefinable.false)
-    (le-leb 256 _ c.if-here-ge256.true) refl
-
 -- whether it is code
 is_code : (c : tie.After-is_subst) → (e : Node) → NodeAt (s c.before.before.before.before.before.before.before.before.before.before) (t c.before.before.before.before.before.before.before.before.before.before) false (p c.before.before.before.before.before.before.before.before.before.before).third e → headed_by subst e ≡ c.is_subst.result
 is_code c e at = headed c.word_at-word.result subst e c.is_subst.ensures (c.word_at-word.ensures e at)
-
-returns-then-is_subst : tie.Need-returns-then-is_subst
-returns-then-is_subst c definitions args r q es at =
-    let g = right c.before.before.before.before.before.before.before.before.before.before.before es at in
-    let code = is_code c.before g.value g.there ∙ c.if-is_subst.true in
-    define_answers c.args.form c.requires.1 g (bytes c.before.before.before.before.before.before.before.before.before.before.before) _ (key_is c.before.before.before.before.before g) (no_rest c.before.before.before.before.before g) _ definitions _ r q false false true (λ ks l. sym (c.undefinable.ensures _ ks l) ∙ c.if-undefinable.false)
-    (lt-leb 256 _ c.if-here-ge256.false) code
-
-returns : tie.Need-returns
-returns c definitions args r q es at =
-    let g = right c.before.before.before.before.before.before.before.before.before.before.before.before.before es at in
-    let code = is_code c.before.before.before g.value g.there ∙ c.if-is_subst.false in
-    rw (c.make.ensures, c.starting_at.ensures)
-    (define_answers c.args.form c.requires.1 g (bytes c.before.before.before.before.before.before.before.before.before.before.before.before.before) _ (key_is c.before.before.before.before.before.before.before g) (no_rest c.before.before.before.before.before.before.before g) _ definitions _ r q false false false (λ ks l. sym (c.undefinable.ensures _ ks l) ∙ c.if-undefinable.false)
-    (lt-leb 256 _ c.if-here-ge256.false) code)
 
 pub definition_spec : {M : Type 1} → statement M
 definition_spec =
@@ -105,12 +84,21 @@ definition_spec =
     (λ c κs. let g = some_right c.before.before.before in (g.marker, g.name, g.reference))
     (λ c κs. c.requires.0)
     returns-then-undefinable
-    returns-then-here-ge256
+    (λ c definitions args r q es at. let g = right c.before.before.before.before.before.before.before.before.before es at in
+    define_answers c.args.form c.requires.1 g (bytes c.before.before.before.before.before.before.before.before.before) _ (key_is c.before.before.before g) (no_rest c.before.before.before g) _ definitions _ r q false true _ (λ ks l. sym (c.undefinable.ensures _ ks l) ∙ c.if-undefinable.false)
+    (le-leb 256 _ c.if-here-ge256.true) refl)
     (λ c κs. search rules)
     (λ c. let g = some_right c.before.before.before.before.before.before.before.before.before.before.before in
     let f = leaf_fits (bytes c.before.before.before.before.before.before.before.before.before.before.before) g.reference in
     omega (arith, key_is c.before.before.before.before.before g, key_small g.marker g.name f.1 f.2))
-    returns-then-is_subst
+    (λ c definitions args r q es at. let g = right c.before.before.before.before.before.before.before.before.before.before.before es at in
+    let code = is_code c.before g.value g.there ∙ c.if-is_subst.true in
+    define_answers c.args.form c.requires.1 g (bytes c.before.before.before.before.before.before.before.before.before.before.before) _ (key_is c.before.before.before.before.before g) (no_rest c.before.before.before.before.before g) _ definitions _ r q false false true (λ ks l. sym (c.undefinable.ensures _ ks l) ∙ c.if-undefinable.false)
+    (lt-leb 256 _ c.if-here-ge256.false) code)
     (λ c κs. search rules)
     (λ c κs. search rules)
-    returns)
+    (λ c definitions args r q es at. let g = right c.before.before.before.before.before.before.before.before.before.before.before.before.before es at in
+    let code = is_code c.before.before.before g.value g.there ∙ c.if-is_subst.false in
+    rw (c.make.ensures, c.starting_at.ensures)
+    (define_answers c.args.form c.requires.1 g (bytes c.before.before.before.before.before.before.before.before.before.before.before.before.before) _ (key_is c.before.before.before.before.before.before.before g) (no_rest c.before.before.before.before.before.before.before g) _ definitions _ r q false false false (λ ks l. sym (c.undefinable.ensures _ ks l) ∙ c.if-undefinable.false)
+    (lt-leb 256 _ c.if-here-ge256.false) code)))
