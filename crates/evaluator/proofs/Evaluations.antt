@@ -3,7 +3,7 @@
 use Prim.Native.Nat.{ℕ, ◌+◌, ◌-◌, ◌*◌, ◌/◌, ◌≤◌, ◌<◌, min}
 use mathlib.Core.Path.{◌≡◌, refl, sym, ap, ◌∙◌}
 use mathlib.Core.List.{List, [], ◌∷◌, ◌++◌}
-use mathlib.Core.Bool.{Bool, true, false, not, ◌&&◌}
+use mathlib.Core.Bool.{Bool, true, false, not}
 use lib.ListN.{length, take, drop, length-append, length-take, take-append-drop}
 use lib.Seq.{take-append-le}
 use borrow.Author.Tests.{not-false}
@@ -11,7 +11,7 @@ use native.Mathlib.Decide.{dec_lt}
 use native.Mathlib.Omega.{arith}
 use Rattle.spec.specs.Expr.{if◌then◌else◌, same, int, ref, Expr, atom, form, Exprs, none, more, rows, rows_all, depth, deepest, marker_bytes, canonical}
 use Rattle.spec.specs.Reading.{Row, row_width, readable}
-use Rattle.spec.specs.Nodes.{core, version, Node, bytecode, Nodes, empty, number, number_all, elements, markers_all}
+use Rattle.spec.specs.Nodes.{core, version, Node, Nodes, empty, number, number_all, elements, markers_all}
 use Rattle.spec.specs.Bytecode.{node_depth, nodes_deepest, transform_all}
 use Rattle.spec.specs.Runs.{End, stopped, give, Held, reached, ceased, hold_events, hold, forget, cut, steps_in}
 use Rattle.spec.specs.Evaluation.{Left, run_code, start, run, result}
