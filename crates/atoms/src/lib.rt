@@ -1,4 +1,6 @@
 // What stands at a place of a stream: a form's 01 or 02, a whole atom, or a refusal. Document 01: "Bytes to expressions", refusals 2 to 7.
+#![tactic(auto)]
+
 ghost use Rattle.std.specs.Prelude.{◌≡◌, ℕ, suc, ◌-◌, ◌≤◌, ◌<◌, min, length, take, drop};
 ghost use Rattle.spec.specs.Reading.{taken, and_then, take_bytes, natural, length_expr, marker, name, as_array};
 ghost use Rattle.atoms.specs.Tokens.{token_at, shown, shown_atom, measured, leading_threes, plain, around};

@@ -33,10 +33,6 @@ module _ (s t : List ℕ) {w p : ℕ} (r : (reading s t ≡ refused w p) × (1 �
   unfolding Evaluate
   evaluate_refusal work out steps = record { is = rw r.0; numbered = r.1 }
 
--- all of some bytes copied to the start of others
-pub copied_over : (x out : List ℕ) → take (length x) x ++ drop (length x) out ≡ over x out
-copied_over x out = rw take-length
-
 -- a stream that was read
 module _ {s t t' : List ℕ} {rows size : ℕ} (r : WasRead s t t' rows size) where
   pub read_acceptance : Answered (Read s t) (Accepted rows) t' []
@@ -59,9 +55,9 @@ module _ {s t t' : List ℕ} {rows size : ℕ} (r : WasRead s t t' rows size) wh
   }
 
   -- a stream that is as long as its canonical stream is copied
-  pub copied_whole : ((i : ℕ) → get_or s i 0 < 256) → size ≡ length s → (out : List ℕ) → take (length s) s ++ drop (length s) out ≡ over (canonical (meaning_of s)) out
+  pub copied_whole : ((i : ℕ) → get_or s i 0 < 256) → size ≡ length s → (out : List ℕ) → over s out ≡ over (canonical (meaning_of s)) out
   copied_whole bytes whole out =
-      copied_over s out ∙ ap (λ (x : List ℕ). over x out) (canonical_only s _ _ _ (all_bytes s bytes) r.right.is (omega (arith, r.right.sized)))
+      ap (λ (x : List ℕ). over x out) (canonical_only s _ _ _ (all_bytes s bytes) r.right.is (omega (arith, r.right.sized)))
 
   pub has_read : HasRead s t' rows
   has_read = record { before = t; rows = rows_of (tokens 0 0 s); means = meaning_of s; is = r.right.is; filled_in = r.filled_in; counted = r.right.counted }

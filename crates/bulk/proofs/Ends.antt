@@ -2,7 +2,7 @@
 -- than the buffer's length". Assumes nothing.
 use Prim.Native.Nat.{ℕ, ◌+◌, ◌/◌, ◌≤◌, ◌<◌}
 use mathlib.Core.Path.{◌≡◌, refl, ◌∙◌}
-use mathlib.Core.Bool.{true, false, not, or_true, or_false}
+use mathlib.Core.Bool.{true, false, not, or-true, or-false}
 use mathlib.Core.List.{List, [], ◌∷◌}
 use native.Mathlib.Omega.{arith}
 use native.Mathlib.Numerals.{add-one}
@@ -62,7 +62,7 @@ ordered_last before (end ∷ ends) last h =
 module _ (buffer ends answers : List ℕ) where
   pub few_places : length answers / answer_width < length ends → is_23 buffer ends answers ≡ true
   unfolding is_23
-  few_places l = rw (lt-ltb (length answers / answer_width) (length ends) l) (or_true (misplaced ends (length buffer)))
+  few_places l = rw (lt-ltb (length answers / answer_width) (length ends) l) (or-true (misplaced ends (length buffer)))
 
   pub one_below : some_below 0 ends ≡ true → is_23 buffer ends answers ≡ true
   unfolding is_23
@@ -71,7 +71,7 @@ module _ (buffer ends answers : List ℕ) where
   pub none_below : {last : ℕ} → length ends ≤ length answers / answer_width → Ordered 0 ends last → is_23 buffer ends answers ≡ not (eqb last (length buffer))
   unfolding is_23
   none_below {last} l h =
-      rw (le-ltb (length answers / answer_width) (length ends) l, h.rises, h.ends_at) (or_false (not (eqb last (length buffer))))
+      rw (le-ltb (length answers / answer_width) (length ends) l, h.rises, h.ends_at) (or-false (not (eqb last (length buffer))))
 
   pub not_23 : is_23 buffer ends answers ≡ false → Ordered 0 ends (length buffer)
   unfolding is_23

@@ -1,5 +1,7 @@
 // The public calls: document 01, "The calls" and "How much the contracts must say", and document 02, §2. Each answers for every input, asks nothing of
 // its caller, and assumes nothing.
+#![tactic(auto)]
+
 ghost use Rattle.std.specs.Prelude.{◌≡◌, List, [], ◌∷◌, ℕ, length};
 ghost use Rattle.std.specs.Borrow.{Bor};
 ghost use Rattle.spec.specs.Reading.{read};
@@ -226,7 +228,7 @@ pub fn backlog(
 
 // Item k of a buffer.
 fn item_of<'a>(buffer: &'a [u8], k: usize) -> &'a [u8]
-    ensures* { λ x. ⌜ ((b : Chosen) (stream result : Bor (List ℕ)) → lent b stream result ≡ buffer.entry → PartItself (Item stream.now result.now b k) stream result x) ⌝ }
+    ensures { (b : Chosen) (stream res : Bor (List ℕ)) → lent b stream res ≡ buffer.entry → PartItself (Item stream.now res.now b k) stream res result }
 {
     match reader::locate(buffer, k) {
         Found::At(start, end) => &buffer[start..end],

@@ -140,6 +140,7 @@ module _ (s t : List ℕ) (r first end : ℕ) (around : Around) where
         (λ y. (n.1, n.3)),
         λ y. clash (sym y ∙ z),
       )
+  one_result (bytecode q gs o) i h l b n = absurd i
 
   -- the result of expressions of which e is the first
   parts_result : (p : Part) (ps : List Part) (e : Node) → p.node ≡ e → p.transformed around ≡ transform e around → IsRead e

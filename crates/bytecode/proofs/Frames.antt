@@ -110,7 +110,7 @@ module _ (s t : List ℕ) (f : Frame) (e : Node) (es : Nodes) (h : Holds s t f) 
   holds_next k = record {
     written = written.3;
     operators = rw (by_operand os e (λ n. n) 0 k) at gathered.2;
-    enough = rw (by_operand os e (λ n. n) 0 k) at enough;
+    enough = rw (by_operand os e (λ n. n) 0 k, short) at enough;
     unmarked = λ r g l. h.unmarked r (omega (arith, written.0)) l;
     measured = measured_within h.measured (omega (arith, written.0)) (omega arith);
   }

@@ -3,7 +3,7 @@
 use Prim.Native.Nat.{ℕ, ◌+◌, ◌*◌, ◌≤◌, ◌<◌}
 use mathlib.Core.Path.{◌≡◌, sym, ap, ◌∙◌, subst}
 use mathlib.Core.List.{List}
-use mathlib.Core.Bool.{true, false, ◌&&◌, and_false}
+use mathlib.Core.Bool.{true, false, ◌&&◌, and-false}
 use native.Mathlib.Omega.{arith}
 use borrow.Author.Tests.{eq-eqb, ne_eqb}
 use lib.ListN.{length}
@@ -116,7 +116,7 @@ module _ (s t : List ℕ) (scan : Scan) (near end : ℕ) (fs : List Frame) (few 
       visit_outside p z =
           let none = none_around here.around.arounds.nested (sym here.own ∙ z) in
           visit_plain (no_bytecode here.frame.around elements (no_star form e key h p)
-          (ap (λ (out : Around). leads prefix elements && ltb 0 (length out)) none ∙ and_false (leads prefix elements)))
+          (ap (λ (out : Around). leads prefix elements && ltb 0 (length out)) none ∙ and-false (leads prefix elements)))
 
       module _ {t' : List ℕ} {on : Scan} (c : FormChanged t t' form) where
         pub visit_star : key ≡ 0x2031 → Starred s t' form near here.frame.around (tail elements) (arity_list (tail elements)) on → Moved s t t' scan on end fs

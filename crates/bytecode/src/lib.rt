@@ -1,4 +1,6 @@
 // Prefix bytecode: which expressions of a stream are made into forms, found once before it is evaluated. Document 02, §1; 000, section 3.1.7.
+#![tactic(auto)]
+
 mod arities;
 mod around;
 mod flat;

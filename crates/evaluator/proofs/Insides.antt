@@ -74,6 +74,7 @@ steps_of (Refused n r) = 0
 module _ {s t w : List ℕ} {v : View} {at : Seen} {m : Making} where
   made_by : {bound codes floor : ℕ} {f : Finish} → EndsBy s t bound codes w floor v at (Make m) f → FinishedBy at.scope m f
   made_by (by_making _ f by) = by
+  made_by (by_calling _ body behind called enters) = elim called [ ]
 
   pub can_make : {st : State} {start : ℕ} → SomeEnding s t w v st at start (Make m) → SomeFinishing w at.scope st m start
   can_make x = record { finish = x.finish; values = x.values; by = made_by x.ends.by; finishing = x.ends.finishing }

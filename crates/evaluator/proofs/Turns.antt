@@ -55,6 +55,7 @@ module _ (s t : List ℕ) (row : ℕ) (e : Node) where
   inside_beyond : (p : Within) → NotTop p → NotTop (beyond e p)
   inside_beyond element x = tt
   inside_beyond inner x = tt
+  inside_beyond (top earlier) x = absurd x
 
 -- what is visible is so in any list
 pub sees_in : {s t w : List ℕ} {floor : ℕ} {v : View} {h : Here} (p : Within) → Sees s t w floor v h → Sees s t w floor v (entering p h)

@@ -1,4 +1,6 @@
 // The evaluator: a stream whose rows are in a table, evaluated in a workspace. Document 01: "Evaluate", refusals 9 and 10.
+#![tactic(auto)]
+
 mod element;
 mod run;
 

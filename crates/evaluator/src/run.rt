@@ -26,7 +26,7 @@ struct Open {
 }
 
 // Evaluates the elements of a form. What it defines is written past what the scope shows, which stays.
-#[cycle(call_closed_code_entered_expression_finish_function_list)]
+#[cycle(run)]
 pub fn list(
     s: &[u8],
     table: &[u32],
@@ -65,7 +65,7 @@ pub fn list(
 }
 
 // Evaluates an expression of a list.
-#[cycle(call_closed_code_entered_expression_finish_function_list)]
+#[cycle(run)]
 fn expression(
     s: &[u8],
     table: &[u32],
@@ -107,7 +107,7 @@ fn expression(
 }
 
 // What a form leaves when the evaluation of its elements has ended.
-#[cycle(call_closed_code_entered_expression_finish_function_list)]
+#[cycle(run)]
 fn closed(
     s: &[u8],
     table: &[u32],
@@ -136,7 +136,7 @@ fn closed(
 }
 
 // What a form leaves whose elements were evaluated, by what becomes of their values.
-#[cycle(call_closed_code_entered_expression_finish_function_list)]
+#[cycle(run)]
 fn finish(
     s: &[u8],
     table: &[u32],
@@ -180,7 +180,7 @@ fn finish(
 }
 
 // Calls the function whose code is the form at a row.
-#[cycle(call_closed_code_entered_expression_finish_function_list)]
+#[cycle(run)]
 fn function(
     s: &[u8],
     table: &[u32],
@@ -204,7 +204,7 @@ fn function(
 }
 
 // Calls the code of a `subst` form.
-#[cycle(call_closed_code_entered_expression_finish_function_list)]
+#[cycle(run)]
 fn code(
     s: &[u8],
     table: &[u32],
@@ -231,7 +231,7 @@ fn code(
 }
 
 // Evaluates the elements of a form in a list of its kind.
-#[cycle(call_closed_code_entered_expression_finish_function_list)]
+#[cycle(run)]
 fn entered(
     s: &[u8],
     table: &[u32],
@@ -263,7 +263,7 @@ fn entered(
 }
 
 // Runs a code whose arguments are the values. Its definitions are written over those that it doesn't see.
-#[cycle(call_closed_code_entered_expression_finish_function_list)]
+#[cycle(run)]
 fn call(
     s: &[u8],
     table: &[u32],

@@ -185,7 +185,7 @@ module _ (bound : ℕ) where
   unfolding gathered
   gathered_fits os zero [] f = tt
   gathered_fits os (suc k) [] f = tt
-  gathered_fits os zero (e ∷ es) f = (if_operator_each FitsPart f.1 f.0 os e.alone.node, gathered_fits os _ es f.2)
+  gathered_fits os zero (e ∷ es) f = (if_operator_each FitsPart f.1 f.0 os e.alone.node, gathered_fits os (if_operator os e.alone.node (λ n. n) 0) es f.2)
   gathered_fits os (suc k) (e ∷ es) f = gathered_fits os k es f.2
 
   -- the result, at the form's row

@@ -272,7 +272,7 @@ evaluate_ran s l b h = go (evaluation_answers s l) refl h
     refused rs es e (stops v r begun c) z = not_accepted v (cut_refused es (reading_fits s l.table rs es b e) l.steps (min l.work 65536) v r c) z
     refused rs es e (too_long ls c k) z = omega arith
 
-    accepted : {bs : List ℕ} {k : ℕ} (rs : List Row) (es : Exprs) → reading s l.table ≡ readable rs es → Leaves s l rs es bs k
+    accepted : {bs : List ℕ} (rs : List Row) (es : Exprs) {k : ℕ} → reading s l.table ≡ readable rs es → Leaves s l rs es bs k
         → evaluation s l ≡ acceptance (length bs) k (filled rs l.table) (over bs l.output) → Ran s l
     accepted rs es e (leaves ls begun c) q = record {
       rows = rs;

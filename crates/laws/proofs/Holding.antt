@@ -146,6 +146,7 @@ module _ (call : Call) (h : Here) where
   unfolding rule
   rule_plan (leaf r a) n = refl
   rule_plan (branch r es) n = refl
+  rule_plan (bytecode r es o) n = absurd n
 
   module _ (r : ℕ) (es : Nodes) where
     pub rule_fails : (v : ℕ) → rule call (bytecode r es (fails v)) h ≡ stop v r
@@ -173,6 +174,7 @@ onward_same e h t = go h.within refl t
     go : (p : Within) → h.within ≡ p → NotTop p → entering (beyond e p) h ≡ h
     go element q t = rw (← q)
     go inner q t = rw (← q)
+    go (top ns) q t = absurd t
 
 module _ (call : Call) where
   pub hold_list_empty : (h : Here) (s w : ℕ) → hold s w (in_list call empty h) ≡ reached (record { values = none; here = h }) s w

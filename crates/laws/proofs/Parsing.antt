@@ -65,7 +65,10 @@ pub from_closing : {p b q : ℕ} {s : List ℕ} → From p b s (closing q) → b
 from_closing (from_02 h) = h
 
 from_whole : {p b q k : ℕ} {s : List ℕ} {a : Atom} → From p b s (whole a q k) → (t : List ℕ) × (read_atom b s ≡ taken a t)
-from_whole (from_atom a t h) = (t, h)
+from_whole {k = k} {s = s} f = go s k f
+  where
+    go : {p b q : ℕ} {a : Atom} (s : List ℕ) (k : ℕ) → From p b s (whole a q k) → (t : List ℕ) × (read_atom b s ≡ taken a t)
+    go s k (from_atom a t h) = (t, h)
 
 -- an atom that is the first token: the bytes that spell it, and those behind it
 pub record FirstAtom (p : ℕ) (s : List ℕ) (a : Atom) (ts : List Token) : Type 0 where

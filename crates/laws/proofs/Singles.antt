@@ -12,7 +12,7 @@ use borrow.Author.Tests.{ltb-false, not-true}
 use Rattle.spec.specs.Expr.{if◌then◌else◌, nil, array, int, ref, Expr, atom, form, Exprs, none, more, only, append, size, first, without, deepest, canonical}
 use Rattle.spec.specs.Nodes.{Word, rest, plain, is, Node, leaf, branch, bytecode, Nodes, empty, cons, Outcome, fails, becomes, elements, tail, head_word, headed_by}
 use Rattle.spec.specs.Runs.{charge, done, Run, give, stop, before}
-use Rattle.spec.specs.Plan.{Defined, value, function, Definition, Scope, Found, latest, nothing, look_up, Namespace, Within, element, inner, passed, Here, as_form, as_concat, as_call, Plan, associate, inside, plan}
+use Rattle.spec.specs.Plan.{Defined, value, function, Definition, Scope, Found, latest, nothing, look_up, Namespace, Within, element, inner, top, passed, Here, as_form, as_concat, as_call, Plan, associate, inside, plan}
 use Rattle.spec.specs.Evaluation.{Left, entering, add_namespace, add_definition, complete, join, one_value, Call, Meaning, in_order, perform, rule, rule_bytecode, eval_all, eval, run_code}
 use Rattle.laws.specs.Holding.{beyond, onward, NotTop, together, in_list}
 use Rattle.laws.proofs.Basics.{impossible, by_test}
@@ -200,6 +200,7 @@ eval_stays call e h left q = go (rule_moves call e h left q).1
 beyond_inside : (e : Node) (p : Within) → NotTop p → NotTop (beyond e p)
 beyond_inside e element t = t
 beyond_inside e inner t = t
+beyond_inside e (top ns) t = absurd t
 
 beyond_inner : (e : Node) (p : Within) → p ≡ inner → beyond e p ≡ inner
 beyond_inner e p q = rw q

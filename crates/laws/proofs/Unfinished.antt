@@ -35,7 +35,10 @@ not_first true w q p v h e = absurd (h (cc))
 not_first false w q p v h e = (refl, e)
 
 from_bad_above : {p b w q : ℕ} {s : List ℕ} → From p b s (bad w q) → 4 ≤ w
-from_bad_above {b = b} {s = s} (from_bad w t e) = (rw e at (off_atom b s)).2
+from_bad_above {p = p} {b = b} {q = q} {s = s} f = go s q f
+  where
+    go : {w : ℕ} (s : List ℕ) (q : ℕ) → From p b s (bad w q) → 4 ≤ w
+    go s q (from_bad w t e) = (rw e at (off_atom b s)).2
 
 from_unfinished : {p b q : ℕ} {s : List ℕ} → From p b s (unfinished q) → q ≡ p
 from_unfinished (from_cut_off e) = refl

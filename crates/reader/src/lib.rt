@@ -1,5 +1,7 @@
 // Two passes over a stream: the first checks it and counts, the second writes its rows. And the search for an item.
 // Document 01: "Read", "Table", "Item".
+#![tactic(auto)]
+
 ghost use Rattle.std.specs.Prelude.{◌≡◌, ◌+◌, ◌-◌, ◌*◌, ◌≤◌, ◌<◌, length, drop, get_or};
 ghost use Rattle.spec.specs.Reading.{began, tokens, ends, rows_of, row_width, read};
 ghost use Rattle.spec.specs.Calls.{filled, row_at, Buffer, item, item_read};

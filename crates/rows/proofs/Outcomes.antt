@@ -9,7 +9,7 @@ use borrow.Author.Tests.{lt-ltb, le-ltb, lt-leb, le-leb}
 use native.Mathlib.Omega.{arith}
 use Rattle.spec.specs.Reading.{row_width}
 use Rattle.spec.specs.Expr.{Atom}
-use Rattle.spec.specs.Nodes.{plain, is as is_IsWord, Node, leaf, branch, bytecode, Nodes, empty, cons, fails, becomes, row, head_word}
+use Rattle.spec.specs.Nodes.{plain, is as is_word, Node, leaf, branch, bytecode, Nodes, empty, cons, fails, becomes, row, head_word}
 use Rattle.spec.proofs.Made.{each_row}
 use Rattle.atoms.proofs.Places.{first_left}
 use Rattle.rows.specs.Rows.{mark, next, LeafAt, WrittenAt, WrittenAll, behind, form_at, flat_first, flat_of, single, RowsAt, NodeAt, NodesAt, OutcomeAt, ResultAt}
@@ -143,7 +143,7 @@ pub record ResultForm (s t : List ℕ) (place : ℕ) (f : Form) (e : Node) : Typ
   pub nodes : Nodes
   pub is : e ≡ branch place nodes
   pub at : NodesAt s t f.flat f.first f.end nodes
-  pub headed : is_IsWord (head_word nodes) plain ≡ true
+  pub headed : is_word (head_word nodes) plain ≡ true
 
 module _ {s t : List ℕ} {r place : ℕ} where
   pub result_form : {f : Form} {e : Node} → IsResult s t r place (Branch f) e → ResultForm s t place f e

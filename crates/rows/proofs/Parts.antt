@@ -3,7 +3,7 @@
 use Prim.Native.Nat.{ℕ, ◌≤◌, ◌<◌}
 use mathlib.Core.Path.{◌≡◌, refl, sym, ap, ◌∙◌, subst}
 use mathlib.Core.List.{List}
-use mathlib.Core.Bool.{Bool, true, false, not, ◌&&◌, and_false}
+use mathlib.Core.Bool.{Bool, true, false, not, ◌&&◌, and-false}
 use lib.Dec.{ltb, leb, eqb}
 use borrow.Author.Tests.{leb-true, leb-false, lt-ltb, le-ltb, ne_eqb}
 use native.Mathlib.Omega.{arith}
@@ -75,7 +75,7 @@ unled_key (cons (branch q fs) es) h = refl
 unled_key (cons (bytecode q fs o) es) h = refl
 
 pub unnamed_kind : (t : List ℕ) (f : Form) → (kind t f.first ≡ 4 → ⊥) → is_named t f ≡ false
-unnamed_kind t f h = rw (ne_eqb (kind t f.first) 4 h) (and_false (ltb f.first f.end && not (is_made t f.flat f.first)))
+unnamed_kind t f h = rw (ne_eqb (kind t f.first) 4 h) (and-false (ltb f.first f.end && not (is_made t f.flat f.first)))
 
 module _ (s t : List ℕ) (f : Form) where
   -- a head that is a form

@@ -2,7 +2,7 @@
 use Prim.Native.Nat.{ℕ, suc, ◌+◌, ◌≤◌, ◌<◌}
 use mathlib.Core.Path.{◌≡◌, refl, sym, ap}
 use mathlib.Core.List.{List, [], ◌∷◌}
-use mathlib.Core.Bool.{Bool, true, false, ◌&&◌, and_false}
+use mathlib.Core.Bool.{Bool, true, false, ◌&&◌, and-false}
 use native.Mathlib.Omega.{arith}
 use native.Mathlib.Numerals.{add-one}
 use lib.ListN.{length, drop, get_or, drop_of_length-le}
@@ -20,7 +20,7 @@ unfolding same
 same_long [] [] h = absurd (h refl)
 same_long [] (b ∷ y) h = refl
 same_long (a ∷ x) [] h = refl
-same_long (a ∷ x) (b ∷ y) h = rw (← same_long x y (λ e. h (ap suc e))) (sym (and_false (eqb a b)))
+same_long (a ∷ x) (b ∷ y) h = rw (← same_long x y (λ e. h (ap suc e))) (sym (and-false (eqb a b)))
 
 pub same_equal : (x y : List ℕ) → same x y ≡ true → x ≡ y
 unfolding same

@@ -3,7 +3,7 @@
 use Prim.Native.Nat.{ℕ, ◌+◌, ◌/◌, ◌≤◌, ◌<◌}
 use mathlib.Core.Path.{◌≡◌, refl, sym, ap, ◌∙◌, subst}
 use mathlib.Core.List.{List, [], ◌∷◌, ◌++◌}
-use mathlib.Core.Bool.{Bool, false, ◌||◌, or_false, or_assoc}
+use mathlib.Core.Bool.{Bool, false, ◌||◌, or-false, or_assoc}
 use native.Mathlib.Omega.{arith}
 use lib.Dec.{eqb}
 use Rattle.spec.specs.Expr.{some, Atom, nil, array, int, ref}
@@ -38,7 +38,7 @@ module _ (marker : ℕ) where
   reference_bears k q a b l h e =
       let is = kind_ref a (leaf_kind l ∙ h) in
       let there = rw is.2 at l in
-      rw (is.2, e is.0 is.1 there, key_marker is.0 is.1 (leaf_fits b there).2, or_false (eqb marker is.0))
+      rw (is.2, e is.0 is.1 there, key_marker is.0 is.1 (leaf_fits b there).2, or-false (eqb marker is.0))
 
 -- Rows one after the other
 

@@ -135,7 +135,7 @@ gathered_none (cons e es) =
 pub short_none : (es : Nodes) → short [] 0 es ≡ false
 unfolding short
 short_none empty = refl
-short_none (cons e es) = rw (by_its_role [] e (λ n. n) 0, none_listed e) (short_none es)
+short_none (cons e es) = rw (by_its_role [] e (λ n. n) 0, none_listed e, short) (short_none es)
 
 short_without : (os : List Operator) (k : ℕ) (es : Nodes) → short os k es ≡ false → short os 0 (without k es) ≡ false
 unfolding short without
@@ -146,7 +146,7 @@ short_without os (suc k) (cons e es) h = short_without os k es h
 -- an operator has its operands behind it
 pub short_operands : (os : List Operator) (e : Node) (es : Nodes) (n : ℕ) → role os e ≡ operator n → short os 0 (cons e es) ≡ false → short os n es ≡ false
 unfolding short
-short_operands os e es n k h = rw (by_operator os e (λ n. n) 0 n k) at h
+short_operands os e es n k h = rw (by_operator os e (λ n. n) 0 n k, short) at h
 
 -- The refusal of a bytecode form at row r with the flat list es; 0 if none
 

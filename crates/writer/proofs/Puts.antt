@@ -5,7 +5,7 @@ use mathlib.Core.Path.{◌≡◌, refl, sym, ap, ◌∙◌}
 use mathlib.Core.List.{List, [], ◌∷◌, ◌++◌, append_assoc}
 use lib.ListN.{length, take, drop, length-append, length-drop, take-append-drop}
 use lib.Seq.{length-take-le, take-length, take_at, drop_at, drop-drop, drop-append-le, sets, sets-eq}
-use borrow.Rule.Slice.PartMut.{mid_of, post_of, put_mid, mid_len}
+use borrow.Rule.Slice.PartMut.{put_mid, Post-is}
 use native.Mathlib.Omega.{arith}
 use borrow.Author.Tests.{lt-ltb, le-ltb}
 use Rattle.spec.specs.Expr.{array_head}
@@ -51,22 +51,13 @@ module _ (out : List ℕ) (to : ℕ) (bs : List ℕ) (room : to + length bs ≤ 
   unfolding put_at
   stored = record { place = refl; is = sets-eq bs out to room }
 
-  -- by a copy to the part from `to` on
-  pub copied : let k : ℕ = length out - to in let n : ℕ = length bs in
-      Put out to bs (put_mid to k out (take n bs ++ drop n (mid_of to k out))) (to + n)
+  -- by a copy to the part from `to` on that has as many
+  pub copied : let n : ℕ = to + length bs in Put out to bs (put_mid to (n - to) out bs) n
   unfolding put_at
-  copied =
-      let k : ℕ = length out - to in
-      let n : ℕ = length bs in
-      let mid = mid_of to k out in
-      let post = post_of to k out in
-      let size = mid_len to (length out) out (omega arith) in
-      let rest : drop n mid ++ post ≡ drop (to + n) out =
-      sym (drop-append-le n mid post (omega arith)) ∙ ap (drop n) (take-append-drop k (drop to out)) ∙ drop-drop n to out in
-      record {
-        place = refl;
-        is = rw (take-length bs, append_assoc bs (drop n mid) post, rest) (sym (append_assoc (take to out) bs (drop (to + n) out)));
-      }
+  copied = record {
+    place = refl;
+    is = rw (Post-is to (to + length bs) out (omega arith)) (sym (append_assoc (take to out) bs (drop (to + length bs) out)));
+  }
 
 pub written_on : {out : List ℕ} {to : ℕ} {bs new : List ℕ} {mid : ℕ} {cs last : List ℕ} {past : ℕ}
     → to + length bs ≤ length out → Put out to bs new mid → Put new mid cs last past → Put out to (bs ++ cs) last past

@@ -1,4 +1,6 @@
 // The canonical stream: of each token of a stream in turn, its canonical bytes. Document 01: "Canonical".
+#![tactic(auto)]
+
 ghost use Rattle.std.specs.Prelude.{◌+◌, ◌*◌, ◌≤◌, ◌<◌, ◌≡◌, length};
 ghost use Rattle.spec.specs.Expr.{array_head, canonical};
 ghost use Rattle.spec.specs.Calls.{over};

@@ -16,35 +16,35 @@ use Rattle.atoms.proofs.any_array.Statement.{statement}
 use Rattle.atoms.proofs.any_array.Tie as tie
 
 -- what was told of the length
-at_length : (c : tie.After-length-at) (v e : ℕ) → c.length_at.result ≡ Is v e
-    → ToldLength c.before.before.args.s.now (length_expr 7 (drop (suc c.before.before.args.at) c.before.before.args.s.now)) v e
+at_length : (c : tie.After-length_at) (v e : ℕ) → c.length_at.result ≡ Is v e
+    → ToldLength c.args.s.now (length_expr 7 (drop (suc c.args.at) c.args.s.now)) v e
 at_length c v e told =
-    let a = c.before.before.args in
-    let stream = all_bytes a.s.now (λ i. (c.before.shared-slice-known.given i).fits) in
+    let a = c.args in
+    let stream = all_bytes a.s.now (λ i. (c.shared_slice_known-1.given i).fits) in
     told_length a.s.now (suc a.at) v e stream (omega arith) (rw (← add-one a.at) (sym c.length_at.ensures ∙ told))
 
-bytes-at-requires : tie.Need-bytes-at-requires
-bytes-at-requires c κs = (at_length c.before.before.before _ _ c.before.value.given.1).inside
+bytes_at-requires : tie.Need-bytes_at-requires
+bytes_at-requires c κs = (at_length c.before _ _ c.in-Is.is).inside
 
 -- where there is none
-no_length : (c : tie.After-length-at) (r : Length) (u : NoLength r) → c.length_at.result ≡ r
-    → let a = c.before.before.args in
+no_length : (c : tie.After-length_at) (r : Length) (u : NoLength r) → c.length_at.result ≡ r
+    → let a = c.args in
     refusal_token r u ≡ shown_atom a.at (length a.s.now) (and_then (and_then (length_expr 7 (drop (suc a.at) a.s.now)) take_bytes) as_array)
 no_length c r u told =
-    let a = c.before.before.args in
+    let a = c.args in
     sym (array_told a.at (length a.s.now) (length_expr 7 (drop (suc a.at) a.s.now)) r u (rw (← add-one a.at) (sym c.length_at.ensures ∙ told)))
 
-returns : tie.Need-returns
-returns c = no_length c.before.before CutOff tt c.enum_told.given.1
+returns-in-CutOff : tie.Need-returns-in-CutOff
+returns-in-CutOff c = no_length c.before CutOff tt c.in-CutOff.is
 
-returns-2 : tie.Need-returns-2
-returns-2 c = no_length c.before.before.before (Wrong _ _) tt c.before.number.given.1
+returns-in-Wrong : tie.Need-returns-in-Wrong
+returns-in-Wrong c = no_length c.before (Wrong _ _) tt c.in-Wrong.is
 
-returns-3 : tie.Need-returns-3
-returns-3 c =
-    let a = c.before.before.before.before.before.before.args in
-    let t = at_length c.before.before.before.before _ _ c.before.before.value.given.1 in
-    rw (told_bytes a.s.now _ _ _ (omega arith) t) at (c.bytes-at.ensures a.at)
+returns-in-Is : tie.Need-returns-in-Is
+returns-in-Is c =
+    let a = c.args in
+    let t = at_length c.before.before _ _ c.in-Is.is in
+    rw (told_bytes a.s.now _ _ _ (omega arith) t) at (c.bytes_at.ensures a.at)
 
 pub any_array_spec : {M : Type 1} → statement M
 any_array_spec =
@@ -55,7 +55,7 @@ any_array_spec =
     (λ c. search rules)
     (λ c. search rules)
     (λ c. search rules)
-    bytes-at-requires
-    returns
-    returns-2
-    returns-3)
+    bytes_at-requires
+    returns-in-CutOff
+    returns-in-Wrong
+    returns-in-Is)

@@ -7,24 +7,24 @@ use Rattle.atoms.proofs.Places.{array_int, array_one, array_two}
 use Rattle.atoms.proofs.array_at.Statement.{statement}
 use Rattle.atoms.proofs.array_at.Tie as tie
 
-add-bytes-at-6 : tie.Need-overflow-add-bytes-at-6
-add-bytes-at-6 c = let a = c.before.before.before.before.before.before.args in
-    omega (arith, c.shared-slice-known5.given (a.at + 2), c.shared-slice-known5.given (a.at + 3))
+overflow_add-s : tie.Need-overflow_add-s
+overflow_add-s c = let a = c.args in
+    omega (arith, c.shared_slice_known-in-194-2-1.given (a.at + 2), c.shared_slice_known-in-194-2-1.given (a.at + 3))
 
-returns-2 : tie.Need-returns-2
-returns-2 c =
-    let a = c.before.before.before.before.before.before.args in
-    rw (array_one a.s.now a.at (omega arith) c.before.before.match.keys1) at (c.bytes-at.ensures a.at)
+returns-in-193 : tie.Need-returns-in-193
+returns-in-193 c =
+    let a = c.args in
+    rw (array_one a.s.now a.at (omega arith) c.in-193.is) at (c.bytes_at.ensures a.at)
 
-returns-3 : tie.Need-returns-3
-returns-3 c =
-    let a = c.before.before.before.before.before.before.before.args in
-    rw (array_two a.s.now a.at (omega arith) c.before.before.before.match.keys2) at (c.bytes-at2.ensures a.at)
+returns-in-194 : tie.Need-returns-in-194
+returns-in-194 c =
+    let a = c.args in
+    rw (array_two a.s.now a.at (omega arith) c.in-194.is) at (c.bytes_at-in-194.ensures a.at)
 
-returns-4 : tie.Need-returns-4
-returns-4 c =
-    let a = c.before.before.before.before.before.before.before.args in
-    rw (array_int a.s.now a.at (omega arith) c.before.before.if2.false c.before.if3.true) at (c.bytes-at3.ensures a.at)
+returns-in-128-to-191 : tie.Need-returns-in-128-to-191
+returns-in-128-to-191 c =
+    let a = c.args in
+    rw (array_int a.s.now a.at (omega arith) c.in-128-to-191.if-b-lt128-own.false c.in-128-to-191.if-b-lt192-own.true) at (c.bytes_at-in-128-to-191.ensures a.at)
 
 pub array_at_spec : {M : Type 1} → statement M
 array_at_spec =
@@ -38,23 +38,23 @@ array_at_spec =
     (λ c. search rules)
     (λ c. search rules)
     (λ c. search rules)
-    (λ c. omega (arith, c.shared-slice-known3.given (c.before.before.before.before.before.args.at + 2)))
+    (λ c. omega (arith, c.shared_slice_known-in-193-1.given (c.args.at + 2)))
     (λ c κs. search rules)
     (λ c. search rules)
     (λ c. search rules)
     (λ c. search rules)
-    (λ c. omega (arith, c.shared-slice-known4.given (c.before.before.before.before.before.args.at + 2)))
-    (λ c. omega (arith, c.shared-slice-known4.given (c.before.before.before.before.before.args.at + 2)))
+    (λ c. omega (arith, c.shared_slice_known-in-194-1.given (c.args.at + 2)))
+    (λ c. omega (arith, c.shared_slice_known-in-194-1.given (c.args.at + 2)))
     (λ c. search rules)
     (λ c. search rules)
-    (λ c. omega (arith, c.shared-slice-known5.given (c.before.before.before.before.before.before.args.at + 3)))
-    add-bytes-at-6
+    (λ c. omega (arith, c.shared_slice_known-in-194-2-1.given (c.args.at + 3)))
+    overflow_add-s
     (λ c κs. search rules)
     (λ c. search rules)
     (λ c. search rules)
     (λ c κs. search rules)
     (λ c κs. search rules)
-    returns-2
-    returns-3
-    returns-4
+    returns-in-193
+    returns-in-194
+    returns-in-128-to-191
     (λ c. search rules))

@@ -6,11 +6,11 @@ use Rattle.atoms.proofs.Places.{shown_array, shown_short}
 use Rattle.atoms.proofs.bytes_at.Statement.{statement}
 use Rattle.atoms.proofs.bytes_at.Tie as tie
 
-returns : tie.Need-returns
-returns c = let a = c.before.args in λ p. sym (shown_short a.s.now p a.body a.size c.if1.true)
+returns-then-s-body : tie.Need-returns-then-s-body
+returns-then-s-body c = let a = c.args in λ p. sym (shown_short a.s.now p a.body a.size c.if-s-body.true)
 
-returns-2 : tie.Need-returns-2
-returns-2 c = let a = c.before.args in λ p. sym (shown_array a.s.now p a.body a.size c.before.requires c.if1.false)
+returns : tie.Need-returns
+returns c = let a = c.args in λ p. sym (shown_array a.s.now p a.body a.size c.requires c.if-s-body.false)
 
 pub bytes_at_spec : {M : Type 1} → statement M
-bytes_at_spec = tie.close (tie.spec (λ c. search rules) returns (λ c. search rules) returns-2)
+bytes_at_spec = tie.close (tie.spec (λ c. search rules) returns-then-s-body (λ c. search rules) returns)

@@ -16,49 +16,49 @@ record Summed (s : List ℕ) (at sum p : ℕ) : Type 0 where
   small : sum ≤ 127 + 255 * p
   same : marker 0x7F (drop (suc at) s) ≡ marker sum (drop p s)
 
-abbrev invariant-loop : tie.invariant-loop
-invariant-loop s at sum₀ p₀ sum p = Summed s at sum p
+abbrev invariant-loop-p : tie.invariant-loop-p
+invariant-loop-p s at sum₀ p₀ sum p = Summed s at sum p
 
-abbrev decreases-loop : tie.decreases-loop
-decreases-loop s at sum₀ p₀ sum p = length s - p
+abbrev decreases-loop-p : tie.decreases-loop-p
+decreases-loop-p s at sum₀ p₀ sum p = length s - p
 
-loop-holds : tie.Need-loop-init invariant-loop decreases-loop
-loop-holds c =
-    let a = c.before.args in
+loop-p-init : tie.Need-loop-p-init invariant-loop-p decreases-loop-p
+loop-p-init c =
+    let a = c.args in
     record { inside = omega arith; small = omega arith; same = ap (λ (p : ℕ). marker 0x7F (drop p a.s.now)) (sym (add-one a.at)) }
 
-returns : tie.Need-returns invariant-loop decreases-loop
-returns c =
-    let l = c.before.before.before.before.loop in
-    rw (l.invariant.same ∙ marker_last _ l.p l.sum (omega arith) c.before.if1.true) c.reference.ensures
+returns-then-b : tie.Need-returns-then-b invariant-loop-p decreases-loop-p
+returns-then-b c =
+    let l = c.loop-p in
+    rw (l.invariant.same ∙ marker_last _ l.p l.sum (omega arith) c.if-b.true) c.reference.ensures
 
-loop-again : tie.Need-loop-preserved invariant-loop decreases-loop
-loop-again c =
-    let a = c.before.before.before.before.before.args in
-    let l = c.before.before.before.loop in
+loop-p-preserved : tie.Need-loop-p-preserved invariant-loop-p decreases-loop-p
+loop-p-preserved c =
+    let a = c.args in
+    let l = c.loop-p in
     record {
       inside = omega arith;
-      small = omega (arith, c.before.shared-slice-known2.given l.p);
-      same = l.invariant.same ∙ marker_more a.s.now l.p l.sum (omega arith) c.if1.false;
+      small = omega (arith, c.shared_slice_known-in-loop-p-1.given l.p);
+      same = l.invariant.same ∙ marker_more a.s.now l.p l.sum (omega arith) c.if-b.false;
     }
 
-returns-2 : tie.Need-returns-2 invariant-loop decreases-loop
-returns-2 c = let l = c.before.loop in rw (l.invariant.same ∙ marker_end _ l.p l.sum (omega arith))
+returns : tie.Need-returns invariant-loop-p decreases-loop-p
+returns c = let l = c.loop-p in rw (l.invariant.same ∙ marker_end _ l.p l.sum (omega arith))
 
 pub long_reference_spec : {M : Type 1} → statement M
 long_reference_spec =
     tie.close
     (tie.spec
-    invariant-loop
-    decreases-loop
+    invariant-loop-p
+    decreases-loop-p
     (λ c. omega arith)
-    loop-holds
+    loop-p-init
     (λ c. omega arith)
-    (λ c. omega (arith, c.shared-slice-known2.given c.before.before.loop.p))
-    (λ c. omega (arith, c.shared-slice-known2.given c.before.before.loop.p))
+    (λ c. omega (arith, c.shared_slice_known-in-loop-p-1.given c.loop-p.p))
+    (λ c. omega (arith, c.shared_slice_known-in-loop-p-1.given c.loop-p.p))
     (λ c. omega arith)
     (λ c κs. omega arith)
-    returns
+    returns-then-b
     (λ c. omega arith)
-    loop-again
-    returns-2)
+    loop-p-preserved
+    returns)

@@ -16,51 +16,51 @@ record Nested (s : List ℕ) (value from depth v at k : ℕ) : Type 0 where
   small : v ≤ 65537
   same : measured (length s) (around depth (taken value (drop from s))) ≡ measured (length s) (around k (taken v (drop at s)))
 
-abbrev invariant-loop : tie.invariant-loop
-invariant-loop s value from depth v₀ at₀ k₀ v at k = Nested s value from depth v at k
+abbrev invariant-loop-k : tie.invariant-loop-k
+invariant-loop-k s value from depth v₀ at₀ k₀ v at k = Nested s value from depth v at k
 
-abbrev decreases-loop : tie.decreases-loop
-decreases-loop s value from depth v₀ at₀ k₀ v at k = k
+abbrev decreases-loop-k : tie.decreases-loop-k
+decreases-loop-k s value from depth v₀ at₀ k₀ v at k = k
 
-loop-holds : tie.Need-loop-init invariant-loop decreases-loop
-loop-holds c = record { inside = omega arith; small = omega arith; same = refl }
+loop-k-init : tie.Need-loop-k-init invariant-loop-k decreases-loop-k
+loop-k-init c = record { inside = omega arith; small = omega arith; same = refl }
 
-returns : tie.Need-returns invariant-loop decreases-loop
-returns c =
-    let l = c.before.before.loop in
-    sym (l.invariant.same ∙ around_short c.before.before.before.before.args.s.now l.k l.v l.at (omega arith) (omega arith) (omega arith) c.if1.true)
+returns-then-s-at : tie.Need-returns-then-s-at invariant-loop-k decreases-loop-k
+returns-then-s-at c =
+    let l = c.loop-k in
+    sym (l.invariant.same ∙ around_short c.args.s.now l.k l.v l.at (omega arith) (omega arith) (omega arith) c.if-s-at.true)
 
-loop-again : tie.Need-loop-preserved invariant-loop decreases-loop
-loop-again c =
-    let s = c.before.before.before.before.before.args.s.now in
-    let l = c.before.before.before.loop in
+loop-k-preserved : tie.Need-loop-k-preserved invariant-loop-k decreases-loop-k
+loop-k-preserved c =
+    let s = c.args.s.now in
+    let l = c.loop-k in
     let size : l.at + l.v - l.at ≡ l.v = omega arith in
-    let number = rw size at c.number.ensures in
+    let number = rw size at c.number-v.ensures in
     record {
       inside = omega arith;
       small = omega (arith, number);
       same = l.invariant.same
-          ∙ around_whole s l.k l.v l.at (omega arith) (omega arith) (omega arith) c.before.if1.false
+          ∙ around_whole s l.k l.v l.at (omega arith) (omega arith) (omega arith) c.if-s-at.false
           ∙ ap (λ (n : ℕ). measured (length s) (around (l.k - 1) (taken n (drop (l.at + l.v) s)))) (sym number);
     }
 
-returns-2 : tie.Need-returns-2 invariant-loop decreases-loop
-returns-2 c =
-    let l = c.before.loop in
-    sym (l.invariant.same ∙ around_none c.before.before.before.args.s.now l.k l.v l.at (omega arith) (omega arith) (omega arith) (omega arith))
+returns : tie.Need-returns invariant-loop-k decreases-loop-k
+returns c =
+    let l = c.loop-k in
+    sym (l.invariant.same ∙ around_none c.args.s.now l.k l.v l.at (omega arith) (omega arith) (omega arith) (omega arith))
 
 pub nested_length_spec : {M : Type 1} → statement M
 nested_length_spec =
     tie.close
     (tie.spec
-    invariant-loop
-    decreases-loop
-    loop-holds
+    invariant-loop-k
+    decreases-loop-k
+    loop-k-init
     (λ c. omega arith)
-    returns
+    returns-then-s-at
     (λ c. omega arith)
     (λ c κs. omega arith)
     (λ c. omega arith)
     (λ c. omega arith)
-    loop-again
-    returns-2)
+    loop-k-preserved
+    returns)

@@ -15,58 +15,58 @@ record Passed (s : List ℕ) (at k : ℕ) : Type 0 where
   inside : at + k ≤ length s
   all : leading_threes 8 (drop at s) ≡ k + leading_threes (8 - k) (drop (at + k) s)
 
-abbrev invariant-loop : tie.invariant-loop
-invariant-loop s at k₀ k = Passed s at k
+abbrev invariant-loop-k : tie.invariant-loop-k
+invariant-loop-k s at k₀ k = Passed s at k
 
-abbrev decreases-loop : tie.decreases-loop
-decreases-loop s at k₀ k = 8 - k
+abbrev decreases-loop-k : tie.decreases-loop-k
+decreases-loop-k s at k₀ k = 8 - k
 
-loop-holds : tie.Need-loop-init invariant-loop decreases-loop
-loop-holds c =
+loop-k-init : tie.Need-loop-k-init invariant-loop-k decreases-loop-k
+loop-k-init c =
     let a = c.args in
     let here : a.at + 0 ≡ a.at = omega arith in
     record { few = omega arith; inside = omega arith; all = rw here (omega arith) }
 
-returns : tie.Need-returns invariant-loop decreases-loop
-returns c =
-    let a = c.before.before.before.args in
-    let l = c.before.before.loop in
+returns-then-at-k : tie.Need-returns-then-at-k invariant-loop-k decreases-loop-k
+returns-then-at-k c =
+    let a = c.args in
+    let l = c.loop-k in
     omega (arith, threes_end a.s.now (a.at + l.k) (8 - l.k) (omega arith))
 
-returns-2 : tie.Need-returns-2 invariant-loop decreases-loop
-returns-2 c =
-    let a = c.before.before.before.before.before.args in
-    let l = c.before.before.before.before.loop in
-    omega (arith, threes_other a.s.now (a.at + l.k) (8 - l.k) (omega arith) c.if2.true)
+returns-then-s-at-ne3 : tie.Need-returns-then-s-at-ne3 invariant-loop-k decreases-loop-k
+returns-then-s-at-ne3 c =
+    let a = c.args in
+    let l = c.loop-k in
+    omega (arith, threes_other a.s.now (a.at + l.k) (8 - l.k) (omega arith) c.if-s-at-ne3.true)
 
-loop-again : tie.Need-loop-preserved invariant-loop decreases-loop
-loop-again c =
-    let a = c.before.before.before.before.before.args in
-    let l = c.before.before.before.before.loop in
+loop-k-preserved : tie.Need-loop-k-preserved invariant-loop-k decreases-loop-k
+loop-k-preserved c =
+    let a = c.args in
+    let l = c.loop-k in
     let left : 8 - l.k - 1 ≡ 8 - (l.k + 1) = omega arith in
     let past : a.at + l.k + 1 ≡ a.at + (l.k + 1) = omega arith in
-    let more = threes_more a.s.now (a.at + l.k) (8 - l.k) (omega arith) c.if2.false (omega arith) in
+    let more = threes_more a.s.now (a.at + l.k) (8 - l.k) (omega arith) c.if-s-at-ne3.false (omega arith) in
     record { few = omega arith; inside = omega arith; all = omega (arith, l.invariant.all, rw (left, past) at more) }
 
-returns-3 : tie.Need-returns-3 invariant-loop decreases-loop
-returns-3 c =
-    let a = c.before.before.args in
-    let l = c.before.loop in
+returns : tie.Need-returns invariant-loop-k decreases-loop-k
+returns c =
+    let a = c.args in
+    let l = c.loop-k in
     omega (arith, threes_none (8 - l.k) (drop (a.at + l.k) a.s.now) (λ h. absurd (omega arith)))
 
 pub threes_spec : {M : Type 1} → statement M
 threes_spec =
     tie.close
     (tie.spec
-    invariant-loop
-    decreases-loop
-    loop-holds
+    invariant-loop-k
+    decreases-loop-k
+    loop-k-init
     (λ c. omega arith)
-    returns
-    (λ c. omega arith)
-    (λ c. omega arith)
-    returns-2
+    returns-then-at-k
     (λ c. omega arith)
     (λ c. omega arith)
-    loop-again
-    returns-3)
+    returns-then-s-at-ne3
+    (λ c. omega arith)
+    (λ c. omega arith)
+    loop-k-preserved
+    returns)

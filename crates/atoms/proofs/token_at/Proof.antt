@@ -7,23 +7,23 @@ use Rattle.atoms.proofs.First.{first_nil, first_opening, first_closing, first_in
 use Rattle.atoms.proofs.token_at.Statement.{statement}
 use Rattle.atoms.proofs.token_at.Tie as tie
 
-returns : tie.Need-returns
-returns c = let a = c.before.before.before.args in sym (first_nil a.s.now a.at (omega arith) c.match.keys1)
+returns-in-0 : tie.Need-returns-in-0
+returns-in-0 c = let a = c.args in sym (first_nil a.s.now a.at (omega arith) c.in-0.is)
 
-returns-2 : tie.Need-returns-2
-returns-2 c = let a = c.before.before.before.args in sym (first_opening a.s.now a.at (omega arith) c.match.keys2)
+returns-in-1 : tie.Need-returns-in-1
+returns-in-1 c = let a = c.args in sym (first_opening a.s.now a.at (omega arith) c.in-1.is)
 
-returns-3 : tie.Need-returns-3
-returns-3 c = let a = c.before.before.before.args in sym (first_closing a.s.now a.at (omega arith) c.match.keys3)
+returns-in-2 : tie.Need-returns-in-2
+returns-in-2 c = let a = c.args in sym (first_closing a.s.now a.at (omega arith) c.in-2.is)
 
-returns-4 : tie.Need-returns-4
-returns-4 c = let a = c.before.before.before.before.before.before.args in sym (short_whole a.s.now a.at (omega arith) c.before.before.if1.false c.before.if2.true c.if3.true)
+returns-then-left-gt1 : tie.Need-returns-then-left-gt1
+returns-then-left-gt1 c = let a = c.args in sym (short_whole a.s.now a.at (omega arith) c.in-16-to-126.if-b-lt16-own.false c.in-16-to-126.if-b-lt127-own.true c.if-left-gt1.true)
 
-returns-5 : tie.Need-returns-5
-returns-5 c = let a = c.before.before.before.before.before.before.before.args in sym (first_int a.s.now a.at (omega arith) c.before.if4.false c.if5.true)
+returns-in-128-to-191 : tie.Need-returns-in-128-to-191
+returns-in-128-to-191 c = let a = c.args in sym (first_int a.s.now a.at (omega arith) c.in-128-to-191.if-b-lt128-own.false c.in-128-to-191.if-b-lt192-own.true)
 
-returns-6 : tie.Need-returns-6
-returns-6 c = let a = c.before.before.before.before.before.before.before.before.args in sym (small_whole a.s.now a.at (omega arith) c.before.if5.false c.if6.true)
+returns-then-size-left : tie.Need-returns-then-size-left
+returns-then-size-left c = let a = c.args in sym (small_whole a.s.now a.at (omega arith) c.in-192-to-255.if-b-lt192-own.false c.if-size-left.true)
 
 pub token_at_spec : {M : Type 1} → statement M
 token_at_spec =
@@ -32,17 +32,17 @@ token_at_spec =
     (λ c. search rules)
     (λ c. search rules)
     (λ c. search rules)
-    returns
-    returns-2
-    returns-3
+    returns-in-0
+    returns-in-1
+    returns-in-2
     (λ c. search rules)
-    returns-4
+    returns-then-left-gt1
     (λ c. search rules)
-    returns-5
-    (λ c. omega (arith, c.before.before.before.before.before.shared-slice-known2.given c.before.before.before.before.before.before.before.args.at))
+    returns-in-128-to-191
+    (λ c. omega (arith, c.shared_slice_known-2-1.given c.args.at))
     (λ c. search rules)
     (λ c. search rules)
     (λ c. search rules)
-    returns-6
+    returns-then-size-left
     (λ c κs. search rules)
     (λ c. search rules))

@@ -6,41 +6,41 @@ use Rattle.bulk.proofs.Ends.{Asked, asked_first, asked_below, asked_next, asked_
 use Rattle.bulk.proofs.is_23.Statement.{statement}
 use Rattle.bulk.proofs.is_23.Tie as tie
 
-abbrev invariant-loop : tie.invariant-loop
-invariant-loop buffer ends answers before₀ i₀ before i = Asked ends before i
+abbrev invariant-loop-i : tie.invariant-loop-i
+invariant-loop-i buffer ends answers before₀ i₀ before i = Asked ends before i
 
-abbrev decreases-loop : tie.decreases-loop
-decreases-loop buffer ends answers before₀ i₀ before i = length ends - i
+abbrev decreases-loop-i : tie.decreases-loop-i
+decreases-loop-i buffer ends answers before₀ i₀ before i = length ends - i
 
-returns : tie.Need-returns invariant-loop decreases-loop
-returns c = rw (few_places _ _ _ c.if1.true)
+returns-then-answers-ends : tie.Need-returns-then-answers-ends invariant-loop-i decreases-loop-i
+returns-then-answers-ends c = rw (few_places _ _ _ c.if-answers-ends.true)
 
-loop-holds : tie.Need-loop-init invariant-loop decreases-loop
-loop-holds c = asked_first _
+loop-i-init : tie.Need-loop-i-init invariant-loop-i decreases-loop-i
+loop-i-init c = asked_first _
 
-returns-2 : tie.Need-returns-2 invariant-loop decreases-loop
-returns-2 c = rw (one_below _ _ _ (asked_below _ c.before.before.before.loop.invariant c.before.before.loop-test.true c.if2.true))
+returns-then-ends-i : tie.Need-returns-then-ends-i invariant-loop-i decreases-loop-i
+returns-then-ends-i c = rw (one_below _ _ _ (asked_below _ c.loop-i.invariant c.loop-i-test.true c.if-ends-i.true))
 
-loop-again : tie.Need-loop-preserved invariant-loop decreases-loop
-loop-again c = asked_next _ c.before.before.before.before.loop.invariant c.before.before.before.loop-test.true c.before.if2.false
+loop-i-preserved : tie.Need-loop-i-preserved invariant-loop-i decreases-loop-i
+loop-i-preserved c = asked_next _ c.loop-i.invariant c.loop-i-test.true c.if-ends-i.false
 
-returns-3 : tie.Need-returns-3 invariant-loop decreases-loop
-returns-3 c = rw (none_below _ _ _ c.before.before.if1.false (asked_all _ c.before.loop.invariant c.loop-test.false))
+returns : tie.Need-returns invariant-loop-i decreases-loop-i
+returns c = rw (none_below _ _ _ c.if-answers-ends.false (asked_all _ c.loop-i.invariant c.loop-i-test.false))
 
 pub is_23_spec : {M : Type 1} → statement M
 is_23_spec =
     tie.close
     (tie.spec
-    invariant-loop
-    decreases-loop
-    returns
-    loop-holds
+    invariant-loop-i
+    decreases-loop-i
+    returns-then-answers-ends
+    loop-i-init
     (λ c. search rules)
     (λ c. search rules)
-    returns-2
+    returns-then-ends-i
     (λ c. search rules)
     (λ c. search rules)
     (λ c. search rules)
     (λ c. search rules)
-    loop-again
-    returns-3)
+    loop-i-preserved
+    returns)

@@ -12,20 +12,19 @@ use Rattle.bulk.proofs.read.Statement.{statement}
 use Rattle.bulk.proofs.read.Tie as tie
 
 -- what the first pass told, where it is this
-at_check : (c : tie.After-check) (v : Checked) → c.check.result ≡ v → let a = c.before.before.before.args in
+at_check : (c : tie.After-check) (v : Checked) → c.check.result ≡ v → let a = c.args in
     Told a.stream.now (length a.table.now / row_width) v
-at_check c v e = told c.before.before.before.args.stream.now _ v (λ i. (c.before.before.shared-slice-known.given i).fits) (sym e ∙ c.check.ensures)
+at_check c v e = told c.args.stream.now _ v (λ i. (c.shared_slice_known-1.given i).fits) (sym e ∙ c.check.ensures)
 
 fill-requires : tie.Need-fill-requires
-fill-requires c κs = can_fill c.before.before.before.before.before.before.before.args.table.now (at_check c.before.before.before.before _ c.before.before.rows.given.1)
+fill-requires c κs = can_fill c.args.table.now (at_check c.before.before _ c.in-Right.is)
 
-returns : tie.Need-returns
-returns c = let a = c.before.before.before.before.before.before.args in read_refusal a.stream.now a.table.now (at_check c.before.before.before _ c.before.number.given.1)
+returns-in-Wrong : tie.Need-returns-in-Wrong
+returns-in-Wrong c = let a = c.args in read_refusal a.stream.now a.table.now (at_check c.before _ c.in-Wrong.is)
 
-returns-2 : tie.Need-returns-2
-returns-2 c =
-    let fill = c.before.before in
-    read_acceptance (was_read _ (at_check fill.before.before.before.before.before _ fill.before.before.before.rows.given.1) fill.fill.ensures)
+returns-in-Right : tie.Need-returns-in-Right
+returns-in-Right c =
+    read_acceptance (was_read _ (at_check c.before.before.before.before.before _ c.in-Right.is) c.fill.ensures)
 
 pub read_spec : {M : Type 1} → statement M
 read_spec =
@@ -35,6 +34,6 @@ read_spec =
     (λ c. search rules)
     (λ c. search rules)
     fill-requires
-    returns
+    returns-in-Wrong
     (λ c. search rules)
-    returns-2)
+    returns-in-Right)

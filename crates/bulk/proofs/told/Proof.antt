@@ -3,11 +3,11 @@ use borrow.Author.Rules.{rules}
 use Rattle.bulk.proofs.told.Statement.{statement}
 use Rattle.bulk.proofs.told.Tie as tie
 
-returns : tie.Need-returns
-returns c = rw c.before.answer.given.1
+returns-in-Accepted : tie.Need-returns-in-Accepted
+returns-in-Accepted c = rw c.in-Accepted.is
 
-returns-2 : tie.Need-returns-2
-returns-2 c = rw c.before.answer2.given.1
+returns-in-Refused : tie.Need-returns-in-Refused
+returns-in-Refused c = rw c.in-Refused.is
 
 pub told_spec : {M : Type 1} → statement M
-told_spec = tie.close (tie.spec (λ c. search rules) (λ c. search rules) (λ c. search rules) returns returns-2)
+told_spec = tie.close (tie.spec (λ c. search rules) (λ c. search rules) (λ c. search rules) returns-in-Accepted returns-in-Refused)

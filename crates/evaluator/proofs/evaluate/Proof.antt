@@ -1,16 +1,14 @@
 -- `evaluator::evaluate` meets its contract: no version, another version, or the run in the first bytes of the workspace. Assumes nothing.
 use borrow.Author.Rules.{rules}
-use borrow.Author.Tests.{not-false}
 use Prim.Native.Nat.{ℕ}
-use mathlib.Core.Path.{◌≡◌, refl, sym, ◌∙◌, subst}
+use mathlib.Core.Path.{◌≡◌, refl, sym, ap, ◌∙◌, subst}
 use mathlib.Core.List.{List}
-use mathlib.Core.Bool.{false, not}
+use mathlib.Core.Bool.{not}
 use lib.ListN.{length, take, length-take}
 use native.Mathlib.Omega.{arith}
 use Rattle.spec.specs.Expr.{same, Exprs}
 use Rattle.spec.specs.Reading.{Row, readable}
 use Rattle.spec.specs.Calls.{reading, version_bytes}
-use Rattle.laws.specs.Demands.{Bytes}
 use Rattle.laws.proofs.Steps.{all_bytes}
 use Rattle.rows.proofs.Filled.{filled_whole}
 use Rattle.workspace.specs.declared.values.Out.{Out}
@@ -19,106 +17,70 @@ use Rattle.evaluator.proofs.Evaluations.{stream_plain, stream_room, read_once, a
 use Rattle.evaluator.proofs.evaluate.Statement.{statement}
 use Rattle.evaluator.proofs.evaluate.Tie as tie
 
-bytes : (c : tie.After-shared-slice-known) → Bytes c.before.args.s.now
-bytes c = all_bytes c.before.args.s.now (λ i. (c.shared-slice-known.given i).fits)
-
-abbrev known : tie.After-arrange → tie.After-shared-slice-known
-known c = c.before.before.before.before.before.before
-
-abbrev arranging : tie.After-evaluate-all → tie.After-arrange
-arranging c = c.before.before.before.before.before.before
-
-abbrev ran : tie.After-restore → tie.After-evaluate-all
-ran c = c.before.before.before.before
-
--- the stream begins with version 1.0
-versioned : (c : tie.After-arrange) → not (same (take 6 (known c).before.args.s.now) version_bytes) ≡ false
-versioned c = rw c.before.before.before.has-version.ensures at c.before.before.if1.false
-
 -- the table is as it was
-restored : (c : tie.After-restore) → c.restore.new.0 ≡ (known (arranging (ran c))).before.args.table.now
-restored c =
-    let a = arranging (ran c) in
-    c.restore.ensures _ a.arrange.ensures.0 (stream_plain _ _ _ (bytes (known a)) (known a).before.pre)
+restored : (c : tie.After-restore) → c.restore.new.table ≡ c.args.table.now
+restored c = c.restore.ensures _ c.arrange-arranged.ensures.0 (stream_plain _ _ _ (all_bytes _ (λ i. (c.shared_slice_known-1.given i).fits)) c.requires)
 
 -- the part of the workspace that counts
-sized : (c : tie.After-work-size) → let start = c.before.before.before.before.before.before.before.before.before.before in
-    length (take c.work-size.result start.args.work.now) ≡ c.work-size.result
+sized : (c : tie.After-work_size-size) → length (take c.work_size-size.result c.args.work.now) ≡ c.work_size-size.result
 sized c =
-    let start = c.before.before.before.before.before.before.before.before.before.before in
-    omega (arith, length-take c.work-size.result start.args.work.now, c.work-size.ensures)
+    omega (arith, length-take c.work_size-size.result c.args.work.now, c.work_size-size.ensures)
 
 -- how the run ended, where that is this
-ended : (c : tie.After-evaluate-all) (out : Out) → c.evaluate-all.result ≡ out → let x = (known (arranging c)).before.args in
+ended : (c : tie.After-evaluate_all-left) (out : Out) → c.evaluate_all-left.result ≡ out → let x = c.args in
     (t : List ℕ) (rs : List Row) (es : Exprs) → reading x.s.now t ≡ readable rs es
-    → Ended x.steps (take c.before.before.before.work-size.result x.work.now) c.evaluate-all.new.1.1.1.0 x.rows es out
+    → Ended x.steps (take c.work_size-size.result x.work.now) c.evaluate_all-left.new.w x.rows es out
 ended c out e t rs es reads =
-    let x = (known (arranging c)).before.args in
+    let x = c.args in
     subst
-    (λ (o : Out). Ended x.steps (take c.before.before.before.work-size.result x.work.now) c.evaluate-all.new.1.1.1.0 x.rows es o) e
-    (c.evaluate-all.ensures es ((arranging c).arrange.ensures.1 t rs es reads))
+    (λ (o : Out). Ended x.steps (take c.work_size-size.result x.work.now) c.evaluate_all-left.new.w x.rows es o) e
+    (c.evaluate_all-left.ensures es (c.arrange-arranged.ensures.1 t rs es reads))
 
-returns : tie.Need-returns
-returns c = (
+returns-then-not-has_version : tie.Need-returns-then-not-has_version
+returns-then-not-has_version c = (
   refl,
   λ t out rs es reads fills.
-      let if1 = c.before.before.before in
-      let w = if1.before.before.before.before.before.args.work.now in
+      let w = c.args.work.now in
       rw c.refused.ensures
-      (answer_version _ t w out _ rs es reads (rw if1.before.has-version.ensures at if1.if1.true) _ (c.before.wrong_version.ensures t rs es reads)),
+      (answer_version _ t w out _ rs es reads (ap not (rw c.has_version.ensures at c.if-not-has_version.true)) _ (c.wrong_version.ensures t rs es reads)),
 )
 
-arrange-requires : tie.Need-arrange-requires
-arrange-requires c κs =
-    let if1 = c.before in
-    (if1.before.before.before.before.before.requires, sym if1.before.has-version.ensures ∙ not-false _ if1.if1.false)
+arrange-arranged-requires : tie.Need-arrange-arranged-requires
+arrange-arranged-requires c κs =
+    (c.requires, sym c.has_version.ensures ∙ c.if-not-has_version.false)
 
-evaluate-all-requires : tie.Need-evaluate-all-requires
-evaluate-all-requires c κs =
-    let size = c.before.before in
-    let a = size.before.before.before in
-    let has = (known a).before.requires in
-    ((has.means, a.arrange.ensures.1 has.before has.rows has.means has.is), omega (arith, sized size, size.work-size.ensures))
+evaluate_all-left-requires : tie.Need-evaluate_all-left-requires
+evaluate_all-left-requires c κs =
+    let has = c.requires in
+    ((has.means, c.arrange-arranged.ensures.1 has.before has.rows has.means has.is), omega (arith, sized c.before, c.work_size-size.ensures))
 
 restore-requires : tie.Need-restore-requires
 restore-requires c κs =
-    let a = arranging c.before.before.before in
-    omega (arith, a.arrange.ensures.0.changed.same_length, stream_room _ _ _ (bytes (known a)) (known a).before.pre)
+    omega (arith, c.arrange-arranged.ensures.0.changed.same_length, stream_room _ _ _ (all_bytes _ (λ i. (c.shared_slice_known-1.given i).fits)) c.requires)
 
 start-requires : tie.Need-start-requires
 start-requires c κs =
-    let told = c.before.before in
-    let over = told.before.before.before.before in
-    let a = arranging (ran over) in
-    let has = (known a).before.pre in
-    let stops = ended (ran over) _ told.left.given.1 has.before has.rows has.means has.is in
-    rw (restored over, has.filled_in) (filled_whole has.rows has.before _ (omega (arith, stops.1, has.counted)))
+    let has = c.requires in
+    let stops = ended c.before.before.before.before.before.before.before _ c.in-Refused.is has.before has.rows has.means has.is in
+    rw (restored c.before.before.before, has.filled_in) (filled_whole has.rows has.before _ (omega (arith, stops.1, has.counted)))
 
-returns-2 : tie.Need-returns-2
-returns-2 c =
-    let told = c.before.before.before.before in
-    let over = told.before.before.before.before in
-    let a = arranging (ran over) in (
-      restored over,
-      λ t out rs es reads fills.
-          let has = (known a).before.pre in
-          let stops = ended (ran over) _ told.left.given.1 t rs es reads in
-          let size = (ran over).before.before.before in
-          rw c.refused2.ensures
-          (answer_stopped _ t _ out _ rs es reads (bytes (known a)) (versioned a) _ size.work-size.ensures _ (rw (read_once has t rs es reads).0 has.counted) _ _ _
-          stops (rw (restored over, fills) at c.before.start.ensures)),
-    )
+returns-in-Refused : tie.Need-returns-in-Refused
+returns-in-Refused c = (
+  restored c.before.before.before.before.before,
+  λ t out rs es reads fills.
+      let has = c.requires in
+      let stops = ended c.before.before.before.before.before.before.before.before.before _ c.in-Refused.is t rs es reads in
+      rw c.refused-in-Refused.ensures
+      (answer_stopped _ t _ out _ rs es reads (all_bytes _ (λ i. (c.shared_slice_known-1.given i).fits)) (ap not (rw c.has_version.ensures at c.if-not-has_version.false)) _ c.work_size-size.ensures _ (rw (read_once has t rs es reads).0 has.counted) _ _ _
+      stops (rw (restored c.before.before.before.before.before, fills) at c.start.ensures)),
+)
 
-returns-3 : tie.Need-returns-3
-returns-3 c =
-    let told = c.before.before in
-    let over = told.before.before.before.before in
-    let a = arranging (ran over) in (
-      restored over,
-      λ t out rs es reads fills.
-          let size = (ran over).before.before.before in
-          answer_done _ t _ out _ rs es reads (bytes (known a)) (versioned a) _ size.work-size.ensures _ _ (ended (ran over) _ told.left2.given.1 t rs es reads),
-    )
+returns-in-Done : tie.Need-returns-in-Done
+returns-in-Done c = (
+  restored c.before.before.before.before,
+  λ t out rs es reads fills.
+      answer_done _ t _ out _ rs es reads (all_bytes _ (λ i. (c.shared_slice_known-1.given i).fits)) (ap not (rw c.has_version.ensures at c.if-not-has_version.false)) _ c.work_size-size.ensures _ _ (ended c.before.before.before.before.before.before.before.before _ c.in-Done.is t rs es reads),
+)
 
 pub evaluate_spec : {M : Type 1} → statement M
 evaluate_spec =
@@ -128,12 +90,12 @@ evaluate_spec =
     (λ c κs. search rules)
     (λ c κs. search rules)
     (λ c. search rules)
-    returns
-    arrange-requires
+    returns-then-not-has_version
+    arrange-arranged-requires
     (λ c κs. search rules)
     (λ c. search rules)
-    (λ c. sym (sized c.before.before))
-    evaluate-all-requires
+    (λ c. sym (sized c.before))
+    evaluate_all-left-requires
     restore-requires
     (λ c. search rules)
     start-requires
@@ -141,13 +103,11 @@ evaluate_spec =
     (λ c. search rules)
     -- no more steps than there were are left
     (λ c.
-    let told = c.before.before in
-    let r = ran told.before.before.before.before in
-    let has = (known (arranging r)).before.requires in
-    (ended r _ told.left2.given.1 has.before has.rows has.means has.is).fewer)
+    let has = c.requires in
+    (ended c.before.before.before.before.before.before.before.before _ c.in-Done.is has.before has.rows has.means has.is).fewer)
     (λ c. search rules)
     (λ c. search rules)
-    returns-2
+    returns-in-Refused
     (λ c. search rules)
     (λ c. search rules)
-    returns-3)
+    returns-in-Done)

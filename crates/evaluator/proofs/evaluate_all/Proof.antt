@@ -8,25 +8,21 @@ use Rattle.evaluator.proofs.evaluate_all.Tie as tie
 
 list-requires : tie.Need-list-requires
 list-requires c κs =
-    let known = c.before.before.before.before.before.before.before in
-    let pre = known.before.requires in
+    let pre = c.requires in
     record {
       bound = _;
       codes = 32;
       nodes = _;
       here = start;
-      ready = stream_ready _ _ _ _ pre.0.1 known.before.args.w.now (replicate 64 0) (replicate 64 0) (replicate 256 0) known.before.args.steps
+      ready = stream_ready _ _ _ _ pre.0.1 c.args.w.now (replicate 64 0) (replicate 64 0) (replicate 256 0) c.args.steps
           c.start.result c.start.ensures pre.1;
     }
 
 returns : tie.Need-returns
 returns c = λ es at.
-    let ran = c.before.before in
-    let begins = ran.before in
-    let known = begins.before.before.before.before.before.before.before in
-    let ready = stream_ready _ _ _ es at known.before.args.w.now (replicate 64 0) (replicate 64 0) (replicate 256 0) known.before.args.steps
-    begins.start.result begins.start.ensures known.before.requires.1 in
-    stream_ended _ _ _ es at _ _ _ ran.list.result (ran.list.ensures.0 _ 32 _ start ready)
+    let ready = stream_ready _ _ _ es at c.args.w.now (replicate 64 0) (replicate 64 0) (replicate 256 0) c.args.steps
+    c.start.result c.start.ensures c.requires.1 in
+    stream_ended _ _ _ es at _ _ _ c.list.result (c.list.ensures.0 _ 32 _ start ready)
 
 pub evaluate_all_spec : {M : Type 1} → statement M
 evaluate_all_spec = tie.close (tie.spec (λ c κs. search rules) list-requires (λ c. search rules) returns)

@@ -11,8 +11,7 @@ pub has_version_spec : {M : Type 1} → statement M
 has_version_spec =
     tie.close
     (tie.spec
-    (λ c. let s = c.before.before.args.s.now in same_long (take 6 s) version_bytes (λ e. omega (arith, e, length-take 6 s, c.if1.true)))
-    (λ c. omega (arith, length-take 6 c.before.before.before.args.s.now, c.before.if1.false))
-    (λ c. search rules)
+    (λ c. let s = c.args.s.now in same_long (take 6 s) version_bytes (λ e. omega (arith, e, length-take 6 s, c.if-s-lt6.true)))
+    (λ c. omega (arith, length-take 6 c.args.s.now, c.if-s-lt6.false))
     (λ c κs. search rules)
     (λ c. c.same_bytes.ensures))

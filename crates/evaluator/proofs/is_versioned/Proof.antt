@@ -17,34 +17,32 @@ use Rattle.evaluator.proofs.Evaluations.{versioned_none, versioned_first, versio
 use Rattle.evaluator.proofs.is_versioned.Statement.{statement}
 use Rattle.evaluator.proofs.is_versioned.Tie as tie
 
-bytes : (c : tie.After-shared-slice-known) → Bytes c.before.args.s.now
-bytes c = all_bytes c.before.args.s.now (λ i. (c.shared-slice-known.given i).fits)
+bytes : (c : tie.After-shared_slice_known-1) → Bytes c.args.s.now
+bytes c = all_bytes c.args.s.now (λ i. (c.shared_slice_known-1.given i).fits)
 
 -- there is a row: the first expression
-first : (c : tie.Else1) → let x = c.before.before.before.args in
-    (head : Node) × NodeAt x.s.now x.table.now false 0 head × (leads version (elements head) ≡ is_versioned c.before.before.before.requires.means)
-first c = let known = c.before.before in versioned_first _ _ _ _ (stream_nodes _ _ _ (bytes known) known.before.requires) (omega (arith, c.if1.false))
+first : (c : tie.Else-rows-eq0) → let x = c.args in
+    (head : Node) × NodeAt x.s.now x.table.now false 0 head × (leads version (elements head) ≡ is_versioned c.requires.means)
+first c = versioned_first _ _ _ _ (stream_nodes _ _ _ (bytes c.before.before) c.requires) (omega (arith, c.if-rows-eq0.false))
 
 -- it is a form
-head : (c : tie.After-known-told) → let x = c.before.before.before.before.before.before.before.args in
-    HeadAt x.s.now x.table.now c.before.form.given.0.0 (elements (first c.before.before.before.before).0)
+head : (c : tie.In-Branch) → let x = c.args in
+    HeadAt x.s.now x.table.now c.in-Branch.form (elements (first c.before.before).0)
 head c =
-    element_head (rw (sym c.before.before.before.at.ensures ∙ c.before.form.given.1) at (element_is _ _ _ _ _ (first c.before.before.before.before).1))
+    element_head (rw (sym c.at.ensures ∙ c.in-Branch.is) at (element_is _ _ _ _ _ (first c.before.before).1))
 
-returns-2 : tie.Need-returns-2
-returns-2 c = λ t rs es reads.
-    let f = first c.before.before.before in
-    let has = c.before.before.before.before.before.before.requires in
+returns-in-Leaf : tie.Need-returns-in-Leaf
+returns-in-Leaf c = λ t rs es reads.
+    let f = first c.before.before in
+    let has = c.requires in
     rw (read_once has t rs es reads).1
-    (versioned_leaf (rw (sym c.before.before.at.ensures ∙ c.enum_told.given.1) at (element_is _ _ _ _ _ f.1)) ∙ f.2)
+    (versioned_leaf (rw (sym c.at.ensures ∙ c.in-Leaf.is) at (element_is _ _ _ _ _ f.1)) ∙ f.2)
 
-returns-3 : tie.Need-returns-3
-returns-3 c = λ t rs es reads.
-    let form = c.before in
-    let begins = form.before.before.before.before in
-    let h = head form in
-    rw (read_once begins.before.before.before.requires t rs es reads).1
-    (ap (λ (k : ℕ). eqb k (key_of core version)) (c.head_key.ensures _ h) ∙ head_core _ _ _ (bytes begins.before.before) version (omega arith) _ h ∙ (first begins).2)
+returns-in-Branch : tie.Need-returns-in-Branch
+returns-in-Branch c = λ t rs es reads.
+    let h = head c.before in
+    rw (read_once c.requires t rs es reads).1
+    (ap (λ (k : ℕ). eqb k (key_of core version)) (c.head_key.ensures _ h) ∙ head_core _ _ _ (bytes c.before.before.before.before.before) version (omega arith) _ h ∙ (first c.before.before.before).2)
 
 pub is_versioned_spec : {M : Type 1} → statement M
 is_versioned_spec =
@@ -52,11 +50,10 @@ is_versioned_spec =
     (tie.spec
     -- no row
     (λ c t rs es reads.
-    let known = c.before.before in
-    rw (read_once known.before.requires t rs es reads).1 (versioned_none _ _ _ _ (stream_nodes _ _ _ (bytes known) known.before.requires) c.if1.true))
+    rw (read_once c.requires t rs es reads).1 (versioned_none _ _ _ _ (stream_nodes _ _ _ (bytes c.before.before) c.requires) c.if-rows-eq0.true))
     (λ c κs. node_whole _ _ _ _ _ (first c).1)
     (λ c. search rules)
     (λ c. search rules)
     (λ c κs. record { nodes = _; at = head c })
-    returns-2
-    returns-3)
+    returns-in-Leaf
+    returns-in-Branch)

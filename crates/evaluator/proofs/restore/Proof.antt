@@ -9,5 +9,5 @@ restore_spec =
     (tie.spec
     (λ c κs. search rules)
     (λ c. search rules)
-    (λ c t put plain. c.before.before.clear.ensures t put.changed plain)
-    (λ c t put plain. put.same c.if1.false))
+    (λ c t put plain. c.clear.ensures t put.changed plain)
+    (λ c t put plain. put.same c.if-arranged.false))

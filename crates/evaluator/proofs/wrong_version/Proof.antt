@@ -6,6 +6,6 @@ pub wrong_version_spec : {M : Type 1} → statement M
 wrong_version_spec =
     tie.close
     (tie.spec
-    (λ c κs. c.before.before.requires)
-    (λ c t rs es reads. rw (← c.before.is_versioned.ensures t rs es reads, c.if1.true))
-    (λ c t rs es reads. rw (← c.before.is_versioned.ensures t rs es reads, c.if1.false)))
+    (λ c κs. c.requires)
+    (λ c t rs es reads. rw (← c.is_versioned.ensures t rs es reads, c.if-is_versioned.true))
+    (λ c t rs es reads. rw (← c.is_versioned.ensures t rs es reads, c.if-is_versioned.false)))

@@ -4,11 +4,11 @@ use borrow.Author.Tests.{ne_eqb}
 use Rattle.reader.proofs.began.Statement.{statement}
 use Rattle.reader.proofs.began.Tie as tie
 
-returns : tie.Need-returns
-returns c = rw c.if1.true
+returns-then-depth-eq0 : tie.Need-returns-then-depth-eq0
+returns-then-depth-eq0 c = rw c.if-depth-eq0.true
 
-returns-2 : tie.Need-returns-2
-returns-2 c = rw (ne_eqb c.before.args.depth 0 c.if1.false)
+returns : tie.Need-returns
+returns c = rw (ne_eqb c.args.depth 0 c.if-depth-eq0.false)
 
 pub began_spec : {M : Type 1} → statement M
-began_spec = tie.close (tie.spec returns returns-2)
+began_spec = tie.close (tie.spec returns-then-depth-eq0 returns)

@@ -5,8 +5,8 @@ use Rattle.reader.proofs.Checking.{too_long}
 use Rattle.reader.proofs.check.Statement.{statement}
 use Rattle.reader.proofs.check.Tie as tie
 
-returns : tie.Need-returns
-returns c = too_long _ _ c.if1.true
+returns-then-s-gt-STREAM_LIMIT : tie.Need-returns-then-s-gt-STREAM_LIMIT
+returns-then-s-gt-STREAM_LIMIT c = too_long _ _ c.if-s-gt-STREAM_LIMIT.true
 
 pub check_spec : {M : Type 1} → statement M
-check_spec = tie.close (tie.spec returns (λ c κs. search rules) (λ c. search rules))
+check_spec = tie.close (tie.spec returns-then-s-gt-STREAM_LIMIT (λ c κs. search rules) (λ c. search rules))

@@ -11,115 +11,114 @@ use Rattle.reader.proofs.Checking.{Checking, checking_start, CheckTurn, check_tu
 use Rattle.reader.proofs.check_tokens.Statement.{statement}
 use Rattle.reader.proofs.check_tokens.Tie as tie
 
-abbrev invariant-loop : tie.invariant-loop
-invariant-loop s room at₀ from₀ depth₀ rows₀ saved₀ at from depth rows saved = Checking s room at from depth rows saved
+abbrev invariant-loop-at : tie.invariant-loop-at
+invariant-loop-at s room at₀ from₀ depth₀ rows₀ saved₀ at from depth rows saved = Checking s room at from depth rows saved
 
-abbrev decreases-loop : tie.decreases-loop
-decreases-loop s room at₀ from₀ depth₀ rows₀ saved₀ at from depth rows saved = length s - at
+abbrev decreases-loop-at : tie.decreases-loop-at
+decreases-loop-at s room at₀ from₀ depth₀ rows₀ saved₀ at from depth rows saved = length s - at
 
-loop-holds : tie.Need-loop-init invariant-loop decreases-loop
-loop-holds c = checking_start _ _
+loop-at-init : tie.Need-loop-at-init invariant-loop-at decreases-loop-at
+loop-at-init c = checking_start _ _
 
 -- what is known of the turn where the token is this one
-abbrev TurnAt : tie.At-loop invariant-loop decreases-loop → Answer → Type 0
+abbrev TurnAt : tie.At-loop-at invariant-loop-at decreases-loop-at → Answer → Type 0
 TurnAt c r =
-    let a = c.before.before.args in
-    let l = c.loop in
+    let a = c.args in
+    let l = c.loop-at in
     CheckTurn a.s.now a.room l.at l.from l.depth l.rows l.saved r
 
-at_token : (c : tie.After-token-at invariant-loop decreases-loop) (r : Answer) → c.token_at.result ≡ r → TurnAt c.before.before r
+at_token : (c : tie.After-token_at invariant-loop-at decreases-loop-at) (r : Answer) → c.token_at.result ≡ r → TurnAt c.before.before r
 at_token c r e =
-    let l = c.before.before in
-    check_turn _ _ _ _ _ _ _ l.before.before.requires l.loop.invariant c.before.loop-test.true (λ i. (l.before.shared-slice-known.given i).fits) r
+    check_turn _ _ _ _ _ _ _ c.requires c.loop-at.invariant c.loop-at-test.true (λ i. (c.shared_slice_known-1.given i).fits) r
     (sym e ∙ c.token_at.ensures)
 
-at_opening : (c : tie.After-enum-told invariant-loop decreases-loop) → TurnAt c.before.before.before.before Opening
-at_opening c = at_token c.before.before Opening c.enum_told.given.1
+at_opening : (c : tie.In-Opening invariant-loop-at decreases-loop-at) → TurnAt c.before.before.before Opening
+at_opening c = at_token c.before Opening c.in-Opening.is
 
-at_closing : (c : tie.After-enum-told2 invariant-loop decreases-loop) → TurnAt c.before.before.before.before Closing
-at_closing c = at_token c.before.before Closing c.enum-told2.given.1
+at_closing : (c : tie.In-Closing invariant-loop-at decreases-loop-at) → TurnAt c.before.before.before Closing
+at_closing c = at_token c.before Closing c.in-Closing.is
 
-at_whole : (c : tie.After-kind invariant-loop decreases-loop)
-    → TurnAt c.before.before.before.before (Whole c.kind.given.0.0 c.kind.given.0.1.0 c.kind.given.0.1.1.0)
-at_whole c = at_token c.before.before _ c.kind.given.1
+at_whole : (c : tie.In-Whole invariant-loop-at decreases-loop-at)
+    → TurnAt c.before.before.before (Whole c.in-Whole.kind c.in-Whole.body c.in-Whole.end)
+at_whole c = at_token c.before _ c.in-Whole.is
 
-returns : tie.Need-returns invariant-loop decreases-loop
-returns c = (at_opening c.before).0 c.if1.true
+returns-then-depth-ge64 : tie.Need-returns-then-depth-ge64 invariant-loop-at decreases-loop-at
+returns-then-depth-ge64 c = (at_opening c.before).0 c.if-depth-ge64.true
 
-returns-2 : tie.Need-returns-2 invariant-loop decreases-loop
-returns-2 c = (at_opening c.before.before).1 c.before.if1.false c.if2.true
+returns-then-room-rows : tie.Need-returns-then-room-rows invariant-loop-at decreases-loop-at
+returns-then-room-rows c = (at_opening c.before.before).1 c.if-depth-ge64.false c.if-room-rows.true
 
-loop-again : tie.Need-loop-preserved invariant-loop decreases-loop
-loop-again c = rw c.began.ensures ((at_opening c.before.before.before).2 c.before.before.if1.false c.before.if2.false)
+loop-at-preserved-in-Opening : tie.Need-loop-at-preserved-in-Opening invariant-loop-at decreases-loop-at
+loop-at-preserved-in-Opening c = rw c.began-from.ensures ((at_opening c.before.before.before).2 c.if-depth-ge64.false c.if-room-rows.false)
 
-returns-3 : tie.Need-returns-3 invariant-loop decreases-loop
-returns-3 c = (at_closing c.before).0 c.if3.true
+returns-then-depth-eq0 : tie.Need-returns-then-depth-eq0 invariant-loop-at decreases-loop-at
+returns-then-depth-eq0 c = (at_closing c.before).0 c.if-depth-eq0.true
 
-loop-again-2 : tie.Need-loop-preserved-2 invariant-loop decreases-loop
-loop-again-2 c = (at_closing c.before).1 c.if3.false
+loop-at-preserved-in-Closing : tie.Need-loop-at-preserved-in-Closing invariant-loop-at decreases-loop-at
+loop-at-preserved-in-Closing c = (at_closing c.before).1 c.if-depth-eq0.false
 
-returns-4 : tie.Need-returns-4 invariant-loop decreases-loop
-returns-4 c = (at_whole c.before.before).4 c.if4.true
+returns-then-room-rows-2 : tie.Need-returns-then-room-rows-2 invariant-loop-at decreases-loop-at
+returns-then-room-rows-2 c = (at_whole c.before).4 c.if-room-rows-2.true
 
-spared-requires : tie.Need-spared-requires invariant-loop decreases-loop
-spared-requires c κs = let w = at_whole c.before.before in (w.0, w.1)
+spared-saved-requires : tie.Need-spared-saved-requires invariant-loop-at decreases-loop-at
+spared-saved-requires c κs = let w = at_whole c.before in (w.0, w.1)
 
-add-saved : tie.Need-overflow-add-saved invariant-loop decreases-loop
-add-saved c = let w = at_whole c.before.before.before in omega (arith, w.0, w.3, c.spared.ensures)
+overflow_add-saved : tie.Need-overflow_add-saved invariant-loop-at decreases-loop-at
+overflow_add-saved c = let w = at_whole c.before.before in omega (arith, w.0, w.3, c.spared-saved.ensures)
 
-loop-less-3 : tie.Need-loop-smaller-3 invariant-loop decreases-loop
-loop-less-3 c = let w = at_whole c.before.before.before in omega (arith, w.2, w.3)
+loop-at-smaller : tie.Need-loop-at-smaller invariant-loop-at decreases-loop-at
+loop-at-smaller c = let w = at_whole c.before.before in omega (arith, w.2, w.3)
 
-loop-again-3 : tie.Need-loop-preserved-3 invariant-loop decreases-loop
-loop-again-3 c = (at_whole c.before.before.before).5 _ c.spared.ensures c.before.if4.false
+loop-at-preserved : tie.Need-loop-at-preserved invariant-loop-at decreases-loop-at
+loop-at-preserved c = (at_whole c.before.before).5 _ c.spared-saved.ensures c.if-room-rows-2.false
 
-returns-5 : tie.Need-returns-5 invariant-loop decreases-loop
-returns-5 c = rw c.began2.ensures (at_token c.before.before.before Unfinished c.before.enum-told3.given.1)
+returns-in-Unfinished : tie.Need-returns-in-Unfinished invariant-loop-at decreases-loop-at
+returns-in-Unfinished c = rw c.began.ensures (at_token c.before.before Unfinished c.in-Unfinished.is)
 
-returns-6 : tie.Need-returns-6 invariant-loop decreases-loop
-returns-6 c = at_token c.before.before.before _ c.before.number.given.1
+returns-in-Bad : tie.Need-returns-in-Bad invariant-loop-at decreases-loop-at
+returns-in-Bad c = at_token c.before _ c.in-Bad.is
 
-returns-7 : tie.Need-returns-7 invariant-loop decreases-loop
-returns-7 c = let l = c.before.before in end_right _ _ _ _ _ _ _ l.before.before.requires l.loop.invariant c.before.loop-test.false c.if5.true
+returns-then-depth-eq0-2 : tie.Need-returns-then-depth-eq0-2 invariant-loop-at decreases-loop-at
+returns-then-depth-eq0-2 c = end_right _ _ _ _ _ _ _ c.requires c.loop-at.invariant c.loop-at-test.false c.if-depth-eq0-2.true
 
-returns-8 : tie.Need-returns-8 invariant-loop decreases-loop
-returns-8 c = let l = c.before.before in end_wrong _ _ _ _ _ _ _ l.before.before.requires l.loop.invariant c.before.loop-test.false c.if5.false
+returns : tie.Need-returns invariant-loop-at decreases-loop-at
+returns c = end_wrong _ _ _ _ _ _ _ c.requires c.loop-at.invariant c.loop-at-test.false c.if-depth-eq0-2.false
 
 pub check_tokens_spec : {M : Type 1} → statement M
 check_tokens_spec =
     tie.close
     (tie.spec
-    invariant-loop
-    decreases-loop
-    loop-holds
+    invariant-loop-at
+    decreases-loop-at
+    loop-at-init
     (λ c κs. omega arith)
     (λ c. search rules)
-    returns
-    returns-2
+    returns-then-depth-ge64
+    returns-then-room-rows
     (λ c κs. omega arith)
     (λ c. omega arith)
     (λ c. omega arith)
     (λ c. omega arith)
     (λ c. omega arith)
-    loop-again
+    loop-at-preserved-in-Opening
     (λ c. search rules)
-    returns-3
+    returns-then-depth-eq0
     (λ c. omega arith)
     (λ c. omega arith)
     (λ c. omega arith)
-    loop-again-2
+    loop-at-preserved-in-Closing
     (λ c. search rules)
-    returns-4
+    returns-then-room-rows-2
     (λ c. omega arith)
-    spared-requires
-    add-saved
-    loop-less-3
-    loop-again-3
+    spared-saved-requires
+    overflow_add-saved
+    loop-at-smaller
+    loop-at-preserved
     (λ c. search rules)
     (λ c κs. omega arith)
-    returns-5
+    returns-in-Unfinished
     (λ c. search rules)
-    returns-6
+    returns-in-Bad
     (λ c. omega arith)
-    returns-7
-    returns-8)
+    returns-then-depth-eq0-2
+    returns)

@@ -10,28 +10,27 @@ use Rattle.reader.proofs.expression_end.Statement.{statement}
 use Rattle.reader.proofs.expression_end.Tie as tie
 
 -- what is known where the token is this one
-at_token : (c : tie.After-token-at) (r : Answer) → c.token_at.result ≡ r → TopTurn c.before.before.args.s.now c.before.before.args.at r
+at_token : (c : tie.After-token_at) (r : Answer) → c.token_at.result ≡ r → TopTurn c.args.s.now c.args.at r
 at_token c r e =
-    let start = c.before.before in
-    top_turn _ _ (λ i. (c.before.shared-slice-known.given i).fits) start.requires.1 start.requires.2 r (sym e ∙ c.token_at.ensures)
+    top_turn _ _ (λ i. (c.shared_slice_known-1.given i).fits) c.requires.1 c.requires.2 r (sym e ∙ c.token_at.ensures)
 
-form-end-requires : tie.Need-form-end-requires
-form-end-requires c κs = (omega arith, omega arith, (at_token c.before.before Opening c.enum_told.given.1).0)
+form_end-requires : tie.Need-form_end-requires
+form_end-requires c κs = (omega arith, omega arith, (at_token c.before Opening c.in-Opening.is).0)
 
-returns : tie.Need-returns
-returns c = c.form_end.ensures ∙ sym (at_token c.before.before.before Opening c.before.enum_told.given.1).1
+returns-in-Opening : tie.Need-returns-in-Opening
+returns-in-Opening c = c.form_end.ensures ∙ sym (at_token c.before.before Opening c.in-Opening.is).1
 
-returns-2 : tie.Need-returns-2
-returns-2 c = sym (at_token c.before.before.before _ c.before.end.given.1)
+returns-in-Whole : tie.Need-returns-in-Whole
+returns-in-Whole c = sym (at_token c.before _ c.in-Whole.is)
 
-returns-3 : tie.Need-returns-3
-returns-3 c = absurd (at_token c.before.before Closing c.enum-told2.given.1)
+returns-in-Closing : tie.Need-returns-in-Closing
+returns-in-Closing c = absurd (at_token c.before Closing c.in-Closing.is)
 
-returns-4 : tie.Need-returns-4
-returns-4 c = absurd (at_token c.before.before _ c.enum-told3.given.1)
+returns-in-Unfinished : tie.Need-returns-in-Unfinished
+returns-in-Unfinished c = absurd (at_token c.before _ c.in-Unfinished.is)
 
-returns-5 : tie.Need-returns-5
-returns-5 c = absurd (at_token c.before.before _ c.enum-told4.given.1)
+returns-in-Bad : tie.Need-returns-in-Bad
+returns-in-Bad c = absurd (at_token c.before _ c.in-Bad.is)
 
 pub expression_end_spec : {M : Type 1} → statement M
 expression_end_spec =
@@ -40,13 +39,13 @@ expression_end_spec =
     (λ c κs. search rules)
     (λ c. search rules)
     (λ c. search rules)
-    form-end-requires
+    form_end-requires
     (λ c. search rules)
     (λ c. search rules)
     (λ c. search rules)
     (λ c. search rules)
-    returns
-    returns-2
-    returns-3
-    returns-4
-    returns-5)
+    returns-in-Opening
+    returns-in-Whole
+    returns-in-Closing
+    returns-in-Unfinished
+    returns-in-Bad)

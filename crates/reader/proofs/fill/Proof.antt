@@ -11,134 +11,129 @@ use Rattle.reader.proofs.Filling.{Filling, filling_start, filling_end, Turn, tur
 use Rattle.reader.proofs.fill.Statement.{statement}
 use Rattle.reader.proofs.fill.Tie as tie
 
-abbrev invariant-loop : tie.invariant-loop
-invariant-loop s table₀ forms₀ at₀ depth₀ rows₀ table forms at depth rows = Filling s table₀ table forms at depth rows
+abbrev invariant-loop-at : tie.invariant-loop-at
+invariant-loop-at s table₀ forms₀ at₀ depth₀ rows₀ table forms at depth rows = Filling s table₀ table forms at depth rows
 
-abbrev decreases-loop : tie.decreases-loop
-decreases-loop s table₀ forms₀ at₀ depth₀ rows₀ table forms at depth rows = length s - at
+abbrev decreases-loop-at : tie.decreases-loop-at
+decreases-loop-at s table₀ forms₀ at₀ depth₀ rows₀ table forms at depth rows = length s - at
 
-loop-holds : tie.Need-loop-init invariant-loop decreases-loop
-loop-holds c =
-    let start = c.before.before in
-    filling_start _ _ _ (λ i. (c.before.shared-slice-known.given i).fits) start.requires.0 refl start.requires.1
+loop-at-init : tie.Need-loop-at-init invariant-loop-at decreases-loop-at
+loop-at-init c =
+    filling_start _ _ _ (λ i. (c.shared_slice_known-1.given i).fits) c.requires.0 refl c.requires.1
 
 -- what is known of the turn where the token is this one
-abbrev TurnAt : tie.At-loop invariant-loop decreases-loop → Answer → Type 0
+abbrev TurnAt : tie.At-loop-at invariant-loop-at decreases-loop-at → Answer → Type 0
 TurnAt c r =
-    let a = c.before.before.before.args in
-    let l = c.loop in
+    let a = c.args in
+    let l = c.loop-at in
     Turn a.s.now a.table.now l.table l.forms l.at l.depth l.rows r
 
-at_token : (c : tie.After-token-at invariant-loop decreases-loop) (r : Answer) → c.token_at.result ≡ r → TurnAt c.before.before r
+at_token : (c : tie.After-token_at invariant-loop-at decreases-loop-at) (r : Answer) → c.token_at.result ≡ r → TurnAt c.before.before r
 at_token c r e =
-    let l = c.before.before in
-    turn _ _ _ _ _ _ _ l.loop.invariant c.before.loop-test.true (λ i. (l.before.before.shared-slice-known.given i).fits) r (sym e ∙ c.token_at.ensures)
+    turn _ _ _ _ _ _ _ c.loop-at.invariant c.loop-at-test.true (λ i. (c.shared_slice_known-1.given i).fits) r (sym e ∙ c.token_at.ensures)
 
-at_opening : (c : tie.After-enum-told invariant-loop decreases-loop) → TurnAt c.before.before.before.before Opening
-at_opening c = at_token c.before.before Opening c.enum_told.given.1
+at_opening : (c : tie.In-Opening invariant-loop-at decreases-loop-at) → TurnAt c.before.before.before Opening
+at_opening c = at_token c.before Opening c.in-Opening.is
 
-at_closing : (c : tie.After-enum-told2 invariant-loop decreases-loop) → TurnAt c.before.before.before.before Closing
-at_closing c = at_token c.before.before Closing c.enum-told2.given.1
+at_closing : (c : tie.In-Closing invariant-loop-at decreases-loop-at) → TurnAt c.before.before.before Closing
+at_closing c = at_token c.before Closing c.in-Closing.is
 
-at_whole : (c : tie.After-kind invariant-loop decreases-loop)
-    → TurnAt c.before.before.before.before (Whole c.kind.given.0.0 c.kind.given.0.1.0 c.kind.given.0.1.1.0)
-at_whole c = at_token c.before.before _ c.kind.given.1
+at_whole : (c : tie.In-Whole invariant-loop-at decreases-loop-at)
+    → TurnAt c.before.before.before (Whole c.in-Whole.kind c.in-Whole.body c.in-Whole.end)
+at_whole c = at_token c.before _ c.in-Whole.is
 
-array-write-forms : tie.Need-array-write-forms invariant-loop decreases-loop
-array-write-forms c = (at_opening c).0
+bounds-forms-depth : tie.Need-bounds-forms-depth invariant-loop-at decreases-loop-at
+bounds-forms-depth c = (at_opening c).0
 
-start-row-requires : tie.Need-start-row-requires invariant-loop decreases-loop
-start-row-requires c κs = (at_opening c.before).1
+start_row-requires : tie.Need-start_row-requires invariant-loop-at decreases-loop-at
+start_row-requires c κs = (at_opening c.before).1
 
-loop-again : tie.Need-loop-preserved invariant-loop decreases-loop
-loop-again c = rw c.before.before.start-row.ensures (at_opening c.before.before.before.before).2
+loop-at-preserved-in-Opening : tie.Need-loop-at-preserved-in-Opening invariant-loop-at decreases-loop-at
+loop-at-preserved-in-Opening c = rw c.start_row.ensures (at_opening c.before.before.before.before).2
 
-sub-depth : tie.Need-overflow-sub-depth invariant-loop decreases-loop
-sub-depth c = (at_closing c).0
+overflow_sub-depth : tie.Need-overflow_sub-depth invariant-loop-at decreases-loop-at
+overflow_sub-depth c = (at_closing c).0
 
-cast-end-row : tie.Need-overflow-cast-end-row invariant-loop decreases-loop
-cast-end-row c = omega (arith, at_closing c.before)
+overflow_cast-forms-in-Closing : tie.Need-overflow_cast-forms-in-Closing invariant-loop-at decreases-loop-at
+overflow_cast-forms-in-Closing c = omega (arith, at_closing c.before)
 
-end-row-requires : tie.Need-end-row-requires invariant-loop decreases-loop
-end-row-requires c κs = (at_closing c.before).1
+end_row-requires : tie.Need-end_row-requires invariant-loop-at decreases-loop-at
+end_row-requires c κs = (at_closing c.before).1
 
-loop-again-2 : tie.Need-loop-preserved-2 invariant-loop decreases-loop
-loop-again-2 c = rw c.before.before.End-row.ensures (at_closing c.before.before.before.before).2
+loop-at-preserved-in-Closing : tie.Need-loop-at-preserved-in-Closing invariant-loop-at decreases-loop-at
+loop-at-preserved-in-Closing c = rw c.end_row.ensures (at_closing c.before.before.before.before).2
 
-start-row-requires-2 : tie.Need-start-row-requires-2 invariant-loop decreases-loop
-start-row-requires-2 c κs = (at_whole c.before.before).2
+start_row-requires-in-Whole : tie.Need-start_row-requires-in-Whole invariant-loop-at decreases-loop-at
+start_row-requires-in-Whole c κs = (at_whole c.before).2
 
-cast-end-row-4 : tie.Need-overflow-cast-end-row-4 invariant-loop decreases-loop
-cast-end-row-4 c = omega (arith, at_whole c.before.before.before.before.before.before)
+overflow_cast-end : tie.Need-overflow_cast-end invariant-loop-at decreases-loop-at
+overflow_cast-end c = omega (arith, at_whole c.before.before.before.before.before)
 
-end-row-requires-2 : tie.Need-end-row-requires-2 invariant-loop decreases-loop
-end-row-requires-2 c κs =
-    let start = c.before.before.before in
-    rw start.start-row2.ensures (simp length-set (at_whole start.before.before.before).2)
+end_row-requires-in-Whole : tie.Need-end_row-requires-in-Whole invariant-loop-at decreases-loop-at
+end_row-requires-in-Whole c κs =
+    rw c.start_row-in-Whole.ensures (simp length-set (at_whole c.before.before.before.before.before).2)
 
-loop-less-3 : tie.Need-loop-smaller-3 invariant-loop decreases-loop
-loop-less-3 c = omega (arith, at_whole c.before.before.before.before.before.before.before.before.before)
+loop-at-smaller : tie.Need-loop-at-smaller invariant-loop-at decreases-loop-at
+loop-at-smaller c = omega (arith, at_whole c.before.before.before.before.before.before.before.before)
 
-loop-again-3 : tie.Need-loop-preserved-3 invariant-loop decreases-loop
-loop-again-3 c =
-    let end = c.before.before in
-    let start = end.before.before.before.before in
-    rw (end.end-row2.ensures, start.start-row2.ensures) (at_whole start.before.before.before).3
+loop-at-preserved : tie.Need-loop-at-preserved invariant-loop-at decreases-loop-at
+loop-at-preserved c =
+    rw (c.end_row-in-Whole.ensures, c.start_row-in-Whole.ensures) (at_whole c.before.before.before.before.before.before.before.before).3
 
-returns : tie.Need-returns invariant-loop decreases-loop
-returns c = absurd (at_token c.before.before _ c.enum-told3.given.1)
+returns-in-Unfinished : tie.Need-returns-in-Unfinished invariant-loop-at decreases-loop-at
+returns-in-Unfinished c = absurd (at_token c.before _ c.in-Unfinished.is)
 
-returns-2 : tie.Need-returns-2 invariant-loop decreases-loop
-returns-2 c = absurd (at_token c.before.before _ c.enum-told4.given.1)
+returns-in-Bad : tie.Need-returns-in-Bad invariant-loop-at decreases-loop-at
+returns-in-Bad c = absurd (at_token c.before _ c.in-Bad.is)
 
-returns-3 : tie.Need-returns-3 invariant-loop decreases-loop
-returns-3 c = filling_end _ _ _ _ _ _ _ c.before.loop.invariant c.loop-test.false
+returns : tie.Need-returns invariant-loop-at decreases-loop-at
+returns c = filling_end _ _ _ _ _ _ _ c.loop-at.invariant c.loop-at-test.false
 
 pub fill_spec : {M : Type 1} → statement M
 fill_spec =
     tie.close
     (tie.spec
-    invariant-loop
-    decreases-loop
-    loop-holds
+    invariant-loop-at
+    decreases-loop-at
+    loop-at-init
     (λ c κs. omega arith)
     (λ c. search rules)
     (λ c. omega arith)
     (λ c. omega arith)
-    array-write-forms
+    bounds-forms-depth
     (λ c. omega arith)
-    start-row-requires
-    (λ c. omega arith)
-    (λ c. omega arith)
+    start_row-requires
     (λ c. omega arith)
     (λ c. omega arith)
-    loop-again
+    (λ c. omega arith)
+    (λ c. omega arith)
+    loop-at-preserved-in-Opening
     (λ c. search rules)
-    sub-depth
+    overflow_sub-depth
     (λ c. omega arith)
     (λ c. omega arith)
     (λ c. omega arith)
-    cast-end-row
+    overflow_cast-forms-in-Closing
     (λ c. omega arith)
     (λ c. omega arith)
-    end-row-requires
+    end_row-requires
     (λ c. omega arith)
-    loop-again-2
+    loop-at-preserved-in-Closing
     (λ c. search rules)
     (λ c. omega arith)
-    start-row-requires-2
-    cast-end-row-4
+    start_row-requires-in-Whole
+    overflow_cast-end
     (λ c. omega arith)
     (λ c. omega arith)
-    end-row-requires-2
+    end_row-requires-in-Whole
     (λ c. omega arith)
-    loop-less-3
-    loop-again-3
-    (λ c. search rules)
-    (λ c. search rules)
-    returns
+    loop-at-smaller
+    loop-at-preserved
     (λ c. search rules)
     (λ c. search rules)
-    returns-2
+    returns-in-Unfinished
     (λ c. search rules)
-    returns-3)
+    (λ c. search rules)
+    returns-in-Bad
+    (λ c. search rules)
+    returns)

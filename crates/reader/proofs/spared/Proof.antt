@@ -8,15 +8,15 @@ use borrow.Author.Tests.{ne_eqb}
 use Rattle.reader.proofs.spared.Statement.{statement}
 use Rattle.reader.proofs.spared.Tie as tie
 
-sub-result : tie.Need-overflow-sub-result
-sub-result c = let fits = rw c.before.if1.true at c.before.before.requires.1 in omega (arith, c.head_size.ensures)
+overflow_sub-result : tie.Need-overflow_sub-result
+overflow_sub-result c = let fits = rw c.if-kind-eq-ARRAY.true at c.requires.1 in omega (arith, c.head_size.ensures)
+
+returns-then-kind-eq-ARRAY : tie.Need-returns-then-kind-eq-ARRAY
+returns-then-kind-eq-ARRAY c = let a = c.args in rw c.if-kind-eq-ARRAY.true (ap (λ (k : ℕ). a.body - a.at - k) c.head_size.ensures)
 
 returns : tie.Need-returns
-returns c = let a = c.before.before.args in rw c.before.if1.true (ap (λ (k : ℕ). a.body - a.at - k) c.head_size.ensures)
-
-returns-2 : tie.Need-returns-2
-returns-2 c = rw (ne_eqb c.before.args.kind 2 c.if1.false) (omega arith)
+returns c = rw (ne_eqb c.args.kind 2 c.if-kind-eq-ARRAY.false) (omega arith)
 
 pub spared_spec : {M : Type 1} → statement M
 spared_spec =
-    tie.close (tie.spec (λ c. search rules) (λ c. search rules) (λ c κs. search rules) sub-result returns returns-2)
+    tie.close (tie.spec (λ c. search rules) (λ c. search rules) (λ c κs. search rules) overflow_sub-result returns-then-kind-eq-ARRAY returns)

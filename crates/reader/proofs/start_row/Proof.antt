@@ -7,8 +7,8 @@ use Rattle.reader.proofs.start_row.Statement.{statement}
 use Rattle.reader.proofs.start_row.Tie as tie
 
 -- the second store is in the table, which the first leaves as long as it was
-slice-write-table-2 : tie.Need-slice-write-table-2
-slice-write-table-2 c = simp length-set (omega arith)
+bounds-table-row-2 : tie.Need-bounds-table-row-2
+bounds-table-row-2 c = simp length-set (omega arith)
 
 pub start_row_spec : {M : Type 1} → statement M
 start_row_spec =
@@ -20,6 +20,6 @@ start_row_spec =
     (λ c. search rules)
     (λ c. search rules)
     (λ c. search rules)
-    slice-write-table-2
+    bounds-table-row-2
     (λ c. search rules)
     (λ c. search rules))

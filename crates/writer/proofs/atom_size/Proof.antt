@@ -6,14 +6,14 @@ use Rattle.laws.proofs.Atoms.{head_bounds}
 use Rattle.writer.proofs.atom_size.Statement.{statement}
 use Rattle.writer.proofs.atom_size.Tie as tie
 
-add-result : tie.Need-overflow-add-result
-add-result c = omega (arith, c.head_size.ensures, (head_bounds c.before.before.args.n).1)
+overflow_add-result : tie.Need-overflow_add-result
+overflow_add-result c = omega (arith, c.head_size.ensures, (head_bounds c.args.n).1)
+
+returns-then-kind-eq-ARRAY : tie.Need-returns-then-kind-eq-ARRAY
+returns-then-kind-eq-ARRAY c = rw (c.if-kind-eq-ARRAY.true, c.head_size.ensures)
 
 returns : tie.Need-returns
-returns c = rw (c.before.if1.true, c.head_size.ensures)
-
-returns-2 : tie.Need-returns-2
-returns-2 c = rw (ne_eqb c.before.args.kind 2 c.if1.false) (omega arith)
+returns c = rw (ne_eqb c.args.kind 2 c.if-kind-eq-ARRAY.false) (omega arith)
 
 pub atom_size_spec : {M : Type 1} → statement M
-atom_size_spec = tie.close (tie.spec (λ c κs. search rules) add-result returns returns-2)
+atom_size_spec = tie.close (tie.spec (λ c κs. search rules) overflow_add-result returns-then-kind-eq-ARRAY returns)

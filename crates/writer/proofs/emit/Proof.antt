@@ -11,44 +11,44 @@ use Rattle.writer.proofs.Emitted.{Emitted, emitted_none, EmitTurn, emit_turn, em
 use Rattle.writer.proofs.emit.Statement.{statement}
 use Rattle.writer.proofs.emit.Tie as tie
 
-abbrev invariant-loop : tie.invariant-loop
-invariant-loop s out₀ at₀ to₀ out at to = Emitted s out₀ out at to
+abbrev invariant-loop-at : tie.invariant-loop-at
+invariant-loop-at s out₀ at₀ to₀ out at to = Emitted s out₀ out at to
 
-abbrev decreases-loop : tie.decreases-loop
-decreases-loop s out₀ at₀ to₀ out at to = length s - at
+abbrev decreases-loop-at : tie.decreases-loop-at
+decreases-loop-at s out₀ at₀ to₀ out at to = length s - at
 
-loop-holds : tie.Need-loop-init invariant-loop decreases-loop
-loop-holds c =
-    let a = c.before.before.args in
-    let pre = c.before.before.requires in
-    emitted_none a.s.now a.out.now (all_bytes a.s.now (λ i. (c.before.shared-slice-known.given i).fits)) pre.0 pre.1
+loop-at-init : tie.Need-loop-at-init invariant-loop-at decreases-loop-at
+loop-at-init c =
+    let a = c.args in
+    let pre = c.requires in
+    emitted_none a.s.now a.out.now (all_bytes a.s.now (λ i. (c.shared_slice_known-1.given i).fits)) pre.0 pre.1
 
 -- what is known of the turn where the token is this one
-abbrev TurnAt : tie.At-loop invariant-loop decreases-loop → Answer → Type 0
+abbrev TurnAt : tie.At-loop-at invariant-loop-at decreases-loop-at → Answer → Type 0
 TurnAt c r =
-    let a = c.before.before.before.args in
-    EmitTurn a.s.now a.out.now c.loop.out c.loop.at c.loop.to r
+    let a = c.args in
+    EmitTurn a.s.now a.out.now c.loop-at.out c.loop-at.at c.loop-at.to r
 
-at_token : (c : tie.After-token-at invariant-loop decreases-loop) (r : Answer) → c.token_at.result ≡ r → TurnAt c.before.before r
-at_token c r e = emit_turn c.before.before.loop.invariant c.before.loop-test.true r (sym e ∙ c.token_at.ensures)
+at_token : (c : tie.After-token_at invariant-loop-at decreases-loop-at) (r : Answer) → c.token_at.result ≡ r → TurnAt c.before.before r
+at_token c r e = emit_turn c.loop-at.invariant c.loop-at-test.true r (sym e ∙ c.token_at.ensures)
 
-at_opening : (c : tie.After-enum-told invariant-loop decreases-loop) → TurnAt c.before.before.before.before Opening
-at_opening c = at_token c.before.before Opening c.enum_told.given.1
+at_opening : (c : tie.In-Opening invariant-loop-at decreases-loop-at) → TurnAt c.before.before.before Opening
+at_opening c = at_token c.before Opening c.in-Opening.is
 
-at_closing : (c : tie.After-enum-told2 invariant-loop decreases-loop) → TurnAt c.before.before.before.before Closing
-at_closing c = at_token c.before.before Closing c.enum-told2.given.1
+at_closing : (c : tie.In-Closing invariant-loop-at decreases-loop-at) → TurnAt c.before.before.before Closing
+at_closing c = at_token c.before Closing c.in-Closing.is
 
-at_whole : (c : tie.After-kind invariant-loop decreases-loop)
-    → TurnAt c.before.before.before.before (Whole c.kind.given.0.0 c.kind.given.0.1.0 c.kind.given.0.1.1.0)
-at_whole c = at_token c.before.before _ c.kind.given.1
+at_whole : (c : tie.In-Whole invariant-loop-at decreases-loop-at)
+    → TurnAt c.before.before.before (Whole c.in-Whole.kind c.in-Whole.body c.in-Whole.end)
+at_whole c = at_token c.before _ c.in-Whole.is
 
 pub emit_spec : {M : Type 1} → statement M
 emit_spec =
     tie.close
     (tie.spec
-    invariant-loop
-    decreases-loop
-    loop-holds
+    invariant-loop-at
+    decreases-loop-at
+    loop-at-init
     (λ c κs. omega arith)
     (λ c. search rules)
     (λ c. omega (arith, (at_opening c).0))
@@ -63,17 +63,17 @@ emit_spec =
     (λ c. omega arith)
     (λ c. (at_closing c).1)
     (λ c. search rules)
-    (λ c. (at_whole c.before).ends)
-    (λ c. (at_whole c.before).ends)
-    (λ c. (at_whole c.before).inside)
-    (λ c κs. let w = at_whole c.before.before.before in (w.few, w.room))
-    (λ c. let w = at_whole c.before.before.before.before.before.before in omega (arith, w.forward, w.inside))
-    (λ c. (at_whole c.before.before.before.before.before.before).on c.before.before.put-atom.ensures)
+    (λ c. (at_whole c).ends)
+    (λ c. (at_whole c).ends)
+    (λ c. (at_whole c).inside)
+    (λ c κs. let w = at_whole c.before.before in (w.few, w.room))
+    (λ c. let w = at_whole c.before.before.before.before.before in omega (arith, w.forward, w.inside))
+    (λ c. (at_whole c.before.before.before.before.before).on c.put_atom-to.ensures)
     (λ c. search rules)
-    (λ c. c.before.before.before.before.loop.invariant.same)
-    (λ c. absurd (at_token c.before.before _ c.enum-told3.given.1))
+    (λ c. c.loop-at.invariant.same)
+    (λ c. absurd (at_token c.before _ c.in-Unfinished.is))
     (λ c. search rules)
-    (λ c. c.before.before.before.before.loop.invariant.same)
-    (λ c. absurd (at_token c.before.before _ c.enum-told4.given.1))
-    (λ c. c.before.loop.invariant.same)
-    (λ c. emitted_all c.before.loop.invariant c.loop-test.false))
+    (λ c. c.loop-at.invariant.same)
+    (λ c. absurd (at_token c.before _ c.in-Bad.is))
+    (λ c. c.loop-at.invariant.same)
+    (λ c. emitted_all c.loop-at.invariant c.loop-at-test.false))

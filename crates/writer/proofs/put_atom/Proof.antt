@@ -11,43 +11,40 @@ use Rattle.writer.proofs.put_atom.Statement.{statement}
 use Rattle.writer.proofs.put_atom.Tie as tie
 
 -- an array fits, and its head has room
-head_room : (c : tie.Then1)
-    → let a = c.before.before.before.args in let n : ℕ = length a.body.now in
+head_room : (c : tie.Then-kind-eq-ARRAY)
+    → let a = c.args in let n : ℕ = length a.body.now in
     (n < 65536) × (a.to + length (array_head n) + n ≤ length a.out.now)
 head_room c =
-    let n : ℕ = length c.before.before.before.args.body.now in
-    let pre = simp (c.if1.true, length-append) at c.before.before.before.requires in
+    let n : ℕ = length c.args.body.now in
+    let pre = simp (c.if-kind-eq-ARRAY.true, length-append) at c.requires in
     omega (arith, (head_bounds n).0)
 
-put-bytes-requires : tie.Need-put-bytes-requires
-put-bytes-requires c κs =
+put_bytes-requires : tie.Need-put_bytes-requires
+put_bytes-requires c κs =
     let room = head_room c.before.before.before.before.before in
-    omega (arith, c.before.before.before.put-head.ensures.place)
+    omega (arith, c.put_head-past.ensures.place)
+
+returns-then-kind-eq-ARRAY : tie.Need-returns-then-kind-eq-ARRAY
+returns-then-kind-eq-ARRAY c =
+    let room = head_room c.before.before.before.before.before.before.before.before in
+    rw c.if-kind-eq-ARRAY.true (written_on (omega arith) c.put_head-past.ensures c.put_bytes.ensures)
+
+put_bytes-requires-2 : tie.Need-put_bytes-requires-2
+put_bytes-requires-2 c κs =
+    rw (ne_eqb c.args.kind 2 c.if-kind-eq-ARRAY.false) at c.requires.1
 
 returns : tie.Need-returns
 returns c =
-    let k = c.before.before.before.before.before.before.before.before in
-    let room = head_room k in
-    rw k.if1.true (written_on (omega arith) c.before.before.before.before.before.before.put-head.ensures c.before.before.put-bytes.ensures)
-
-put-bytes-requires-2 : tie.Need-put-bytes-requires-2
-put-bytes-requires-2 c κs =
-    let k = c.before.before.before.before in
-    rw (ne_eqb k.args.kind 2 c.before.if1.false) at k.requires.1
-
-returns-2 : tie.Need-returns-2
-returns-2 c =
-    let k = c.before.before.before.before in
-    rw (ne_eqb k.before.before.before.args.kind 2 k.if1.false) c.before.before.put-bytes2.ensures
+    rw (ne_eqb c.args.kind 2 c.if-kind-eq-ARRAY.false) c.put_bytes-2.ensures
 
 pub put_atom_spec : {M : Type 1} → statement M
 put_atom_spec =
     tie.close
     (tie.spec
     (λ c κs. omega (arith, head_room c.before))
-    put-bytes-requires
+    put_bytes-requires
     (λ c. search rules)
-    returns
-    put-bytes-requires-2
+    returns-then-kind-eq-ARRAY
+    put_bytes-requires-2
     (λ c. search rules)
-    returns-2)
+    returns)

@@ -17,82 +17,78 @@ use Rattle.bytecode.proofs.Naming.{series_folds, Left, First, left_first, left_n
 use Rattle.bytecode.proofs.arities.name_all.Statement.{statement}
 use Rattle.bytecode.proofs.arities.name_all.Tie as tie
 
-abbrev invariant-loop : tie.invariant-loop
-invariant-loop s table₀ list number end arity row₀ table row =
+abbrev invariant-loop-row : tie.invariant-loop-row
+invariant-loop-row s table₀ list number end arity row₀ table row =
     Changed table₀ table list end
     × ((es : Nodes) (os : List Operator) → Naming s table₀ list (number + 1) end os es → Left s table list row end (series arity) (series arity es os))
 
-abbrev decreases-loop : tie.decreases-loop
-decreases-loop s table₀ list number end arity row₀ table row = end - row
+abbrev decreases-loop-row : tie.decreases-loop-row
+decreases-loop-row s table₀ list number end arity row₀ table row = end - row
 
 -- the reference that comes next
-first : (c : tie.In-loop invariant-loop decreases-loop) → let a = c.before.before.before.before.before.before.args in let loop = c.before.loop in
-    let arity = c.before.before.small.result in
+first : (c : tie.In-loop-row invariant-loop-row decreases-loop-row) → let a = c.args in let loop = c.loop-row in
+    let arity = c.small-arity.result in
     (es : Nodes) (os : List Operator) → Naming a.s.now a.table.now a.list (a.number + 1) a.end os es
     → First a.s.now loop.table a.list loop.row a.end (series arity) (series arity es os)
-first c es os n = left_first (series_folds _) (c.before.loop.invariant.1 es os n) c.loop-test.true
+first c es os n = left_first (series_folds _) (c.loop-row.invariant.1 es os n) c.loop-row-test.true
 
 -- what is asked for
-given : (c : tie.In-loop invariant-loop decreases-loop) → let start = c.before.before.before.before.before.before in let a = start.args in let loop = c.before.loop in
-    let arity = c.before.before.small.result in
-    First a.s.now loop.table a.list loop.row a.end (series arity) (series arity start.requires.1.0 start.requires.1.1)
-given c = let asked = c.before.before.before.before.before.before.requires.1 in first c asked.0 asked.1 asked.2
+given : (c : tie.In-loop-row invariant-loop-row decreases-loop-row) → let a = c.args in let loop = c.loop-row in
+    let arity = c.small-arity.result in
+    First a.s.now loop.table a.list loop.row a.end (series arity) (series arity c.requires.1.0 c.requires.1.1)
+given c = let asked = c.requires.1 in first c asked.0 asked.1 asked.2
 
-small_arity : (c : tie.After-small invariant-loop decreases-loop) → c.small.result < 64
-small_arity c = let asked = c.before.before.before.before.requires.0 in omega (arith, c.small.ensures asked.0 asked.1, asked.1.spells.0)
+small_arity : (c : tie.After-small-arity invariant-loop-row decreases-loop-row) → c.small-arity.result < 64
+small_arity c = let asked = c.requires.0 in omega (arith, c.small-arity.ensures asked.0 asked.1, asked.1.spells.0)
 
-kind_is : (c : tie.Else1 invariant-loop decreases-loop) → let loop = c.before.before.before.before.loop in kind loop.table loop.row ≡ 4
-kind_is c = sym c.before.kind.ensures ∙ c.if1.false
+kind_is : (c : tie.Else-kind-ne-REFERENCE invariant-loop-row decreases-loop-row) → let loop = c.loop-row in kind loop.table loop.row ≡ 4
+kind_is c = sym c.kind.ensures ∙ c.if-kind-ne-REFERENCE.false
 
-after : (c : tie.After-name invariant-loop decreases-loop) → let turn = c.before.before.before.before.before in
-    let a = turn.before.before.before.before.before.before.args in Changed a.table.now c.name.new.1.0 a.list a.end
+after : (c : tie.After-name invariant-loop-row decreases-loop-row) → let a = c.args in Changed a.table.now c.name.new.table a.list a.end
 after c =
-    let turn = c.before.before.before.before.before in
-    changed_then turn.before.loop.invariant.0 (changed_wider c.name.ensures.0 _ _ (omega arith) (given turn).inside)
+    changed_then c.loop-row.invariant.0 (changed_wider c.name.ensures.0 _ _ (omega arith) (given c.before.before.before.before).inside)
 
 pub name_all_spec : {M : Type 1} → statement M
 name_all_spec =
     tie.close
     (tie.spec
-    invariant-loop
-    decreases-loop
-    (λ c κs. c.before.before.before.requires.0)
+    invariant-loop-row
+    decreases-loop-row
+    (λ c κs. c.requires.0)
     (λ c. omega (arith, small_arity c))
-    (λ c. omega (arith, c.before.before.before.before.requires.0.1.row.few))
+    (λ c. omega (arith, c.requires.0.1.row.few))
     (λ c. (changed_none _ _ _, λ es os n. record { nodes = es; operators = os; naming = n; gives = refl }))
-    (λ c κs. (written_whole _ _ _ _ (first_written (given c.before))).0)
-    (λ c. c.before.before.before.before.loop.invariant.0.same_length)
-    (λ c. let turn = c.before.before.before in (
-      turn.before.loop.invariant.0,
-      λ n es os l h.
-          let f = first turn es os h in
-          rw (← turn.before.before.small.ensures n l) (ill_named _ _ _ _ (first_ill f
-          (series_other _ _ _ _ _ _ _ (first_written f) (λ z. c.if1.true (c.before.kind.ensures ∙ z))))),
-    ))
-    (λ c κs. let f = given c.before.before.before.before in
-    ((f.node, f.operators, f.naming), kind_is c.before, omega (arith, small_arity c.before.before.before.before.before.before)))
-    (λ c. (after c.before.before.before).same_length)
-    (λ c. let called = c.before.before.before in (
-      after called,
-      λ n es os l h.
-          let turn = called.before.before.before.before.before in
-          let f = first turn es os h in
-          rw (← turn.before.before.small.ensures n l) (ill_named _ _ _ _ (first_refused f _ _
-          (called.name.ensures.1 f.node f.operators f.naming) (not-true _ c.if2.true))),
-    ))
-    (λ c. search rules)
-    (λ c. search rules)
-    (λ c. let called = c.before.before.before in (
-      after called,
-      λ es os h.
-          let turn = called.before.before.before.before.before in
-          let f = first turn es os h in
-          first_named f _ called.name.ensures.0 (called.name.ensures.1 f.node f.operators f.naming) (not-false _ c.if2.false)
-          (sym (one_reference f.naming (kind_is called.before.before)).here.on),
-    ))
-    (λ c. c.before.loop.invariant.0.same_length)
+    (λ c κs. (written_whole _ _ _ _ (first_written (given c))).0)
+    (λ c. c.loop-row.invariant.0.same_length)
     (λ c. (
-      c.before.loop.invariant.0,
+      c.loop-row.invariant.0,
       λ n es os l h.
-          rw (← c.before.before.small.ensures n l) (left_none (series_folds _) (c.before.loop.invariant.1 es os h) c.loop-test.false refl),
+          let f = first c.before.before es os h in
+          rw (← c.small-arity.ensures n l) (ill_named _ _ _ _ (first_ill f
+          (series_other _ _ _ _ _ _ _ (first_written f) (λ z. c.if-kind-ne-REFERENCE.true (c.kind.ensures ∙ z))))),
+    ))
+    (λ c κs. let f = given c.before.before.before in
+    ((f.node, f.operators, f.naming), kind_is c.before, omega (arith, small_arity c.before.before.before.before.before)))
+    (λ c. (after c.before.before.before).same_length)
+    (λ c. (
+      after c.before.before.before,
+      λ n es os l h.
+          let f = first c.before.before.before.before.before.before.before es os h in
+          rw (← c.small-arity.ensures n l) (ill_named _ _ _ _ (first_refused f _ _
+          (c.name.ensures.1 f.node f.operators f.naming) c.if-not-name.true)),
+    ))
+    (λ c. search rules)
+    (λ c. search rules)
+    (λ c. (
+      after c.before.before.before,
+      λ es os h.
+          let f = first c.before.before.before.before.before.before.before es os h in
+          first_named f _ c.name.ensures.0 (c.name.ensures.1 f.node f.operators f.naming) c.if-not-name.false
+          (sym (one_reference f.naming (kind_is c.before.before.before.before.before)).here.on),
+    ))
+    (λ c. c.loop-row.invariant.0.same_length)
+    (λ c. (
+      c.loop-row.invariant.0,
+      λ n es os l h.
+          rw (← c.small-arity.ensures n l) (left_none (series_folds _) (c.loop-row.invariant.1 es os h) c.loop-row-test.false refl),
     )))

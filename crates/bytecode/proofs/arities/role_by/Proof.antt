@@ -9,6 +9,6 @@ pub role_by_spec : {M : Type 1} → statement M
 role_by_spec =
     tie.close
     (tie.spec
-    (λ c. rw (lt-ltb c.before.args.mark 64 c.if1.true))
+    (λ c. rw (lt-ltb c.args.mark 64 c.if-mark-lt64.true))
     (λ c. search rules)
-    (λ c. rw (le-ltb c.before.args.mark 64 c.if1.false)))
+    (λ c. rw (le-ltb c.args.mark 64 c.if-mark-lt64.false)))

@@ -12,24 +12,22 @@ use Rattle.bytecode.proofs.Pieces.{atom_judged, form_piece, pieces_head}
 use Rattle.bytecode.proofs.flat.judge.Statement.{statement}
 use Rattle.bytecode.proofs.flat.judge.Tie as tie
 
-head-key-requires : tie.Need-head-key-requires
-head-key-requires c κs =
-    let pre = c.before.before.before.before.before.requires in
-    record { nodes = elements pre.0; at = pieces_head _ _ _ (elements pre.0) (form_piece (rw c.before.result.given.1 at pre.1)).pieces }
+head_key-requires : tie.Need-head_key-requires
+head_key-requires c κs =
+    let pre = c.requires in
+    record { nodes = elements pre.0; at = pieces_head _ _ _ (elements pre.0) (form_piece (rw c.in-Branch.is at pre.1)).pieces }
 
 -- what is found of a form
-named : (c : tie.After-is-reserved) (e : Node) → let a = c.before.before.before.before.before.before.before.args in
-    IsPiece a.s.now a.table.now a.result e → c.is-reserved.result ≡ led_by_name (elements e)
+named : (c : tie.After-is_reserved) (e : Node) → let a = c.args in
+    IsPiece a.s.now a.table.now a.res e → c.is_reserved.result ≡ led_by_name (elements e)
 named c e h =
-    let key = c.before in
-    let known = key.before.before.before.before.before in
-    let head = pieces_head _ _ _ (elements e) (form_piece (rw key.before.before.result.given.1 at h)).pieces in
-    c.is-reserved.ensures ∙ ap reserved (key.head_key.ensures (elements e) head)
-    ∙ head_reserved _ _ _ (all_bytes known.before.args.s.now (λ i. (known.shared-slice-known.given i).fits)) (elements e) head
+    let head = pieces_head _ _ _ (elements e) (form_piece (rw c.in-Branch.is at h)).pieces in
+    c.is_reserved.ensures ∙ ap reserved (c.head_key.ensures (elements e) head)
+    ∙ head_reserved _ _ _ (all_bytes c.args.s.now (λ i. (c.shared_slice_known-1.given i).fits)) (elements e) head
 
-deep : (c : tie.After-is-deep) (e : Node) → let a = c.before.before.before.before.before.before.before.before.before.args in
-    IsPiece a.s.now a.table.now a.result e → c.is-deep.result ≡ ltb 64 (node_depth e)
-deep c e h = c.is-deep.ensures _ e (rw c.before.before.before.before.before.result.given.1 at h)
+deep : (c : tie.After-is_deep) (e : Node) → let a = c.args in
+    IsPiece a.s.now a.table.now a.res e → c.is_deep.result ≡ ltb 64 (node_depth e)
+deep c e h = c.is_deep.ensures _ e (rw c.in-Branch.is at h)
 
 pub judge_spec : {M : Type 1} → statement M
 judge_spec =
@@ -37,11 +35,11 @@ judge_spec =
     (tie.spec
     (λ c. search rules)
     (λ c. search rules)
-    head-key-requires
+    head_key-requires
     (λ c κs. search rules)
-    (λ c e h. rw (sym (named c.before e h) ∙ c.if1.true))
-    (λ c κs. let pre = c.before.before.before.before.before.before.before.before.requires in
-    (_, pre.0, rw c.before.before.before.before.result.given.1 at pre.1))
-    (λ c e h. rw (sym (named c.before.before.before e h) ∙ c.before.before.if1.false, sym (deep c.before e h) ∙ c.if2.true))
-    (λ c e h. atom_judged (rw c.enum_told.given.1 at h))
-    (λ c e h. rw (sym (named c.before.before.before e h) ∙ c.before.before.if1.false, sym (deep c.before e h) ∙ c.if2.false)))
+    (λ c e h. rw (sym (named c.before e h) ∙ c.if-is_reserved.true))
+    (λ c κs. let pre = c.requires in
+    (_, pre.0, rw c.in-Branch.is at pre.1))
+    (λ c e h. rw (sym (named c.before.before.before e h) ∙ c.if-is_reserved.false, sym (deep c.before e h) ∙ c.if-is_deep.true))
+    (λ c e h. atom_judged (rw c.in-Leaf.is at h))
+    (λ c e h. rw (sym (named c.before.before.before e h) ∙ c.if-is_reserved.false, sym (deep c.before e h) ∙ c.if-is_deep.false)))

@@ -18,15 +18,15 @@ use Rattle.bytecode.proofs.flat.unflatten.Statement.{statement}
 use Rattle.bytecode.proofs.flat.unflatten.Tie as tie
 
 -- what is gathered, where nothing is short of operands
-gathered : (c : tie.Else1) → let a = c.before.before.before.before.before.before.before.args in let t' = c.before.before.before.gather.new.1.0 in
+gathered : (c : tie.Else-not-gather) → let a = c.args in let t' = c.gather.new.table in
     (os : List Operator) (es : Nodes) → FlatAt a.s.now a.table.now a.arities a.flat.first a.flat.end os es
     → (short os 0 es ≡ false) × GatheredAt t' os 0 a.flat.first es × ((place : ℕ) → IsPiece a.s.now t' (result_at t' a.flat) (result place os es))
 gathered c os es f =
-    let g = c.before.before.before.gather.ensures in
-    let is = not-false c.before.before.before.gather.result c.if1.false in
+    let g = c.gather.ensures in
+    let is = c.if-not-gather.false in
     let all = g.2 os es f in
     let enough = not-true (short os 0 es) (sym all.0 ∙ is) in
-    (enough, all.1 is, flat_result _ c.before.before.before.before.before.before.before.requires.0 f g.0 g.1 enough (all.1 is))
+    (enough, all.1 is, flat_result _ c.requires.0 f g.0 g.1 enough (all.1 is))
 
 pub unflatten_spec : {M : Type 1} → statement M
 unflatten_spec =
@@ -34,23 +34,22 @@ unflatten_spec =
     (tie.spec
     (λ c κs. search rules)
     (λ c. search rules)
-    (λ c. let g = c.before.before.before.gather.ensures in (
+    (λ c. let g = c.gather.ensures in (
       g.0,
       g.1,
       λ place os es f.
-          let lacking = not-false (short os 0 es) (sym (g.2 os es f).0 ∙ not-true c.before.before.before.gather.result c.if1.true) in
+          let lacking = not-false (short os 0 es) (sym (g.2 os es f).0 ∙ c.if-not-gather.true) in
           (rw lacking, λ z. absurd (omega (arith, z))),
     ))
-    (λ c κs. let start = c.before.before.before.before.before.before.before.before in
-    let w = written_all_kept _ c.before.before.before.before.gather.ensures.0 start.requires.1.1 _ _ start.requires.1.2.written in
-    (start.requires.0, written_inside _ _ start.args.flat start.requires.1.1 w))
-    (λ c κs. let pre = c.before.before.before.before.before.before.before.before.before.requires.1 in
-    (result 0 pre.0 pre.1, rw c.result.ensures ((gathered c.before.before pre.0 pre.1 pre.2).2 0)))
+    (λ c κs. let w = written_all_kept _ c.gather.ensures.0 c.requires.1.1 _ _ c.requires.1.2.written in
+    (c.requires.0, written_inside _ _ c.args.flat c.requires.1.1 w))
+    (λ c κs. let pre = c.requires.1 in
+    (result 0 pre.0 pre.1, rw c.result.ensures ((gathered c.before pre.0 pre.1 pre.2).2 0)))
     (λ c. search rules)
-    (λ c. let g = c.before.before.before.before.before.before.gather.ensures in (
+    (λ c. let g = c.gather.ensures in (
       g.0,
       g.1,
       λ place os es f.
-          let all = gathered c.before.before.before os es f in
-          (rw all.0 (c.judge.ensures (result place os es) (rw c.before.result.ensures (all.2 place))), λ z. all.1),
+          let all = gathered c.before.before os es f in
+          (rw all.0 (c.judge.ensures (result place os es) (rw c.result.ensures (all.2 place))), λ z. all.1),
     )))

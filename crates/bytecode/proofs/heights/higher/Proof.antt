@@ -8,18 +8,18 @@ use Rattle.bytecode.proofs.heights.higher.Statement.{statement}
 use Rattle.bytecode.proofs.heights.higher.Tie as tie
 
 -- the mark of a form
-marked : (c : tie.After-mark) → let a = c.before.before.before.before.args in c.mark.result ≡ height a.table.now a.row
+marked : (c : tie.After-mark-height) → let a = c.args in c.mark-height.result ≡ height a.table.now a.row
 marked c =
-    let a = c.before.before.before.before.args in
-    c.mark.ensures ∙ sym (height_form a.table.now a.row (sym c.before.before.kind.ensures ∙ c.before.if1.false))
+    let a = c.args in
+    c.mark-height.ensures ∙ sym (height_form a.table.now a.row (sym c.kind.ensures ∙ c.if-kind-ne-FORM.false))
 
 pub higher_spec : {M : Type 1} → statement M
 higher_spec =
     tie.close
     (tie.spec
     (λ c κs. search rules)
-    (λ c. let a = c.before.before.before.args in
-    omega (arith, height_other a.table.now a.row (λ k. c.if1.true (c.before.kind.ensures ∙ k))))
+    (λ c. let a = c.args in
+    omega (arith, height_other a.table.now a.row (λ k. c.if-kind-ne-FORM.true (c.kind.ensures ∙ k))))
     (λ c κs. search rules)
     (λ c. omega (arith, marked c.before))
     (λ c. omega (arith, marked c.before)))

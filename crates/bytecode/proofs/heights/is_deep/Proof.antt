@@ -9,41 +9,40 @@ use Rattle.bytecode.proofs.Pieces.{element_plain, FormPiece, form_piece, LeftPie
 use Rattle.bytecode.proofs.heights.is_deep.Statement.{statement}
 use Rattle.bytecode.proofs.heights.is_deep.Tie as tie
 
-abbrev invariant-loop : tie.invariant-loop
-invariant-loop table end flat row₀ row = (s : List ℕ) (e : Node) → FormPiece s table flat row₀ end e → LeftPieces s table flat row₀ end e row
+abbrev invariant-loop-row : tie.invariant-loop-row
+invariant-loop-row table end flat row₀ row = (s : List ℕ) (e : Node) → FormPiece s table flat row₀ end e → LeftPieces s table flat row₀ end e row
 
-abbrev decreases-loop : tie.decreases-loop
-decreases-loop table end flat row₀ row = end - row
+abbrev decreases-loop-row : tie.decreases-loop-row
+decreases-loop-row table end flat row₀ row = end - row
 
 -- what is left of what is asked for
-here : (c : tie.In-loop invariant-loop decreases-loop) → let start = c.before.before.before in let a = start.args in
-    LeftPieces start.requires.0 a.table.now a.form.flat a.form.first a.form.end start.requires.1 c.before.loop.row
-here c = c.before.loop.invariant _ _ (form_piece c.before.before.before.requires.2)
+here : (c : tie.In-loop-row invariant-loop-row decreases-loop-row) → let a = c.args in
+    LeftPieces c.requires.0 a.table.now a.form.flat a.form.first a.form.end c.requires.1 c.loop-row.row
+here c = c.loop-row.invariant _ _ (form_piece c.requires.2)
 
 -- how high the first is
-height : (c : tie.After-height-of invariant-loop decreases-loop) (s : List ℕ) (e : Node) → let l = c.before.before.before.before in let a = l.before.args in
-    (h : LeftPieces s a.table.now a.form.flat a.form.first a.form.end e c.before.before.before.loop.row)
-    → c.height-of.result ≡ node_depth (left_more h c.before.before.loop-test.true).head
-height c s e h = c.height-of.ensures s _ (rw c.before.element.ensures (left_node h c.before.before.loop-test.true))
+height : (c : tie.After-height_of invariant-loop-row decreases-loop-row) (s : List ℕ) (e : Node) → let a = c.args in
+    (h : LeftPieces s a.table.now a.form.flat a.form.first a.form.end e c.loop-row.row)
+    → c.height_of.result ≡ node_depth (left_more h c.loop-row-test.true).head
+height c s e h = c.height_of.ensures s _ (rw c.element.ensures (left_node h c.loop-row-test.true))
 
 pub is_deep_spec : {M : Type 1} → statement M
 is_deep_spec =
     tie.close
     (tie.spec
-    invariant-loop
-    decreases-loop
+    invariant-loop-row
+    decreases-loop-row
     (λ c s e h. left_pieces h)
-    (λ c κs. let m = left_more (here c) c.loop-test.true in (m.inside, m.few))
-    (λ c κs. let a = c.before.before.before.before.args in
+    (λ c κs. let m = left_more (here c) c.loop-row-test.true in (m.inside, m.few))
+    (λ c κs. let a = c.args in
     rw c.element.ensures
-    (element_plain a.table.now a.form.flat c.before.before.loop.row, (_, _, left_node (here c.before) c.before.loop-test.true)))
-    (λ c s e h. let l = c.before.before.before.before.loop.invariant s e (form_piece h) in
-    left_deep l c.before.before.before.loop-test.true (omega (arith, c.if1.true, height c.before s e l)))
-    (λ c κs. (left_more (here c.before.before.before) c.before.before.before.loop-test.true).inside)
-    (λ c. let i = c.before.before.before.before in
-    let m = left_more (here i) i.loop-test.true in
-    omega (arith, c.behind.ensures, m.forward, m.within))
-    (λ c s e h. let l = c.before.before.before.before.before.loop.invariant s e h in
-    rw c.behind.ensures
-    (left_next l c.before.before.before.before.loop-test.true (omega (arith, c.before.if1.false, height c.before.before s e l))))
-    (λ c s e h. left_done (c.before.loop.invariant s e (form_piece h)) c.loop-test.false))
+    (element_plain a.table.now a.form.flat c.loop-row.row, (_, _, left_node (here c.before) c.loop-row-test.true)))
+    (λ c s e h. let l = c.loop-row.invariant s e (form_piece h) in
+    left_deep l c.loop-row-test.true (omega (arith, c.if-height_of-gt63.true, height c.before s e l)))
+    (λ c κs. (left_more (here c.before.before.before) c.loop-row-test.true).inside)
+    (λ c. let m = left_more (here c.before.before.before.before) c.loop-row-test.true in
+    omega (arith, c.behind-row.ensures, m.forward, m.within))
+    (λ c s e h. let l = c.loop-row.invariant s e h in
+    rw c.behind-row.ensures
+    (left_next l c.loop-row-test.true (omega (arith, c.if-height_of-gt63.false, height c.before.before s e l))))
+    (λ c s e h. left_done (c.loop-row.invariant s e (form_piece h)) c.loop-row-test.false))

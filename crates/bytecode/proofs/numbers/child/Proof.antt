@@ -14,5 +14,5 @@ child_spec =
     (λ c. search rules)
     (λ c. search rules)
     (λ c. search rules)
-    (λ c. let a = c.before.args in omega (arith, c.shared-slice-known.given (4 * a.row + a.bit)))
+    (λ c. let a = c.args in omega (arith, c.shared_slice_known-1.given (4 * a.row + a.bit)))
     (λ c. search rules))

@@ -14,28 +14,28 @@ use Rattle.bytecode.proofs.numbers.clear.Tie as tie
 use Rattle.bytecode.proofs.numbers.clear.Reads as reads
 use Rattle.bytecode.proofs.numbers.clear.Lts as lts
 
-abbrev invariant-loop : tie.invariant-loop
-invariant-loop table₀ rows row₀ table row = (row ≤ rows) × (length table ≡ length table₀)
+abbrev invariant-loop-row : tie.invariant-loop-row
+invariant-loop-row table₀ rows row₀ table row = (row ≤ rows) × (length table ≡ length table₀)
     × ((t : List ℕ) → Changed t table₀ 0 rows → ((r : ℕ) → r < rows → (cell t r 0 < 256) × (cell t r 1 < 65536)) → Changed t table row rows)
 
-abbrev decreases-loop : tie.decreases-loop
-decreases-loop table₀ rows row₀ table row = rows - row
+abbrev decreases-loop-row : tie.decreases-loop-row
+decreases-loop-row table₀ rows row₀ table row = rows - row
 
-again : tie.Need-loop-preserved invariant-loop decreases-loop
-again c =
-    let loop = c.before.before.before.loop in (
+loop-row-preserved : tie.Need-loop-row-preserved invariant-loop-row decreases-loop-row
+loop-row-preserved c =
+    let loop = c.loop-row in (
       omega arith,
       simp length-set loop.invariant.1,
-      λ t h g. let small = g loop.row c.before.before.loop-test.true in
-          changed_cleared (loop.invariant.2 t h g) c.before.before.loop-test.true (omega arith) small.0 small.1,
+      λ t h g. let small = g loop.row c.loop-row-test.true in
+          changed_cleared (loop.invariant.2 t h g) c.loop-row-test.true (omega arith) small.0 small.1,
     )
 
 pub clear_spec : {M : Type 1} → statement M
 clear_spec =
     tie.close
     (tie.spec
-    invariant-loop
-    decreases-loop
+    invariant-loop-row
+    decreases-loop-row
     (λ c. (omega arith, search rules, λ t h g. h))
     (λ c. search rules)
     (λ c. search rules)
@@ -50,6 +50,6 @@ clear_spec =
     (λ c. simp length-set (omega arith))
     (λ c. search rules)
     (λ c. search rules)
-    again
-    (λ c. c.before.loop.invariant.1)
-    (λ c t h g. changed_nowhere (c.before.loop.invariant.2 t h g) (omega arith)))
+    loop-row-preserved
+    (λ c. c.loop-row.invariant.1)
+    (λ c t h g. changed_nowhere (c.loop-row.invariant.2 t h g) (omega arith)))

@@ -19,4 +19,4 @@ put_child_spec =
     (λ c. search rules)
     (λ c. search rules)
     (λ c. search rules)
-    (λ c. let a = c.before.args in child_put a.table.now a.row c.before.requires.0 a.bit a.child c.before.requires.1))
+    (λ c. let a = c.args in child_put a.table.now a.row c.requires.0 a.bit a.child c.requires.1))

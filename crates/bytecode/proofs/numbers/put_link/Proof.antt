@@ -18,4 +18,4 @@ put_link_spec =
     (λ c. search rules)
     (λ c. search rules)
     (λ c. search rules)
-    (λ c. let a = c.before.args in link_put a.table.now a.row c.before.requires.0 a.link))
+    (λ c. let a = c.args in link_put a.table.now a.row c.requires.0 a.link))

@@ -13,34 +13,34 @@ use Rattle.bytecode.proofs.Stars.{all_unnamed}
 use Rattle.bytecode.proofs.present.is_present.Statement.{statement}
 use Rattle.bytecode.proofs.present.is_present.Tie as tie
 
-abbrev invariant-loop : tie.invariant-loop
-invariant-loop s table first rows row₀ row =
+abbrev invariant-loop-row : tie.invariant-loop-row
+invariant-loop-row s table first rows row₀ row =
     (first ≤ row) × ((q : ℕ) (e : Node) → first ≤ q → q < row → WrittenAt s table q e → is_name prefix* e ≡ false)
 
-abbrev decreases-loop : tie.decreases-loop
-decreases-loop s table first rows row₀ row = rows - row
+abbrev decreases-loop-row : tie.decreases-loop-row
+decreases-loop-row s table first rows row₀ row = rows - row
 
-loop-again : tie.Need-loop-preserved invariant-loop decreases-loop
-loop-again c =
-    let l = c.before.before.before.loop in (
+loop-row-preserved : tie.Need-loop-row-preserved invariant-loop-row decreases-loop-row
+loop-row-preserved c =
+    let l = c.loop-row in (
       omega (arith, l.invariant.0),
       λ q e h g w. elim (ℕ_discrete q l.row) [
-        | yes i ↦ sym (c.before.is_star.ensures e (rw i at w)) ∙ c.if1.false
+        | yes i ↦ sym (c.is_star.ensures e (rw i at w)) ∙ c.if-is_star.false
         | no d ↦ l.invariant.1 q e h (omega arith) w
       ],
     )
 
-returns : tie.Need-returns invariant-loop decreases-loop
-returns c =
-    let l = c.before.before.before.loop in
-    let e = written_each _ _ _ _ _ c.before.before.before.before.before.before.requires.1 l.row l.invariant.0 c.before.before.loop-test.true in (
+returns-then-is_star : tie.Need-returns-then-is_star invariant-loop-row decreases-loop-row
+returns-then-is_star c =
+    let l = c.loop-row in
+    let e = written_each _ _ _ _ _ c.requires.1 l.row l.invariant.0 c.loop-row-test.true in (
       (λ _. record {
         row = l.row;
         from = l.invariant.0;
-        before = c.before.before.loop-test.true;
+        before = c.loop-row-test.true;
         node = e.0;
         written = e.1;
-        is = sym (c.before.is_star.ensures e.0 e.1) ∙ c.if1.true;
+        is = sym (c.is_star.ensures e.0 e.1) ∙ c.if-is_star.true;
       }),
       λ es h z. impossible (cc),
     )
@@ -49,17 +49,17 @@ pub is_present_spec : {M : Type 1} → statement M
 is_present_spec =
     tie.close
     (tie.spec
-    invariant-loop
-    decreases-loop
+    invariant-loop-row
+    decreases-loop-row
     (λ c. (omega arith, λ q e h g. absurd (omega arith)))
-    (λ c κs. let l = c.before.loop in
-    let e = written_each _ _ _ _ _ c.before.before.before.before.requires.1 l.row l.invariant.0 c.loop-test.true in
+    (λ c κs. let l = c.loop-row in
+    let e = written_each _ _ _ _ _ c.requires.1 l.row l.invariant.0 c.loop-row-test.true in
     (e.0, e.1))
-    returns
+    returns-then-is_star
     (λ c. omega arith)
     (λ c. omega arith)
-    loop-again
+    loop-row-preserved
     (λ c. (
       (λ z. impossible (cc)),
-      λ es h z. all_unnamed _ _ _ _ es h (λ q e i g. c.before.loop.invariant.1 q e i (omega (arith, c.loop-test.false))),
+      λ es h z. all_unnamed _ _ _ _ es h (λ q e i g. c.loop-row.invariant.1 q e i (omega (arith, c.loop-row-test.false))),
     )))

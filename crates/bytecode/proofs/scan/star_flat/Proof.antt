@@ -13,67 +13,58 @@ use Rattle.bytecode.proofs.scan.star_flat.Statement.{statement}
 use Rattle.bytecode.proofs.scan.star_flat.Tie as tie
 
 -- where the arity list is named
-abbrev start : tie.After-name-list → tie.Start
-start c = c.before.before.before.before.before.before.before
 
-abbrev Headed : tie.After-name-list → Nodes → Type 0
-Headed c es = let a = (start c).args in HeadedAt a.s.now a.table.now a.form es
+abbrev Headed : tie.After-name_list → Nodes → Type 0
+Headed c es = let a = c.args in HeadedAt a.s.now a.table.now a.form es
 
-given : (c : tie.Else2) (es : Nodes) → let list = c.before.before.before in Headed list es → let a = (start list).args in
-    StarGiven a.s.now a.table.now list.name-list.new.1.0 a.form es
+given : (c : tie.Else-not-name_list) (es : Nodes) → Headed c.before.before.before es → let a = c.args in
+    StarGiven a.s.now a.table.now c.name_list.new.table a.form es
 given c es h =
-    let list = c.before.before.before in
-    star_given _ _ _ _ list.name-list.result list.name-list.ensures.1 es h list.before.before.if1.false (not-false _ c.if2.false)
+    star_given _ _ _ _ c.name_list.result c.name_list.ensures.1 es h c.if-form-list.false c.if-not-name_list.false
 
-named : (c : tie.Else2) (es : Nodes) → let list = c.before.before.before in (h : Headed list es) → let a = (start list).args in
-    StarNamed a.s.now a.table.now list.name-list.new.1.0 a.form (given c es h).given (given c es h).rest
+named : (c : tie.Else-not-name_list) (es : Nodes) → (h : Headed c.before.before.before es) → let a = c.args in
+    StarNamed a.s.now a.table.now c.name_list.new.table a.form (given c es h).given (given c es h).rest
 named c es h =
-    let list = c.before.before.before in
     let g = given c es h in
-    star_named (start list).args.form g.given g.list g.rest (rw g.is at h) list.name-list.ensures.0 g.lists
+    star_named c.args.form g.given g.list g.rest (rw g.is at h) c.name_list.ensures.0 g.lists
 
-name-list-requires : tie.Need-name-list-requires
-name-list-requires c κs =
-    let pre = c.before.before.before.before.before.before.requires in
-    some_list _ _ _ pre.0 pre.1 c.before.if1.false
+name_list-requires : tie.Need-name_list-requires
+name_list-requires c κs =
+    let pre = c.requires in
+    some_list _ _ _ pre.0 pre.1 c.if-form-list.false
 
-returns : tie.Need-returns
-returns c = (changed_none _ _ _, λ es out h. star_bare _ _ _ es out h c.if1.true)
+returns-then-form-list : tie.Need-returns-then-form-list
+returns-then-form-list c = (changed_none _ _ _, λ es out h. star_bare _ _ _ es out h c.if-form-list.true)
 
-returns-2 : tie.Need-returns-2
-returns-2 c =
-    let list = c.before.before.before in
-    let start = list.before.before.before.before.before.before.before in (
-      changed_wider list.name-list.ensures.0 _ _ (omega arith) (list_within _ _ _ start.requires.0 start.requires.1 list.before.before.if1.false).1,
-      λ es out h. star_ungiven _ _ _ _ list.name-list.result list.name-list.ensures.1 es out h (not-true _ c.if2.true),
-    )
+returns-then-not-name_list : tie.Need-returns-then-not-name_list
+returns-then-not-name_list c = (
+  changed_wider c.name_list.ensures.0 _ _ (omega arith) (list_within _ _ _ c.requires.0 c.requires.1 c.if-form-list.false).1,
+  λ es out h. star_ungiven _ _ _ _ c.name_list.result c.name_list.ensures.1 es out h c.if-not-name_list.true,
+)
 
 next-requires : tie.Need-next-requires
-next-requires c κs = let pre = (start c.before.before.before.before.before).requires in (named c.before.before pre.0 pre.1).lists.tree.inside
+next-requires c κs = let pre = c.requires in (named c.before pre.0 pre.1).lists.tree.inside
 
 -- the row of the flat list
-flat_row : (c : tie.After-next) (es : Nodes) → let list = c.before.before.before.before.before.before in Headed list es → c.next.result ≡ next (start list).args.table.now ((start list).args.form.first + 1)
-flat_row c es h = c.next.ensures ∙ ((named c.before.before.before es h).changed.same_rows _).same_next
+flat_row : (c : tie.After-next) (es : Nodes) → Headed c.before.before.before.before.before es → c.next.result ≡ next c.args.table.now (c.args.form.first + 1)
+flat_row c es h = c.next.ensures ∙ ((named c.before.before es h).changed.same_rows _).same_next
 
 unflatten-requires : tie.Need-unflatten-requires
 unflatten-requires c κs =
-    let pre = (start c.before.before.before.before.before.before.before).requires in
-    let g = given c.before.before.before.before pre.0 pre.1 in
-    rw (c.flat_from.ensures, flat_row c.before pre.0 pre.1) (refl, (g.given, g.rest, star_flat_at (named c.before.before.before.before pre.0 pre.1)))
+    let pre = c.requires in
+    let g = given c.before.before.before pre.0 pre.1 in
+    rw (c.flat_from.ensures, flat_row c.before pre.0 pre.1) (refl, (g.given, g.rest, star_flat_at (named c.before.before.before pre.0 pre.1)))
 
-returns-3 : tie.Need-returns-3
-returns-3 c =
-    let flat = c.before.before.before in
-    let own-list = flat.before.before.before.before in
-    let begin = start flat.before.before.before.before.before.before.before in
-    let pre = begin.pre in
-    let first = rw (flat.flat_from.ensures, flat_row flat.before pre.0 pre.1) at c.before.before.unflatten.ensures in (
-      star_changed (named own-list pre.0 pre.1) first.0,
+returns : tie.Need-returns
+returns c =
+    let pre = c.requires in
+    let first = rw (c.flat_from.ensures, flat_row c.before.before.before.before pre.0 pre.1) at c.unflatten.ensures in (
+      star_changed (named c.before.before.before.before.before.before pre.0 pre.1) first.0,
       (λ es out h.
-          let g = given own-list es h in
-          let n = named own-list es h in
-          let own = rw (flat.flat_from.ensures, flat_row flat.before es h) at c.before.before.unflatten.ensures in
-          let all = own.2 begin.args.form.first g.given g.rest (star_flat_at n) in
+          let g = given c.before.before.before.before.before.before es h in
+          let n = named c.before.before.before.before.before.before es h in
+          let own = rw (c.flat_from.ensures, flat_row c.before.before.before.before es h) at c.unflatten.ensures in
+          let all = own.2 c.args.form.first g.given g.rest (star_flat_at n) in
           star_refusal g out _ all.0 (λ z. star_left n own.0 out own.1 (sym all.0 ∙ z) (all.1 z))),
     )
 
@@ -82,12 +73,12 @@ star_flat_spec =
     tie.close
     (tie.spec
     (λ c. search rules)
-    returns
-    name-list-requires
+    returns-then-form-list
+    name_list-requires
     (λ c. search rules)
-    returns-2
+    returns-then-not-name_list
     next-requires
     (λ c κs. search rules)
     unflatten-requires
     (λ c. search rules)
-    returns-3)
+    returns)

@@ -19,142 +19,122 @@ use Rattle.bytecode.proofs.Visits.{found, row_whole, form_here, form_head, heade
 use Rattle.bytecode.proofs.scan.visit.Statement.{statement}
 use Rattle.bytecode.proofs.scan.visit.Tie as tie
 
-abbrev start : tie.After-nearest → tie.Start
-start c = c.before.before.before.before
-
-abbrev Stands : tie.After-nearest → ℕ → List Frame → Type 0
-Stands c end fs = let a = (start c).args in Standing a.s.now a.table.now a.scan end fs
+abbrev Stands : tie.After-nearest-around → ℕ → List Frame → Type 0
+Stands c end fs = let a = c.args in Standing a.s.now a.table.now a.scan end fs
 
 -- the list at hand, once those that have ended are left
-at : (c : tie.After-nearest) (end : ℕ) (fs : List Frame) → Stands c end fs → (start c).args.scan.row < end
-    → Found (start c).args.s.now c.nearest.new.1.0 (start c).args.scan.row c.nearest.result end fs
-at c end fs k l = found k l (c.nearest.ensures k.around k.arounds)
+at : (c : tie.After-nearest-around) (end : ℕ) (fs : List Frame) → Stands c end fs → c.args.scan.row < end
+    → Found c.args.s.now c.nearest-around.new.table c.args.scan.row c.nearest-around.result end fs
+at c end fs k l = found k l (c.nearest-around.ensures k.around k.arounds)
 
 -- what is asked for
-asked : (c : tie.After-nearest) → let pre = (start c).requires in
-    Found (start c).args.s.now c.nearest.new.1.0 (start c).args.scan.row c.nearest.result pre.0 pre.1
-asked c = let pre = (start c).requires in at c pre.0 pre.1 pre.2 pre.3
+asked : (c : tie.After-nearest-around) → let pre = c.requires in
+    Found c.args.s.now c.nearest-around.new.table c.args.scan.row c.nearest-around.result pre.0 pre.1
+asked c = let pre = c.requires in at c pre.0 pre.1 pre.2 pre.3
 
 -- the lists that were left are changed before
-before : (c : tie.After-nearest) → let row = (start c).args.scan.row in Aside (start c).args.table.now c.nearest.new.1.0 row row
-before c = let k = (start c).requires.2 in (c.nearest.ensures k.around k.arounds).aside
+before : (c : tie.After-nearest-around) → let row = c.args.scan.row in Aside c.args.table.now c.nearest-around.new.table row row
+before c = let k = c.requires.2 in (c.nearest-around.ensures k.around k.arounds).aside
 
-then : (c : tie.After-nearest) {u : List ℕ} {on : Scan} {end : ℕ} {fs : List Frame} → let a = (start c).args in a.scan.row < end
-    → Moved a.s.now c.nearest.new.1.0 u a.scan on end fs → Moved a.s.now a.table.now u a.scan on end fs
+then : (c : tie.After-nearest-around) {u : List ℕ} {on : Scan} {end : ℕ} {fs : List Frame} → let a = c.args in a.scan.row < end
+    → Moved a.s.now c.nearest-around.new.table u a.scan on end fs → Moved a.s.now a.table.now u a.scan on end fs
 then c l m = moved_then (before c) (omega arith) m
 
 -- where a form is found
-abbrev near : tie.After-form → tie.After-nearest
-near c = c.before.before.before.before.before.before
 
-seen : (c : tie.After-form) → Branch c.form.given.0.0 ≡ element_at (near c).nearest.new.1.0 true (start (near c)).args.scan.row
-seen c = sym c.form.given.1 ∙ c.before.before.element.ensures
+seen : (c : tie.In-Branch) → Branch c.in-Branch.form ≡ element_at c.nearest-around.new.table true c.args.scan.row
+seen c = sym c.in-Branch.is ∙ c.element.ensures
 
 element-requires : tie.Need-element-requires
-element-requires c κs = let n = c.before.before.before in row_whole _ _ (start n).args.scan _ _ _ (start n).requires.2.few (asked n)
+element-requires c κs = row_whole _ _ c.args.scan _ _ _ c.requires.2.few (asked c.before.before)
 
-head-key-requires : tie.Need-head-key-requires
-head-key-requires c κs =
-    let form = c.before.before in
-    let few = (start (near form)).requires.2.few in
-    let h = asked (near form) in
-    record { nodes = (form_here _ _ (start (near form)).args.scan _ _ _ few h _ (seen form)).elements; at = form_head _ _ (start (near form)).args.scan _ _ _ few h _ (seen form) }
+head_key-key-requires : tie.Need-head_key-key-requires
+head_key-key-requires c κs =
+    let few = c.requires.2.few in
+    let h = asked c.before.before.before.before in
+    record { nodes = (form_here _ _ c.args.scan _ _ _ few h _ (seen c)).elements; at = form_head _ _ c.args.scan _ _ _ few h _ (seen c) }
 
 -- what the key of its head tells
-told : {end : ℕ} {fs : List Frame} (c : tie.After-head-key) → let form = c.before.before.before in let n = near form in (few : end ≤ 65536)
-    (h : Found (start n).args.s.now n.nearest.last.1.0 (start n).args.scan.row n.nearest.result end fs)
-    → HeadKey c.head_key.result (form_here _ _ (start n).args.scan _ _ _ few h _ (seen form)).elements
+told : {end : ℕ} {fs : List Frame} (c : tie.After-head_key-key) → (few : end ≤ 65536)
+    (h : Found c.args.s.now c.nearest-around.new.table c.args.scan.row c.nearest-around.result end fs)
+    → HeadKey c.head_key-key.result (form_here _ _ c.args.scan _ _ _ few h _ (seen c.before)).elements
 told c few h =
-    let form = c.before.before.before in
-    let n = near form in
-    let known = n.before.before.before in
-    let head = form_head _ _ (start n).args.scan _ _ _ few h _ (seen form) in
-    key_told _ _ _ (all_bytes known.before.args.s.now (λ i. (known.shared-slice-known.given i).fits)) _ head _ (c.head_key.ensures _ head)
+    let head = form_head _ _ c.args.scan _ _ _ few h _ (seen c.before) in
+    key_told _ _ _ (all_bytes c.args.s.now (λ i. (c.shared_slice_known-1.given i).fits)) _ head _ (c.head_key-key.ensures _ head)
 
 star-requires : tie.Need-star-requires
 star-requires c κs =
-    let key = c.before.before in
-    let form = c.before.before.before.before.before in
-    let few = (start (near form)).requires.2.few in
-    let h = asked (near form) in
-    let f = form_here _ _ (start (near form)).args.scan _ _ _ few h _ (seen form) in (
-      (tail f.elements, headed_star _ _ (start (near form)).args.scan _ _ _ few h _ (seen form) _ (told key few h) c.before.if1.true),
-      (h.frame.around, enclosed _ _ (start (near form)).args.scan _ _ _ few h _ (seen form)),
+    let few = c.requires.2.few in
+    let h = asked c.before.before.before.before.before.before.before in
+    let f = form_here _ _ c.args.scan _ _ _ few h _ (seen c.before.before.before) in (
+      (tail f.elements, headed_star _ _ c.args.scan _ _ _ few h _ (seen c.before.before.before) _ (told c.before.before few h) c.if-key-eq-PREFIX_STAR.true),
+      (h.frame.around, enclosed _ _ c.args.scan _ _ _ few h _ (seen c.before.before.before)),
     )
 
-returns : tie.Need-returns
-returns c end fs k l =
-    let key = c.before.before.before.before.before in
-    let form = c.before.before.before.before.before.before.before.before in
-    let h = at (near form) end fs k l in
-    let f = form_here _ _ (start (near form)).args.scan _ _ _ k.few h _ (seen form) in
-    let head = told key k.few h in
-    let star = c.before.before.star.ensures in
-    let taken = c.before.before.before.before.if1.true in
-    then (near form) l (visit_star _ _ (start (near form)).args.scan _ _ _ k.few h _ (seen form) _ head star.0 taken
-    (star.1 (tail f.elements) h.frame.around (headed_star _ _ (start (near form)).args.scan _ _ _ k.few h _ (seen form) _ head taken) (enclosed _ _ (start (near form)).args.scan _ _ _ k.few h _ (seen form))))
+returns-then-key-eq-PREFIX_STAR : tie.Need-returns-then-key-eq-PREFIX_STAR
+returns-then-key-eq-PREFIX_STAR c end fs k l =
+    let h = at c.before.before.before.before.before.before.before.before.before.before end fs k l in
+    let f = form_here _ _ c.args.scan _ _ _ k.few h _ (seen c.before.before.before.before.before.before) in
+    let head = told c.before.before.before.before.before k.few h in
+    let star = c.star.ensures in
+    let taken = c.if-key-eq-PREFIX_STAR.true in
+    then c.before.before.before.before.before.before.before.before.before.before l (visit_star _ _ c.args.scan _ _ _ k.few h _ (seen c.before.before.before.before.before.before) _ head star.0 taken
+    (star.1 (tail f.elements) h.frame.around (headed_star _ _ c.args.scan _ _ _ k.few h _ (seen c.before.before.before.before.before.before) _ head taken) (enclosed _ _ c.args.scan _ _ _ k.few h _ (seen c.before.before.before.before.before.before))))
 
-returns-2 : tie.Need-returns-2
-returns-2 c end fs k l =
-    let form = c.before.before.before.before.before in
-    let h = at (near form) end fs k l in
-    let f = form_here _ _ (start (near form)).args.scan _ _ _ k.few h _ (seen form) in
-    then (near form) l (visit_other _ _ (start (near form)).args.scan _ _ _ k.few h _ (seen form) _ (told c.before.before k.few h) c.before.if1.false c.if2.true)
+returns-then-key-ne-PREFIX : tie.Need-returns-then-key-ne-PREFIX
+returns-then-key-ne-PREFIX c end fs k l =
+    let h = at c.before.before.before.before.before.before.before end fs k l in
+    let f = form_here _ _ c.args.scan _ _ _ k.few h _ (seen c.before.before.before) in
+    then c.before.before.before.before.before.before.before l (visit_other _ _ c.args.scan _ _ _ k.few h _ (seen c.before.before.before) _ (told c.before.before k.few h) c.if-key-eq-PREFIX_STAR.false c.if-key-ne-PREFIX.true)
 
-returns-3 : tie.Need-returns-3
-returns-3 c end fs k l =
-    let form = c.before.before.before.before.before.before in
-    let h = at (near form) end fs k l in
-    let f = form_here _ _ (start (near form)).args.scan _ _ _ k.few h _ (seen form) in
-    then (near form) l (visit_outside _ _ (start (near form)).args.scan _ _ _ k.few h _ (seen form) _ (told c.before.before.before k.few h) c.before.before.if1.false c.if3.true)
+returns-then-around-eq0 : tie.Need-returns-then-around-eq0
+returns-then-around-eq0 c end fs k l =
+    let h = at c.before.before.before.before.before.before.before.before end fs k l in
+    let f = form_here _ _ c.args.scan _ _ _ k.few h _ (seen c.before.before.before.before) in
+    then c.before.before.before.before.before.before.before.before l (visit_outside _ _ c.args.scan _ _ _ k.few h _ (seen c.before.before.before.before) _ (told c.before.before.before k.few h) c.if-key-eq-PREFIX_STAR.false c.if-around-eq0.true)
 
 nested-requires : tie.Need-nested-requires
 nested-requires c κs =
-    let key = c.before.before.before.before in
-    let form = c.before.before.before.before.before.before.before in
-    let few = (start (near form)).requires.2.few in
-    let h = asked (near form) in
-    let f = form_here _ _ (start (near form)).args.scan _ _ _ few h _ (seen form) in (
-      (tail f.elements, headed_nested _ _ (start (near form)).args.scan _ _ _ few h _ (seen form) _ (told key few h) c.before.before.if2.false),
-      (h.frame.around, enclosed _ _ (start (near form)).args.scan _ _ _ few h _ (seen form)),
+    let few = c.requires.2.few in
+    let h = asked c.before.before.before.before.before.before.before.before.before in
+    let f = form_here _ _ c.args.scan _ _ _ few h _ (seen c.before.before.before.before.before) in (
+      (tail f.elements, headed_nested _ _ c.args.scan _ _ _ few h _ (seen c.before.before.before.before.before) _ (told c.before.before.before.before few h) c.if-key-ne-PREFIX.false),
+      (h.frame.around, enclosed _ _ c.args.scan _ _ _ few h _ (seen c.before.before.before.before.before)),
     )
 
-returns-4 : tie.Need-returns-4
-returns-4 c end fs k l =
-    let n = c.before.before.before.before.before.before in
-    then n l (visit_atom _ _ (start n).args.scan _ _ _ k.few (at n end fs k l) (sym c.enum_told.given.1 ∙ c.before.before.element.ensures))
+returns-in-Leaf : tie.Need-returns-in-Leaf
+returns-in-Leaf c end fs k l =
+    then c.before.before.before.before l (visit_atom _ _ c.args.scan _ _ _ k.few (at c.before.before.before.before end fs k l) (sym c.in-Leaf.is ∙ c.element.ensures))
 
-returns-5 : tie.Need-returns-5
-returns-5 c end fs k l =
-    let key = c.before.before.before.before.before.before.before in
-    let form = c.before.before.before.before.before.before.before.before.before.before in
-    let h = at (near form) end fs k l in
-    let f = form_here _ _ (start (near form)).args.scan _ _ _ k.few h _ (seen form) in
-    let head = told key k.few h in
-    let nested = c.before.before.nested.ensures in
-    let is = c.before.before.before.before.before.if2.false in
-    then (near form) l (visit_nested _ _ (start (near form)).args.scan _ _ _ k.few h _ (seen form) _ head nested.0 c.before.before.before.before.before.before.if1.false is c.before.before.before.before.if3.false
-    (nested.1 (tail f.elements) h.frame.around (headed_nested _ _ (start (near form)).args.scan _ _ _ k.few h _ (seen form) _ head is) (enclosed _ _ (start (near form)).args.scan _ _ _ k.few h _ (seen form))))
+returns-else-around-eq0 : tie.Need-returns-else-around-eq0
+returns-else-around-eq0 c end fs k l =
+    let h = at c.before.before.before.before.before.before.before.before.before.before.before.before end fs k l in
+    let f = form_here _ _ c.args.scan _ _ _ k.few h _ (seen c.before.before.before.before.before.before.before.before) in
+    let head = told c.before.before.before.before.before.before.before k.few h in
+    let nested = c.nested.ensures in
+    let is = c.if-key-ne-PREFIX.false in
+    then c.before.before.before.before.before.before.before.before.before.before.before.before l (visit_nested _ _ c.args.scan _ _ _ k.few h _ (seen c.before.before.before.before.before.before.before.before) _ head nested.0 c.if-key-eq-PREFIX_STAR.false is c.if-around-eq0.false
+    (nested.1 (tail f.elements) h.frame.around (headed_nested _ _ c.args.scan _ _ _ k.few h _ (seen c.before.before.before.before.before.before.before.before) _ head is) (enclosed _ _ c.args.scan _ _ _ k.few h _ (seen c.before.before.before.before.before.before.before.before))))
 
 pub visit_spec : {M : Type 1} → statement M
 visit_spec =
     tie.close
     (tie.spec
-    (λ c κs. let k = c.before.before.before.requires.2 in (k.around, k.arounds))
+    (λ c κs. let k = c.requires.2 in (k.around, k.arounds))
     (λ c. search rules)
     element-requires
     (λ c. search rules)
     (λ c. search rules)
-    head-key-requires
+    head_key-key-requires
     star-requires
-    (λ c. c.before.before.star.ensures.0.changed.same_length ∙ (before (near c.before.before.before.before.before.before.before.before)).same_length)
-    returns
-    (λ c. (before (near c.before.before.before.before.before)).same_length)
-    returns-2
-    (λ c. (before (near c.before.before.before.before.before.before)).same_length)
-    returns-3
+    (λ c. c.star.ensures.0.changed.same_length ∙ (before c.before.before.before.before.before.before.before.before.before.before).same_length)
+    returns-then-key-eq-PREFIX_STAR
+    (λ c. (before c.before.before.before.before.before.before.before).same_length)
+    returns-then-key-ne-PREFIX
+    (λ c. (before c.before.before.before.before.before.before.before.before).same_length)
+    returns-then-around-eq0
     nested-requires
-    (λ c. (before c.before.before.before.before.before.before).same_length)
-    returns-4
-    (λ c. c.before.before.nested.ensures.0.changed.same_length ∙ (before (near c.before.before.before.before.before.before.before.before.before.before)).same_length)
-    returns-5)
+    (λ c. (before c.before.before.before.before).same_length)
+    returns-in-Leaf
+    (λ c. c.nested.ensures.0.changed.same_length ∙ (before c.before.before.before.before.before.before.before.before.before.before.before.before).same_length)
+    returns-else-around-eq0)

@@ -4,4 +4,4 @@ use Rattle.evaluator.proofs.element.done.Statement.{statement}
 use Rattle.evaluator.proofs.element.done.Tie as tie
 
 pub done_spec : {M : Type 1} → statement M
-done_spec = tie.close (tie.spec (λ c. search rules) (λ c. search rules) (λ c. rw c.before.out.given.1) (λ c. rw c.before.out2.given.1))
+done_spec = tie.close (tie.spec (λ c. search rules) (λ c. search rules) (λ c. rw c.in-Done.is) (λ c. rw c.in-Refused.is))

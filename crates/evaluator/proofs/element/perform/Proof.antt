@@ -10,88 +10,88 @@ use Rattle.evaluator.proofs.element.perform.Tie as tie
 
 own-requires : tie.Need-own-requires
 own-requires c κs =
-    let k = c.before.before.before.before.before.before.requires in
-    let p = planned_by (rw c.before.enum-told2.given.1 at k.performs) (λ n q. impossible (cc)) in
+    let k = c.requires in
+    let p = planned_by (rw c.in-Own.is at k.performs) (λ n q. impossible (cc)) in
     let d = done_by p.1 in
     (rw k.is (fits_stepped p.1), (d.0, d.1))
 
 copied-requires : tie.Need-copied-requires
 copied-requires c κs =
-    let k = c.before.before.before.before.before.before.before.requires in
-    let p = planned_by (rw c.before.before.task3.given.1 at k.performs) (λ n q. impossible (cc)) in
+    let k = c.requires in
+    let p = planned_by (rw c.in-Again.is at k.performs) (λ n q. impossible (cc)) in
     let d = done_by p.1 in
     (rw k.is (fits_stepped p.1), (d.1.order, d.1.inside, omega arith))
 
-associate-requires : tie.Need-associate-requires
-associate-requires c κs =
-    let k = c.before.before.before.before.before.before.before.requires in
-    let d = done_by (planned_by (rw c.before.before.task4.given.1 at k.performs) (λ n q. impossible (cc))).1 in
+associate-more-requires : tie.Need-associate-more-requires
+associate-more-requires c κs =
+    let k = c.requires in
+    let d = done_by (planned_by (rw c.in-Ns.is at k.performs) (λ n q. impossible (cc))).1 in
     omega (arith, simp latest_length at d.5)
 
 itself-requires : tie.Need-itself-requires
 itself-requires c κs =
-    let k = c.before.before.before.before.before.before.before.before.before.requires in
-    let p = planned_by (rw c.before.before.before.before.task4.given.1 at k.performs) (λ n q. impossible (cc)) in
+    let k = c.requires in
+    let p = planned_by (rw c.in-Ns.is at k.performs) (λ n q. impossible (cc)) in
     let d = done_by p.1 in
     (rw k.is (fits_stepped p.1), record { nodes = d.0; at = d.2; atoms = d.3 })
 
-cast-add : tie.Need-overflow-cast-add
-cast-add c =
-    let k = c.before.before.before.before.before.before.before.requires in
-    let d = done_by (planned_by (rw c.before.before.task5.given.1 at k.performs) (λ n q. impossible (cc))).1 in
+overflow_cast-code : tie.Need-overflow_cast-code
+overflow_cast-code c =
+    let k = c.requires in
+    let d = done_by (planned_by (rw c.in-Function.is at k.performs) (λ n q. impossible (cc))).1 in
     omega (arith, d.0)
 
 add-requires : tie.Need-add-requires
 add-requires c κs =
-    let k = c.before.before.before.before.before.before.before.requires in
-    let d = done_by (planned_by (rw c.before.before.task5.given.1 at k.performs) (λ n q. impossible (cc))).1 in
+    let k = c.requires in
+    let d = done_by (planned_by (rw c.in-Function.is at k.performs) (λ n q. impossible (cc))).1 in
     omega (arith, simp latest_length at d.3)
 
 -- a list inside, first
-returns : tie.Need-returns
-returns c = (λ bound st left run e h is p. rw is (inside_begun run (planned_by (rw c.before.task.given.1 at p) (λ n q. impossible (cc))).1), refl)
+returns-in-Inside : tie.Need-returns-in-Inside
+returns-in-Inside c = (λ bound st left run e h is p. rw is (inside_begun run (planned_by (rw c.in-Inside.is at p) (λ n q. impossible (cc))).1), refl)
 
 -- an atom
-returns-4 : tie.Need-returns-4
-returns-4 c =
-    let own = c.before.before.before.own in
-    let told = c.before.before.before.before.before.enum-told2.given.1 in (
+returns-in-Own : tie.Need-returns-in-Own
+returns-in-Own c =
+    let own = c.own in
+    let told = c.in-Own.is in (
       λ bound st left run e h is p.
           let q = planned_by (rw told at p) (λ n q. impossible (cc)) in
           let d = done_by q.1 in
-          rw c.done.ensures (leave_begun run _ _ own.new.1.1.0 own.result q.1 d.2 (rw is at (own.ensures d.0 d.1))),
+          rw c.done.ensures (leave_begun run _ _ own.new.w own.result q.1 d.2 (rw is at (own.ensures d.0 d.1))),
       refl,
     )
 
 -- values that stand already
-returns-5 : tie.Need-returns-5
-returns-5 c =
-    let copied = c.before.before.before.copied in
-    let told = c.before.before.before.before.before.before.task3.given.1 in (
+returns-in-Again : tie.Need-returns-in-Again
+returns-in-Again c =
+    let copied = c.copied in
+    let told = c.in-Again.is in (
       λ bound st left run e h is p.
           let q = planned_by (rw told at p) (λ n q. impossible (cc)) in
           let d = done_by q.1 in
-          rw c.done2.ensures (leave_begun run _ _ copied.new.0 copied.result q.1 d.2 (rw is at (copied.ensures _ d.1 (q.1.shallow _ d.2)))),
+          rw c.done-in-Again.ensures (leave_begun run _ _ copied.new.w copied.result q.1 d.2 (rw is at (copied.ensures _ d.1 (q.1.shallow _ d.2)))),
       refl,
     )
 
 -- an association
-returns-6 : tie.Need-returns-6
-returns-6 c =
-    let itself = c.before.before.before.itself in
-    let more = c.before.before.before.before.before.associate.ensures in
-    let task = c.before.before.before.before.before.before.before.before.task4.given.1 in (
+returns-in-Ns : tie.Need-returns-in-Ns
+returns-in-Ns c =
+    let itself = c.itself in
+    let more = c.associate-more.ensures in
+    let task = c.in-Ns.is in (
       λ bound st left run e h is p.
-          rw (c.done3.ensures, more.0, more.1)
-          (associate_begun run _ _ itself.new.1.1.0 itself.result more.2 (planned_by (rw task at p) (λ n q. impossible (cc))).1 (rw is at itself.ensures)),
+          rw (c.done-in-Ns.ensures, more.0, more.1)
+          (associate_begun run _ _ itself.new.w itself.result more.2 (planned_by (rw task at p) (λ n q. impossible (cc))).1 (rw is at itself.ensures)),
       rw more.0 (view_before_associated _ _ _ _),
     )
 
 -- a function defined
-returns-7 : tie.Need-returns-7
-returns-7 c =
+returns-in-Function : tie.Need-returns-in-Function
+returns-in-Function c =
     let more = c.add.ensures in
-    let task = c.before.before.before.task5.given.1 in (
+    let task = c.in-Function.is in (
       λ bound st left run e h is p. rw (more.0, more.1, is) (function_begun run _ _ more.2 (planned_by (rw task at p) (λ n q. impossible (cc))).1),
       rw more.0 (view_before_added _ _ _ _),
     )
@@ -110,21 +110,21 @@ perform_spec =
     copied-requires
     (λ c κs. search rules)
     (λ c. search rules)
-    associate-requires
+    associate-more-requires
     itself-requires
     (λ c κs. search rules)
     (λ c. search rules)
-    cast-add
+    overflow_cast-code
     add-requires
-    returns
+    returns-in-Inside
     -- a refusal
-    (λ c. (λ bound st left run e h is p. refused_by run (rw c.before.task2.given.1 at p), refl))
+    (λ c. (λ bound st left run e h is p. refused_by run (rw c.in-Refuse.is at p), refl))
     -- nothing is unfolded
-    (λ c. (λ bound st left run e h is p. absurd (never_unfolds (rw c.enum_told.given.1 at p)), refl))
+    (λ c. (λ bound st left run e h is p. absurd (never_unfolds (rw c.in-Unfold.is at p)), refl))
     (λ c. search rules)
-    returns-4
+    returns-in-Own
     (λ c. search rules)
-    returns-5
+    returns-in-Again
     (λ c. search rules)
-    returns-6
-    returns-7)
+    returns-in-Ns
+    returns-in-Function)

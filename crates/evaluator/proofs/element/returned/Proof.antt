@@ -5,15 +5,13 @@ use native.Mathlib.Omega.{arith}
 use Rattle.evaluator.proofs.element.returned.Statement.{statement}
 use Rattle.evaluator.proofs.element.returned.Tie as tie
 
+returns-then-is_single : tie.Need-returns-then-is_single
+returns-then-is_single c vs es r at =
+    rw (sym (c.is_single.ensures es at) ∙ c.if-is_single.true) (c.copied.ensures vs r.stand r.sound.1)
+
 returns : tie.Need-returns
 returns c vs es r at =
-    let test = c.before.before.before.before in
-    rw (sym (test.before.is-single.ensures es at) ∙ test.if1.true) (c.before.before.copied.ensures vs r.stand r.sound.1)
-
-returns-2 : tie.Need-returns-2
-returns-2 c vs es r at =
-    let test = c.before.before.before.before in
-    rw (sym (test.before.is-single.ensures es at) ∙ test.if1.false) (c.before.before.wrapped.ensures vs r.stand r.sound.0)
+    rw (sym (c.is_single.ensures es at) ∙ c.if-is_single.false) (c.wrapped.ensures vs r.stand r.sound.0)
 
 pub returned_spec : {M : Type 1} → statement M
 returned_spec =
@@ -21,10 +19,10 @@ returned_spec =
     (tie.spec
     (λ c κs. search rules)
     -- `copied` asks
-    (λ c κs. let r = c.before.before.before.before.before.before.requires.1.1 in (r.fitting, (r.stand.order, r.stand.inside, omega arith)))
+    (λ c κs. let r = c.requires.1.1 in (r.fitting, (r.stand.order, r.stand.inside, omega arith)))
     (λ c. search rules)
-    returns
+    returns-then-is_single
     -- `wrapped` asks
-    (λ c κs. let r = c.before.before.before.before.before.before.requires.1 in ((r.1.fitting, r.1.order), (r.0, r.1.stand, r.1.sound.0)))
+    (λ c κs. let r = c.requires.1 in ((r.1.fitting, r.1.order), (r.0, r.1.stand, r.1.sound.0)))
     (λ c. search rules)
-    returns-2)
+    returns)

@@ -9,30 +9,30 @@ use Rattle.evaluator.proofs.Begins.{decided_short, decided_result}
 use Rattle.evaluator.proofs.element.unfolded.Statement.{statement}
 use Rattle.evaluator.proofs.element.unfolded.Tie as tie
 
-row-of-requires : tie.Need-row-of-requires
-row-of-requires c κs =
-    let k = c.before.before.before.before.requires.1 in
-    (_, k.rows, k.unfolds.rows_at, omega (arith, c.before.count.ensures k.rows k.unfolds.rows_at, c.if1.true))
+row_of-requires : tie.Need-row_of-requires
+row_of-requires c κs =
+    let k = c.requires.1 in
+    (_, k.rows, k.unfolds.rows_at, omega (arith, c.count-n.ensures k.rows k.unfolds.rows_at, c.if-steps-n.true))
 
 -- too few steps
-returns : tie.Need-returns
-returns c associations args bound w st node place es rows e h is some u b =
-    let count = c.before.before.count.ensures rows u.rows_at in
+returns-then-steps-n : tie.Need-returns-then-steps-n
+returns-then-steps-n c associations args bound w st node place es rows e h is some u b =
+    let count = c.count-n.ensures rows u.rows_at in
     let steps = ap (λ (x : State). x.steps) is in
-    decided_short some u b (omega (arith, count, c.before.if1.true, steps)) (rw is at (c.row_of.ensures _ rows u.rows_at (omega (arith, count, c.before.if1.true))))
+    decided_short some u b (omega (arith, count, c.if-steps-n.true, steps)) (rw is at (c.row_of.ensures _ rows u.rows_at (omega (arith, count, c.if-steps-n.true))))
 
 result-requires : tie.Need-result-requires
 result-requires c κs =
-    let some = c.before.before.before.before.before.requires in
+    let some = c.requires in
     let k = some.1 in
     ((some.0, k.args, k.place, record { work = k.work; state = k.state; here = k.here; setting = k.begins.setting }), (k.unfolds.is_flat, (k.place, k.result, k.unfolds.result)))
 
-returns-2 : tie.Need-returns-2
-returns-2 c associations args bound w st node place es rows e h is some u b =
-    let count = c.before.before.before.count.ensures rows u.rows_at in
+returns : tie.Need-returns
+returns c associations args bound w st node place es rows e h is some u b =
+    let count = c.count-n.ensures rows u.rows_at in
     let steps = ap (λ (x : State). x.steps) is in
-    let enough : length rows ≤ st.steps - 1 = omega (arith, count, c.before.before.if1.false, steps) in
-    rw (c.before.less.ensures, count, is) (decided_result some u b enough (c.result.ensures associations args place e u.result))
+    let enough : length rows ≤ st.steps - 1 = omega (arith, count, c.if-steps-n.false, steps) in
+    rw (c.less.ensures, count, is) (decided_result some u b enough (c.result.ensures associations args place e u.result))
 
 pub unfolded_spec : {M : Type 1} → statement M
-unfolded_spec = tie.close (tie.spec (λ c κs. search rules) row-of-requires returns (λ c κs. search rules) result-requires returns-2)
+unfolded_spec = tie.close (tie.spec (λ c κs. search rules) row_of-requires returns-then-steps-n (λ c κs. search rules) result-requires returns)

@@ -9,24 +9,24 @@ use Rattle.rows.proofs.Same.{same_long, same_next, same_differs, same_done}
 use Rattle.rows.proofs.compare.same_bytes.Statement.{statement}
 use Rattle.rows.proofs.compare.same_bytes.Tie as tie
 
-abbrev invariant-loop : tie.invariant-loop
-invariant-loop a b i₀ i = same (drop i a) (drop i b) ≡ same a b
+abbrev invariant-loop-i : tie.invariant-loop-i
+invariant-loop-i a b i₀ i = same (drop i a) (drop i b) ≡ same a b
 
-abbrev decreases-loop : tie.decreases-loop
-decreases-loop a b i₀ i = length a - i
+abbrev decreases-loop-i : tie.decreases-loop-i
+decreases-loop-i a b i₀ i = length a - i
 
 pub same_bytes_spec : {M : Type 1} → statement M
 same_bytes_spec =
     tie.close
     (tie.spec
-    invariant-loop
-    decreases-loop
-    (λ c. same_long _ _ c.if1.true)
+    invariant-loop-i
+    decreases-loop-i
+    (λ c. same_long _ _ c.if-a-b.true)
     (λ c. refl)
     (λ c. search rules)
     (λ c. search rules)
-    (λ c. let l = c.before.before.before.before in same_differs _ _ l.loop.i (omega arith) (omega arith) c.if2.true ∙ l.loop.invariant)
+    (λ c. same_differs _ _ c.loop-i.i (omega arith) (omega arith) c.if-a-i.true ∙ c.loop-i.invariant)
     (λ c. search rules)
     (λ c. search rules)
-    (λ c. let l = c.before.before.before.before in same_next _ _ l.loop.i (omega arith) (omega arith) c.if2.false ∙ l.loop.invariant)
-    (λ c. let l = c.before in same_done _ _ l.loop.i l.before.if1.false c.loop-test.false ∙ l.loop.invariant))
+    (λ c. same_next _ _ c.loop-i.i (omega arith) (omega arith) c.if-a-i.false ∙ c.loop-i.invariant)
+    (λ c. same_done _ _ c.loop-i.i c.if-a-b.false c.loop-i-test.false ∙ c.loop-i.invariant))

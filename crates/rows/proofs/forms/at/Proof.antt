@@ -10,5 +10,5 @@ at_spec =
     (tie.spec
     (λ c κs. search rules)
     (λ c κs. search rules)
-    (λ c. rw (eq-eqb _ 1 (rw c.before.before.kind.ensures at c.before.if1.true), c.written.ensures))
-    (λ c. rw (ne_eqb _ 1 (λ e. c.if1.false (rw c.before.kind.ensures e)))))
+    (λ c. rw (eq-eqb _ 1 (rw c.kind.ensures at c.if-kind-eq-FORM.true), c.written.ensures))
+    (λ c. rw (ne_eqb _ 1 (λ e. c.if-kind-eq-FORM.false (rw c.kind.ensures e)))))

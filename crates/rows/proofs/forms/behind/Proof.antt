@@ -10,6 +10,6 @@ behind_spec =
     (tie.spec
     (λ c κs. search rules)
     (λ c κs. search rules)
-    (λ c. rw (sym c.before.before.is_made.ensures ∙ c.before.if1.true) c.link.ensures)
+    (λ c. rw (sym c.is_made.ensures ∙ c.if-is_made.true) c.link.ensures)
     (λ c κs. search rules)
-    (λ c. rw (sym c.before.before.is_made.ensures ∙ c.before.if1.false) c.next.ensures))
+    (λ c. rw (sym c.is_made.ensures ∙ c.if-is_made.false) c.next.ensures))

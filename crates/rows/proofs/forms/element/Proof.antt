@@ -9,8 +9,8 @@ use Rattle.rows.proofs.forms.element.Statement.{statement}
 use Rattle.rows.proofs.forms.element.Tie as tie
 
 -- no form is written there
-unwritten : (c : tie.Else1) → let a = c.before.before.before.args in eqb (kind a.table.now a.row) 1 ≡ false
-unwritten c = ne_eqb _ 1 (λ e. c.if1.false (rw c.before.kind.ensures e))
+unwritten : (c : tie.Else-kind-eq-FORM) → let a = c.args in eqb (kind a.table.now a.row) 1 ≡ false
+unwritten c = ne_eqb _ 1 (λ e. c.if-kind-eq-FORM.false (rw c.kind.ensures e))
 
 pub element_spec : {M : Type 1} → statement M
 element_spec =
@@ -18,8 +18,8 @@ element_spec =
     (tie.spec
     (λ c κs. search rules)
     (λ c κs. search rules)
-    (λ c. rw (eq-eqb _ 1 (rw c.before.before.kind.ensures at c.before.if1.true), c.written.ensures))
+    (λ c. rw (eq-eqb _ 1 (rw c.kind.ensures at c.if-kind-eq-FORM.true), c.written.ensures))
     (λ c κs. search rules)
     (λ c κs. search rules)
-    (λ c. let made = c.before.before in rw (unwritten made.before, sym made.is_made.ensures ∙ c.before.if2.true, c.link.ensures))
-    (λ c. rw (unwritten c.before.before, sym c.before.is_made.ensures ∙ c.if2.false)))
+    (λ c. rw (unwritten c.before.before.before, sym c.is_made.ensures ∙ c.if-is_made.true, c.link.ensures))
+    (λ c. rw (unwritten c.before.before, sym c.is_made.ensures ∙ c.if-is_made.false)))

@@ -11,34 +11,32 @@ use Rattle.rules.proofs.Borne.{Ahead, ahead_next, ahead_none, ahead_all}
 use Rattle.rules.proofs.namespaces.borne.Statement.{statement}
 use Rattle.rules.proofs.namespaces.borne.Tie as tie
 
-abbrev invariant-loop : tie.invariant-loop
-invariant-loop s table row marker r₀ r =
+abbrev invariant-loop-r : tie.invariant-loop-r
+invariant-loop-r s table row marker r₀ r =
     (es : Nodes) → NodesAt s table false 0 row es → Ahead marker s table r row false (some (eqb marker) (markers_all es))
 
-abbrev decreases-loop : tie.decreases-loop
-decreases-loop s table row marker r₀ r = row - r
+abbrev decreases-loop-r : tie.decreases-loop-r
+decreases-loop-r s table row marker r₀ r = row - r
 
-returns : tie.Need-returns invariant-loop decreases-loop
-returns c es n =
-    let b = c.before in
-    let found = rw c.if1.true at (ahead_next (b.before.before.loop.invariant es n) b.before.loop-test.true b.bears.ensures) in
+returns-then-bears : tie.Need-returns-then-bears invariant-loop-r decreases-loop-r
+returns-then-bears c es n =
+    let found = rw c.if-bears.true at (ahead_next (c.loop-r.invariant es n) c.loop-r-test.true c.bears.ensures) in
     found.tells
 
-loop-again : tie.Need-loop-preserved invariant-loop decreases-loop
-loop-again c es n =
-    let b = c.before in
-    rw c.if1.false at (ahead_next (b.before.before.loop.invariant es n) b.before.loop-test.true b.bears.ensures)
+loop-r-preserved : tie.Need-loop-r-preserved invariant-loop-r decreases-loop-r
+loop-r-preserved c es n =
+    rw c.if-bears.false at (ahead_next (c.loop-r.invariant es n) c.loop-r-test.true c.bears.ensures)
 
 pub borne_spec : {M : Type 1} → statement M
 borne_spec =
     tie.close
     (tie.spec
-    invariant-loop
-    decreases-loop
+    invariant-loop-r
+    decreases-loop-r
     (λ c. ahead_all)
-    (λ c κs. (_, (written_more _ _ _ _ _ (c.before.loop.invariant _ c.before.before.before.before.requires.1).stand c.loop-test.true).node))
-    returns
+    (λ c κs. (_, (written_more _ _ _ _ _ (c.loop-r.invariant _ c.requires.1).stand c.loop-r-test.true).node))
+    returns-then-bears
     (λ c. search rules)
     (λ c. search rules)
-    loop-again
-    (λ c es n. ahead_none (c.before.loop.invariant es n) c.loop-test.false))
+    loop-r-preserved
+    (λ c es n. ahead_none (c.loop-r.invariant es n) c.loop-r-test.false))

@@ -5,11 +5,11 @@ use Rattle.spec.specs.Nodes.{core}
 use Rattle.rules.proofs.namespaces.undefinable.Statement.{statement}
 use Rattle.rules.proofs.namespaces.undefinable.Tie as tie
 
-returns : tie.Need-returns
-returns c s ks l = rw (eq-eqb _ core c.if1.true)
+returns-then-marker-eq-MARKER : tie.Need-returns-then-marker-eq-MARKER
+returns-then-marker-eq-MARKER c s ks l = rw (eq-eqb _ core c.if-marker-eq-MARKER.true)
 
-returns-2 : tie.Need-returns-2
-returns-2 c s ks l = rw (ne_eqb _ core c.before.if1.false, c.has-marker.ensures s ks l)
+returns : tie.Need-returns
+returns c s ks l = rw (ne_eqb _ core c.if-marker-eq-MARKER.false, c.has_marker.ensures s ks l)
 
 pub undefinable_spec : {M : Type 1} → statement M
-undefinable_spec = tie.close (tie.spec returns (λ c κs. search rules) returns-2)
+undefinable_spec = tie.close (tie.spec returns-then-marker-eq-MARKER (λ c κs. search rules) returns)

@@ -12,48 +12,43 @@ use Rattle.rules.proofs.Linking.{identifies, linked_inside, some_identified}
 use Rattle.rules.proofs.namespaces.used.Statement.{statement}
 use Rattle.rules.proofs.namespaces.used.Tie as tie
 
-abbrev invariant-loop : tie.invariant-loop
-invariant-loop s associations from to i₀ i = Searching (some (identifies s (slice from to s))) associations i₀ i
+abbrev invariant-loop-i : tie.invariant-loop-i
+invariant-loop-i s associations from to i₀ i = Searching (some (identifies s (slice from to s))) associations i₀ i
 
-abbrev decreases-loop : tie.decreases-loop
-decreases-loop s associations from to i₀ i = i
+abbrev decreases-loop-i : tie.decreases-loop-i
+decreases-loop-i s associations from to i₀ i = i
 
 -- the latest id that is left is inside the stream
-ends : (c : tie.After-size-in invariant-loop decreases-loop)
-    → c.before.place_in.result + c.size_in.result ≤ length c.before.before.before.before.before.before.args.s.now
+ends : (c : tie.After-size_in invariant-loop-i decreases-loop-i)
+    → c.place_in-place.result + c.size_in.result ≤ length c.args.s.now
 ends c =
-    let l = c.before.before.before.before in
-    let count = l.before.before.args.scope.associated in
-    let inside = linked_inside _ _ (count - l.loop.i) (l.loop.i - 1) count _ l.before.before.requires.0.linked (omega arith) in
-    rw (c.before.place_in.ensures, c.size_in.ensures) inside
+    let count = c.args.scope.associated in
+    let inside = linked_inside _ _ (count - c.loop-i.i) (c.loop-i.i - 1) count _ c.requires.0.linked (omega arith) in
+    rw (c.place_in-place.ensures, c.size_in.ensures) inside
 
 -- what the comparison tells of it
-told : (c : tie.After-same-bytes invariant-loop decreases-loop) → let l = c.before.before.before.before.before.before.before in
-    let a = l.before.before.args in
-    identifies a.s.now (slice a.from a.to a.s.now) (get_or a.associations.now (l.loop.i - 1) 0) ≡ c.same_bytes.result
+told : (c : tie.After-same_bytes invariant-loop-i decreases-loop-i) → let a = c.args in
+    identifies a.s.now (slice a.from a.to a.s.now) (get_or a.associations.now (c.loop-i.i - 1) 0) ≡ c.same_bytes.result
 told c =
-    let k = c.before.before.before in
-    rw (← k.before.place_in.ensures, ← k.size_in.ensures) (simp slice_take (sym c.same_bytes.ensures))
+    rw (← c.place_in-place.ensures, ← c.size_in.ensures) (simp slice_take (sym c.same_bytes.ensures))
 
-returns : tie.Need-returns invariant-loop decreases-loop
+returns-then-same_bytes : tie.Need-returns-then-same_bytes invariant-loop-i decreases-loop-i
 unfolding some
-returns c ks n =
-    let l = c.before.before.before.before.before.before.before in
-    rw (told c.before ∙ c.if1.true) at (searched _ l.before.loop.invariant (omega (arith, l.loop-test.true))) ∙ some_identified _ _ _ ks n
+returns-then-same_bytes c ks n =
+    rw (told c.before ∙ c.if-same_bytes.true) at (searched _ c.loop-i.invariant (omega (arith, c.loop-i-test.true))) ∙ some_identified _ _ _ ks n
 
-loop-again : tie.Need-loop-preserved invariant-loop decreases-loop
+loop-i-preserved : tie.Need-loop-i-preserved invariant-loop-i decreases-loop-i
 unfolding some
-loop-again c =
-    let l = c.before.before.before.before.before.before.before in
-    record { fewer = search rules; tells = rw (told c.before ∙ c.if1.false) at (searched _ l.before.loop.invariant (omega (arith, l.loop-test.true))) }
+loop-i-preserved c =
+    record { fewer = search rules; tells = rw (told c.before ∙ c.if-same_bytes.false) at (searched _ c.loop-i.invariant (omega (arith, c.loop-i-test.true))) }
 
 pub used_spec : {M : Type 1} → statement M
 unfolding some
 used_spec =
     tie.close
     (tie.spec
-    invariant-loop
-    decreases-loop
+    invariant-loop-i
+    decreases-loop-i
     (λ c. search rules)
     (λ c. search rules)
     (λ c. search rules)
@@ -68,7 +63,7 @@ used_spec =
     (λ c. search rules)
     (λ c. search rules)
     (λ c κs. search rules)
-    returns
+    returns-then-same_bytes
     (λ c. search rules)
-    loop-again
-    (λ c ks n. searched_all c.before.loop.invariant c.loop-test.false ∙ some_identified _ _ _ ks n))
+    loop-i-preserved
+    (λ c ks n. searched_all c.loop-i.invariant c.loop-i-test.false ∙ some_identified _ _ _ ks n))

@@ -8,11 +8,11 @@ use Rattle.rules.proofs.plan.code_at.Tie as tie
 
 rest-requires : tie.Need-rest-requires
 rest-requires c κs =
-    let code = c.before.before.requires in
+    let code = c.requires in
     rw c.written.ensures (node_whole _ _ _ _ _ (nodes_first _ _ _ _ _ _ _ code.2.elements).1).0
 
 returns : tie.Need-returns
-returns c s es code = rw (c.rest.ensures, c.before.written.ensures) (refl, (nodes_first s _ false _ _ _ es code.elements).2)
+returns c s es code = rw (c.rest.ensures, c.written.ensures) (refl, (nodes_first s _ false _ _ _ es code.elements).2)
 
 pub code_at_spec : {M : Type 1} → statement M
 code_at_spec = tie.close (tie.spec (λ c κs. search rules) rest-requires returns)

@@ -22,109 +22,95 @@ use Rattle.rules.proofs.plan.definition.Statement.{statement}
 use Rattle.rules.proofs.plan.definition.Tie as tie
 
 -- a head, a reference and a value
-module _ (c : tie.Else2) where
-  abbrev start : tie.Start
-  start = c.before.before.before.before.before.before.before
-
+module _ (c : tie.Else-kind-ne-REFERENCE) where
   abbrev s : List ℕ
-  s = start.args.s.now
+  s = c.args.s.now
 
   abbrev t : List ℕ
-  t = start.args.table.now
+  t = c.args.table.now
 
   abbrev p : Parts
-  p = c.before.before.before.before.parts.result
+  p = c.parts-p.result
 
-  right : (es : Nodes) → NodesAt s t false start.args.form.first start.args.form.end es → DefineAt s t start.args.form.end p es
+  right : (es : Nodes) → NodesAt s t false c.args.form.first c.args.form.end es → DefineAt s t c.args.form.end p es
   right es at =
-      define_at _ _ _ _ es p at (c.before.before.before.before.parts.ensures _ es at) c.before.before.if1.false (sym c.before.kind.ensures ∙ c.if2.false)
+      define_at _ _ _ _ es p at (c.parts-p.ensures _ es at) c.if-p-ne3.false (sym c.kind.ensures ∙ c.if-kind-ne-REFERENCE.false)
 
-  some_right : DefineAt s t start.args.form.end p start.pre.2.0
-  some_right = right _ start.pre.2.1
+  some_right : DefineAt s t c.args.form.end p c.requires.2.0
+  some_right = right _ c.requires.2.1
 
   bytes : Bytes s
-  bytes = all_bytes s (λ i. (c.before.before.before.before.before.before.shared-slice-known.given i).fits)
+  bytes = all_bytes s (λ i. (c.shared_slice_known-1.given i).fits)
 
-returns-3 : tie.Need-returns-3
-returns-3 c definitions args r q es at w st h set =
-    let o = c.before.before.before in
-    rw (define_refused _ _ _ _ es _ at (o.before.before.before.before.parts.ensures _ es at) h
-    (λ n k v l f. let z = sym c.if3.true ∙ sym (headed c.before.before.word_at.result rest v c.before.is-rest.ensures (c.before.before.word_at.ensures v l)) ∙ f in impossible (cc))) (refuses 11)
+returns-then-is_rest : tie.Need-returns-then-is_rest
+returns-then-is_rest c definitions args r q es at w st h set =
+    rw (define_refused _ _ _ _ es _ at (c.parts-p.ensures _ es at) h
+    (λ n k v l f. let z = sym c.if-is_rest.true ∙ sym (headed c.word_at-word.result rest v c.is_rest.ensures (c.word_at-word.ensures v l)) ∙ f in impossible (cc))) (refuses 11)
 
 -- the value is no `rest` form, and the reference has the key
 module _ (c : tie.After-undefinable) where
-  abbrev o : tie.Else2
-  o = c.before.before.before.before.before
-
   abbrev DefineForm : Nodes → Type 0
-  DefineForm es = DefineAt (s o) (t o) (start o).args.form.end (p o) es
+  DefineForm es = DefineAt (s c.before.before.before.before.before.before) (t c.before.before.before.before.before.before) c.args.form.end (p c.before.before.before.before.before.before) es
 
   no_rest : {es : Nodes} (g : DefineForm es) → headed_by rest g.value ≡ false
   no_rest g =
-      let k = c.before.before.before in
-      headed k.before.word_at.result rest g.value k.is-rest.ensures (k.before.word_at.ensures g.value g.there) ∙ c.before.before.if3.false
+      headed c.word_at-word.result rest g.value c.is_rest.ensures (c.word_at-word.ensures g.value g.there) ∙ c.if-is_rest.false
 
-  key_is : {es : Nodes} (g : DefineForm es) → c.before.key.result ≡ key_of g.marker g.name
-  key_is g = c.before.key.ensures g.marker g.name g.reference
+  key_is : {es : Nodes} (g : DefineForm es) → c.key-key.result ≡ key_of g.marker g.name
+  key_is g = c.key-key.ensures g.marker g.name g.reference
 
-returns-4 : tie.Need-returns-4
-returns-4 c definitions args r q es at =
-    let k = c.before in
-    let g = right (o k) es at in
-    define_answers (start (o k)).args.form (start (o k)).pre.1 g (bytes (o k)) _ (key_is k g) (no_rest k g) _ definitions _ r q true _ _ (λ ks l. sym (k.undefinable.ensures _ ks l) ∙ c.if4.true) refl refl
+returns-then-undefinable : tie.Need-returns-then-undefinable
+returns-then-undefinable c definitions args r q es at =
+    let g = right c.before.before.before.before.before.before.before es at in
+    define_answers c.args.form c.requires.1 g (bytes c.before.before.before.before.before.before.before) _ (key_is c.before g) (no_rest c.before g) _ definitions _ r q true _ _ (λ ks l. sym (c.undefinable.ensures _ ks l) ∙ c.if-undefinable.true) refl refl
 
-returns-5 : tie.Need-returns-5
-returns-5 c definitions args r q es at =
-    let k = c.before.before.before in
-    let g = right (o k) es at in
-    define_answers (start (o k)).args.form (start (o k)).pre.1 g (bytes (o k)) _ (key_is k g) (no_rest k g) _ definitions _ r q false true _ (λ ks l. sym (k.undefinable.ensures _ ks l) ∙ c.before.before.if4.false)
-    (le-leb 256 _ c.if5.true) refl
+returns-then-here-ge256 : tie.Need-returns-then-here-ge256
+returns-then-here-ge256 c definitions args r q es at =
+    let g = right c.before.before.before.before.before.before.before.before.before es at in
+    define_answers c.args.form c.requires.1 g (bytes c.before.before.before.before.before.before.before.before.before) _ (key_is c.before.before.before g) (no_rest c.before.before.before g) _ definitions _ r q false true _ (λ ks l. sym (c.undefinable.ensures _ ks l) ∙ c.if-undefinable.false)
+    (le-leb 256 _ c.if-here-ge256.true) refl
 
 -- whether it is code
-is_code : (c : tie.After-is-subst) → let k = c.before.before.before.before in
-    (e : Node) → NodeAt (s (o k)) (t (o k)) false (p (o k)).third e → headed_by subst e ≡ c.is-subst.result
-is_code c e at = let k = c.before.before.before.before.before.before.before.before in headed k.word_at.result subst e c.is-subst.ensures (k.word_at.ensures e at)
+is_code : (c : tie.After-is_subst) → (e : Node) → NodeAt (s c.before.before.before.before.before.before.before.before.before.before) (t c.before.before.before.before.before.before.before.before.before.before) false (p c.before.before.before.before.before.before.before.before.before.before).third e → headed_by subst e ≡ c.is_subst.result
+is_code c e at = headed c.word_at-word.result subst e c.is_subst.ensures (c.word_at-word.ensures e at)
 
-returns-6 : tie.Need-returns-6
-returns-6 c definitions args r q es at =
-    let k = c.before.before.before.before.before in
-    let g = right (o k) es at in
-    let code = is_code c.before g.value g.there ∙ c.if6.true in
-    define_answers (start (o k)).args.form (start (o k)).pre.1 g (bytes (o k)) _ (key_is k g) (no_rest k g) _ definitions _ r q false false true (λ ks l. sym (k.undefinable.ensures _ ks l) ∙ c.before.before.before.before.if4.false)
-    (lt-leb 256 _ c.before.before.if5.false) code
+returns-then-is_subst : tie.Need-returns-then-is_subst
+returns-then-is_subst c definitions args r q es at =
+    let g = right c.before.before.before.before.before.before.before.before.before.before.before es at in
+    let code = is_code c.before g.value g.there ∙ c.if-is_subst.true in
+    define_answers c.args.form c.requires.1 g (bytes c.before.before.before.before.before.before.before.before.before.before.before) _ (key_is c.before.before.before.before.before g) (no_rest c.before.before.before.before.before g) _ definitions _ r q false false true (λ ks l. sym (c.undefinable.ensures _ ks l) ∙ c.if-undefinable.false)
+    (lt-leb 256 _ c.if-here-ge256.false) code
 
-returns-7 : tie.Need-returns-7
-returns-7 c definitions args r q es at =
-    let k = c.before.before.before.before.before.before.before in
-    let g = right (o k) es at in
-    let code = is_code c.before.before.before g.value g.there ∙ c.before.before.if6.false in
-    rw (c.make.ensures, c.before.starting_at.ensures)
-    (define_answers (start (o k)).args.form (start (o k)).pre.1 g (bytes (o k)) _ (key_is k g) (no_rest k g) _ definitions _ r q false false false (λ ks l. sym (k.undefinable.ensures _ ks l) ∙ c.before.before.before.before.before.before.if4.false)
-    (lt-leb 256 _ c.before.before.before.before.if5.false) code)
+returns : tie.Need-returns
+returns c definitions args r q es at =
+    let g = right c.before.before.before.before.before.before.before.before.before.before.before.before.before es at in
+    let code = is_code c.before.before.before g.value g.there ∙ c.if-is_subst.false in
+    rw (c.make.ensures, c.starting_at.ensures)
+    (define_answers c.args.form c.requires.1 g (bytes c.before.before.before.before.before.before.before.before.before.before.before.before.before) _ (key_is c.before.before.before.before.before.before.before g) (no_rest c.before.before.before.before.before.before.before g) _ definitions _ r q false false false (λ ks l. sym (c.undefinable.ensures _ ks l) ∙ c.if-undefinable.false)
+    (lt-leb 256 _ c.if-here-ge256.false) code)
 
 pub definition_spec : {M : Type 1} → statement M
 definition_spec =
     tie.close
     (tie.spec
-    (λ c κs. let pre = c.before.before.requires in (_, pre.2.0, pre.2.1))
-    (λ c definitions args r q es at w st h set. rw (define_refused _ _ _ _ es _ at (c.before.before.parts.ensures _ es at) h (λ n k v l f. c.if1.true n)) (refuses 11))
-    (λ c κs. let at = c.before.before.before.before.before.requires.2.1 in
-    (node_whole _ _ _ _ _ (two_at _ _ _ _ _ _ at (c.before.before.parts.ensures _ _ at) c.if1.false).one).0)
+    (λ c κs. let pre = c.requires in (_, pre.2.0, pre.2.1))
+    (λ c definitions args r q es at w st h set. rw (define_refused _ _ _ _ es _ at (c.parts-p.ensures _ es at) h (λ n k v l f. c.if-p-ne3.true n)) (refuses 11))
+    (λ c κs. let at = c.requires.2.1 in
+    (node_whole _ _ _ _ _ (two_at _ _ _ _ _ _ at (c.parts-p.ensures _ _ at) c.if-p-ne3.false).one).0)
     (λ c definitions args r q es at w st h set.
-    rw (define_refused _ _ _ _ es _ at (c.before.before.before.before.parts.ensures _ es at) h (λ n k v l f. c.if2.true (c.before.kind.ensures ∙ k))) (refuses 11))
+    rw (define_refused _ _ _ _ es _ at (c.parts-p.ensures _ es at) h (λ n k v l f. c.if-kind-ne-REFERENCE.true (c.kind.ensures ∙ k))) (refuses 11))
     (λ c κs. (_, (some_right c).there))
     (λ c κs. search rules)
-    returns-3
+    returns-then-is_rest
     (λ c κs. let g = some_right c.before.before.before in (g.marker, g.name, g.reference))
-    (λ c κs. (start c.before.before.before.before).pre.0)
-    returns-4
-    returns-5
+    (λ c κs. c.requires.0)
+    returns-then-undefinable
+    returns-then-here-ge256
     (λ c κs. search rules)
-    (λ c. let k = c.before.before.before.before.before in
-    let g = some_right (o k) in
-    let f = leaf_fits (bytes (o k)) g.reference in
-    omega (arith, key_is k g, key_small g.marker g.name f.1 f.2))
-    returns-6
+    (λ c. let g = some_right c.before.before.before.before.before.before.before.before.before.before.before in
+    let f = leaf_fits (bytes c.before.before.before.before.before.before.before.before.before.before.before) g.reference in
+    omega (arith, key_is c.before.before.before.before.before g, key_small g.marker g.name f.1 f.2))
+    returns-then-is_subst
     (λ c κs. search rules)
     (λ c κs. search rules)
-    returns-7)
+    returns)

@@ -9,4 +9,4 @@ use Rattle.rules.proofs.plan.is_subst.Tie as tie
 
 pub is_subst_spec : {M : Type 1} → statement M
 is_subst_spec =
-    tie.close (tie.spec (λ c. search rules) (λ c. rw c.enum_told.given.1) (λ c. sym (other_word c.before.args.word subst (0 ∷ 1 ∷ 2 ∷ 4 ∷ 5 ∷ 6 ∷ []) c.match.keys2 tt)))
+    tie.close (tie.spec (λ c. search rules) (λ c. rw c.in-Subst.is) (λ c. sym (other_word c.args.word subst (0 ∷ 1 ∷ 2 ∷ 4 ∷ 5 ∷ 6 ∷ []) c.in_default.in_default-own.keys2 tt)))

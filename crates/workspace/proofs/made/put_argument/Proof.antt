@@ -8,10 +8,10 @@ use Rattle.workspace.specs.Packed.{pack}
 use Rattle.workspace.proofs.made.put_argument.Statement.{statement}
 use Rattle.workspace.proofs.made.put_argument.Tie as tie
 
-returns-2 : tie.Need-returns-2
-returns-2 c =
-    let a = c.before.before.args in
+returns-else-n-lt64 : tie.Need-returns-else-n-lt64
+returns-else-n-lt64 c =
+    let a = c.args in
     sym (set_out a.args.now a.n (pack a.from a.to) (omega arith))
 
 pub put_argument_spec : {M : Type 1} → statement M
-put_argument_spec = tie.close (tie.spec (λ c κs. search rules) (λ c. search rules) (λ c. search rules) (λ c. search rules) (λ c. rw c.pack.ensures) returns-2)
+put_argument_spec = tie.close (tie.spec (λ c κs. search rules) (λ c. search rules) (λ c. search rules) (λ c. search rules) (λ c. rw c.pack.ensures) returns-else-n-lt64)

@@ -16,26 +16,23 @@ use Rattle.workspace.proofs.made.wrapped.Tie as tie
 
 shallow-requires : tie.Need-shallow-requires
 shallow-requires c κs =
-    let v = c.before.before.before.requires.1 in
+    let v = c.requires.1 in
     let part = stand_part v.1 in
     (omega (arith, ap length part ∙ stand_size v.1, v.1.inside), (v.0, part, v.2))
 
 -- no deeper than they may be
-sized : (c : tie.Else1) → let a = c.before.before.before.before.before.args in (vs : Exprs) → Stand a.w.now a.from a.state.top vs
+sized : (c : tie.Else-not-shallow) → let a = c.args in (vs : Exprs) → Stand a.w.now a.from a.state.top vs
     → FitsAll vs → Sized (only (form vs)) (a.state.top - a.from + 2)
 sized c vs there fits =
-    form_sized vs _ (omega (arith, stand_size there)) (leb-true (deepest vs) 63 (sym (c.before.shallow.ensures vs (stand_part there) fits) ∙ not-false _ c.if1.false))
+    form_sized vs _ (omega (arith, stand_size there)) (leb-true (deepest vs) 63 (sym (c.shallow.ensures vs (stand_part there) fits) ∙ c.if-not-shallow.false))
 
-returns-3 : tie.Need-returns-3
-returns-3 c vs there fits =
-    let m = c.before.before.before in
-    let k = m.before.before.before.before in
-    let start = k.before.before.before.before.before in
-    let p = start.requires.0 in
-    let put = rw there.bytes at m.move-bytes.ensures in
+returns : tie.Need-returns
+returns c vs there fits =
+    let p = c.requires.0 in
+    let put = rw there.bytes at c.move_bytes.ensures in
     rw c.charged.ensures
-    (written (sized k vs there fits) p.0 (omega (arith, there.order)) (omega arith)
-    (form_written vs _ (omega (arith, stand_size there)) _ start.args.start (omega (arith, there.order, p.0.paid, p.0.below)) put))
+    (written (sized c.before.before.before.before.before.before.before vs there fits) p.0 (omega (arith, there.order)) (omega arith)
+    (form_written vs _ (omega (arith, stand_size there)) _ c.args.start (omega (arith, there.order, p.0.paid, p.0.below)) put))
 
 pub wrapped_spec : {M : Type 1} → statement M
 wrapped_spec =
@@ -46,18 +43,18 @@ wrapped_spec =
     (λ c. search rules)
     shallow-requires
     (λ c. search rules)
-    (λ c vs there fits. form_deep vs (leb-false (deepest vs) 63 (sym (c.before.shallow.ensures vs (stand_part there) fits) ∙ not-true _ c.if1.true)))
+    (λ c vs there fits. form_deep vs (leb-false (deepest vs) 63 (sym (c.shallow.ensures vs (stand_part there) fits) ∙ c.if-not-shallow.true)))
     (λ c. search rules)
     (λ c. search rules)
     (λ c. search rules)
-    (λ c vs there fits. unpaid (sized c.before.before vs there fits) c.if2.true)
-    (λ c. search rules)
-    (λ c κs. search rules)
-    (λ c. search rules)
-    (λ c. search rules)
-    (λ c. search rules)
-    (λ c. simp length-set (omega (arith, c.before.before.move-bytes.auto.0)))
+    (λ c vs there fits. unpaid (sized c.before.before vs there fits) c.if-state-n.true)
     (λ c. search rules)
     (λ c κs. search rules)
     (λ c. search rules)
-    returns-3)
+    (λ c. search rules)
+    (λ c. search rules)
+    (λ c. simp length-set (omega (arith, c.move_bytes.auto.w)))
+    (λ c. search rules)
+    (λ c κs. search rules)
+    (λ c. search rules)
+    returns)

@@ -8,30 +8,30 @@ use Rattle.workspace.proofs.Areas.{moved, moved_none, moved_first}
 use Rattle.workspace.proofs.moves.move_down.Statement.{statement}
 use Rattle.workspace.proofs.moves.move_down.Tie as tie
 
-abbrev invariant-loop : tie.invariant-loop
-invariant-loop w₀ from to at p₀ q₀ w p q = (q ≤ p) × (p ≤ to) × (length w ≡ length w₀) × (moved w p to q ≡ moved w₀ from to at)
+abbrev invariant-loop-p : tie.invariant-loop-p
+invariant-loop-p w₀ from to at p₀ q₀ w p q = (q ≤ p) × (p ≤ to) × (length w ≡ length w₀) × (moved w p to q ≡ moved w₀ from to at)
 
-abbrev decreases-loop : tie.decreases-loop
-decreases-loop w₀ from to at p₀ q₀ w p q = to - p
+abbrev decreases-loop-p : tie.decreases-loop-p
+decreases-loop-p w₀ from to at p₀ q₀ w p q = to - p
 
-loop-again : tie.Need-loop-preserved invariant-loop decreases-loop
-loop-again c =
-    let l = c.before.before.loop in
-    let next = moved_first l.w l.p c.before.before.before.args.to l.q (omega arith) (omega arith) (omega arith) in
+loop-p-preserved : tie.Need-loop-p-preserved invariant-loop-p decreases-loop-p
+loop-p-preserved c =
+    let l = c.loop-p in
+    let next = moved_first l.w l.p c.args.to l.q (omega arith) (omega arith) (omega arith) in
     (omega arith, omega arith, simp length-set l.invariant.2, next ∙ l.invariant.3)
 
 pub move_down_spec : {M : Type 1} → statement M
 move_down_spec =
     tie.close
     (tie.spec
-    invariant-loop
-    decreases-loop
+    invariant-loop-p
+    decreases-loop-p
     (λ c. (omega arith, omega arith, refl, refl))
     (λ c. search rules)
     (λ c. search rules)
     (λ c. search rules)
     (λ c. search rules)
     (λ c. search rules)
-    loop-again
+    loop-p-preserved
     (λ c. search rules)
-    (λ c. let l = c.before.loop in moved_none l.w l.p c.before.before.args.to l.q (omega arith) ∙ l.invariant.3))
+    (λ c. let l = c.loop-p in moved_none l.w l.p c.args.to l.q (omega arith) ∙ l.invariant.3))

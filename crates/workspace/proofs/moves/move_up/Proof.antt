@@ -8,32 +8,32 @@ use Rattle.workspace.proofs.Areas.{moved, moved_none, moved_last}
 use Rattle.workspace.proofs.moves.move_up.Statement.{statement}
 use Rattle.workspace.proofs.moves.move_up.Tie as tie
 
-abbrev invariant-loop : tie.invariant-loop
-invariant-loop w₀ from to at p₀ q₀ w p q = (from ≤ p) × (p ≤ to) × (q + from ≡ at + p) × (length w ≡ length w₀) × (moved w from p at ≡ moved w₀ from to at)
+abbrev invariant-loop-p : tie.invariant-loop-p
+invariant-loop-p w₀ from to at p₀ q₀ w p q = (from ≤ p) × (p ≤ to) × (q + from ≡ at + p) × (length w ≡ length w₀) × (moved w from p at ≡ moved w₀ from to at)
 
-abbrev decreases-loop : tie.decreases-loop
-decreases-loop w₀ from to at p₀ q₀ w p q = p
+abbrev decreases-loop-p : tie.decreases-loop-p
+decreases-loop-p w₀ from to at p₀ q₀ w p q = p
 
-loop-again : tie.Need-loop-preserved invariant-loop decreases-loop
-loop-again c =
-    let l = c.before.before.loop in
-    let a = c.before.before.before.args in
+loop-p-preserved : tie.Need-loop-p-preserved invariant-loop-p decreases-loop-p
+loop-p-preserved c =
+    let l = c.loop-p in
+    let a = c.args in
     let next = moved_last l.w a.from (l.p - 1) a.at (l.q - 1) (omega arith) (omega arith) (omega arith) (omega arith) in
     let last : l.p - 1 + 1 ≡ l.p = omega arith in
     (omega arith, omega arith, omega arith, simp length-set l.invariant.3, next ∙ rw last l.invariant.4)
 
-returns : tie.Need-returns invariant-loop decreases-loop
+returns : tie.Need-returns invariant-loop-p decreases-loop-p
 returns c =
-    let l = c.before.loop in
-    let a = c.before.before.args in
+    let l = c.loop-p in
+    let a = c.args in
     moved_none l.w a.from l.p a.at (omega arith) ∙ l.invariant.4
 
 pub move_up_spec : {M : Type 1} → statement M
 move_up_spec =
     tie.close
     (tie.spec
-    invariant-loop
-    decreases-loop
+    invariant-loop-p
+    decreases-loop-p
     (λ c. search rules)
     (λ c. search rules)
     (λ c. (omega arith, omega arith, omega arith, refl, refl))
@@ -42,6 +42,6 @@ move_up_spec =
     (λ c. search rules)
     (λ c. search rules)
     (λ c. search rules)
-    loop-again
+    loop-p-preserved
     (λ c. search rules)
     returns)

@@ -8,26 +8,22 @@ use Rattle.workspace.proofs.values.put_leaf.Statement.{statement}
 use Rattle.workspace.proofs.values.put_leaf.Tie as tie
 
 -- the atom that is known to stand there
-own : (c : tie.After-body-at) → let k = c.before.before.before.before in BodyOf k.args.s.now k.requires.1.0 c.body_at.result
-own c = c.body_at.ensures _ c.before.before.before.before.requires.1.1
+own : (c : tie.After-body_at-body) → BodyOf c.args.s.now c.requires.1.0 c.body_at-body.result
+own c = c.body_at-body.ensures _ c.requires.1.1
 
-put-atom-requires : tie.Need-put-atom-requires
-put-atom-requires c κs =
-    let n = c.before.before.before in
-    let size = n.atom-size.ensures ∙ sym (body_size (own n.before)) in
-    rw (own n.before).is (omega arith, omega arith)
+put_atom-requires : tie.Need-put_atom-requires
+put_atom-requires c κs =
+    let size = c.atom_size-n.ensures ∙ sym (body_size (own c.before.before.before.before)) in
+    rw (own c.before.before.before.before).is (omega arith, omega arith)
 
-returns : tie.Need-returns
-returns c a leaf =
-    let p = c.before.before in
-    let n = p.before.before.before.before in
-    let of = n.before.body_at.ensures a leaf in
-    (n.atom-size.ensures ∙ sym (body_size of), λ h. rw of.is at p.put-atom.ensures.is)
+returns-then-n-room : tie.Need-returns-then-n-room
+returns-then-n-room c a leaf =
+    let of = c.body_at-body.ensures a leaf in
+    (c.atom_size-n.ensures ∙ sym (body_size of), λ h. rw of.is at c.put_atom.ensures.is)
 
-returns-2 : tie.Need-returns-2
-returns-2 c a leaf =
-    let n = c.before in
-    (n.atom-size.ensures ∙ sym (body_size (n.before.body_at.ensures a leaf)), λ h. absurd (omega arith))
+returns-else-n-room : tie.Need-returns-else-n-room
+returns-else-n-room c a leaf =
+    (c.atom_size-n.ensures ∙ sym (body_size (c.body_at-body.ensures a leaf)), λ h. absurd (omega arith))
 
 pub put_leaf_spec : {M : Type 1} → statement M
 put_leaf_spec =
@@ -39,7 +35,7 @@ put_leaf_spec =
     (λ c. omega (arith, (own c.before.before).order))
     (λ c. omega (arith, (own c.before.before).order))
     (λ c. omega (arith, (own c.before.before).inside))
-    put-atom-requires
+    put_atom-requires
     (λ c. search rules)
-    returns
-    returns-2)
+    returns-then-n-room
+    returns-else-n-room)

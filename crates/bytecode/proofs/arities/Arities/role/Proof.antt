@@ -18,42 +18,38 @@ use Rattle.bytecode.proofs.arities.Arities.role.Statement.{statement}
 use Rattle.bytecode.proofs.arities.Arities.role.Tie as tie
 
 -- the expression is a reference
-reference : (c : tie.Else1) → let a = c.before.before.before.before.args in (e : Node) → WrittenAt a.s.now a.table.now a.row e
+reference : (c : tie.Else-kind-ne-REFERENCE) → let a = c.args in (e : Node) → WrittenAt a.s.now a.table.now a.row e
     → ReferenceNode a.s.now a.table.now a.row e
-reference c e w = written_reference _ _ _ e w (sym c.before.kind.ensures ∙ c.if1.false)
+reference c e w = written_reference _ _ _ e w (sym c.kind.ensures ∙ c.if-kind-ne-REFERENCE.false)
 
 -- its role by its key
-role_of_it : (c : tie.After-key) → let a = c.before.before.before.before.before.args in
+role_of_it : (c : tie.After-key) → let a = c.args in
     (os : List Operator) (e : Node) → WrittenAt a.s.now a.table.now a.row e → role_of os c.key.result ≡ if_operator os e (λ n. As n) Operand
 role_of_it c os e w =
-    let known = c.before.before.before.before in
     let x = reference c.before e w in
-    rw x.is (reference_role _ _ _ os (all_bytes known.before.args.s.now (λ i. (known.shared-slice-known.given i).fits)) x.here (c.key.ensures x.marker x.name x.here))
+    rw x.is (reference_role _ _ _ os (all_bytes c.args.s.now (λ i. (c.shared_slice_known-1.given i).fits)) x.here (c.key.ensures x.marker x.name x.here))
 
-found : (c : tie.After-known-told) → let key = c.before.before.before.before in let a = key.before.before.before.before.before.args in
-    Sought a.s.now a.table.now a.self.tree key.key.result (Taken c.before.named.given.0.0)
-found c = rw c.before.named.given.1 at c.before.before.before.seek.ensures
+found : (c : tie.In-Taken) → let a = c.args in
+    Sought a.s.now a.table.now a.self.tree c.key.result (Taken c.in-Taken.named)
+found c = rw c.in-Taken.is at c.seek.ensures
 
 pub role_spec : {M : Type 1} → statement M
 role_spec =
     tie.close
     (tie.spec
-    (λ c κs. (written_whole _ _ _ _ c.before.before.requires.1.1).0)
-    (λ c os e l w. written_operand _ _ _ os e _ _ w (λ z. c.if1.true (c.before.kind.ensures ∙ z)))
-    (λ c κs. let x = reference c _ c.before.before.before.before.requires.1.1 in (x.marker, x.name, x.here))
-    (λ c κs. let l = c.before.before.before.before.before.requires.0.1 in (l.to, l.node, l.tree))
+    (λ c κs. (written_whole _ _ _ _ c.requires.1.1).0)
+    (λ c os e l w. written_operand _ _ _ os e _ _ w (λ z. c.if-kind-ne-REFERENCE.true (c.kind.ensures ∙ z)))
+    (λ c κs. let x = reference c _ c.requires.1.1 in (x.marker, x.name, x.here))
+    (λ c κs. let l = c.requires.0.1 in (l.to, l.node, l.tree))
     (λ c. search rules)
     (λ c κs. (sought_taken (found c)).reference.leaf_at.row.inside)
     (λ c κs. search rules)
     (λ c. search rules)
     (λ c os e l w.
-    let told = c.before.before in
-    let key = told.before.before.before.before in
-    let row = told.before.named.given.0.0 in
-    let t = key.before.before.before.before.before.args.table.now in
-    c.role_by.ensures ∙ ap role_by c.before.mark.ensures ∙ sym (role_some t row (sought_some (found told)))
-    ∙ ap (role_at t) (sym (sought_found l.tree (found told))) ∙ sym (l.roles key.key.result) ∙ role_of_it key os e w)
+    let row = c.in-Taken.named in
+    let t = c.args.table.now in
+    c.role_by.ensures ∙ ap role_by c.mark.ensures ∙ sym (role_some t row (sought_some (found c.before.before)))
+    ∙ ap (role_at t) (sym (sought_found l.tree (found c.before.before))) ∙ sym (l.roles c.key.result) ∙ role_of_it c.before.before.before.before os e w)
     (λ c os e l w.
-    let key = c.before.before.before in
-    let t = key.before.before.before.before.before.args.table.now in
-    ap (role_at t) (sym (sought_found l.tree (rw c.enum_told.given.1 at c.before.before.seek.ensures))) ∙ sym (l.roles key.key.result) ∙ role_of_it key os e w))
+    let t = c.args.table.now in
+    ap (role_at t) (sym (sought_found l.tree (rw c.in-Vacant.is at c.seek.ensures))) ∙ sym (l.roles c.key.result) ∙ role_of_it c.before.before os e w))

@@ -6,20 +6,19 @@ use Rattle.rows.proofs.forms.Form.head_key.Tie as tie
 
 key-requires : tie.Need-key-requires
 key-requires c κs =
-    let pre = c.before.before.before.before.requires in
-    let l = head_led _ _ _ pre.nodes pre.at (sym c.if1.true ∙ c.before.is_named.ensures ∙ head_named _ _ _ pre.nodes pre.at) in
+    let pre = c.requires in
+    let l = head_led _ _ _ pre.nodes pre.at (sym c.if-is_named.true ∙ c.is_named.ensures ∙ head_named _ _ _ pre.nodes pre.at) in
     (l.marker, l.name, l.here)
 
-returns : tie.Need-returns
-returns c es h =
-    let named = c.before.before in
-    let l = head_led _ _ _ es h (sym c.before.if1.true ∙ named.is_named.ensures ∙ head_named _ _ _ es h) in
+returns-then-is_named : tie.Need-returns-then-is_named
+returns-then-is_named c es h =
+    let l = head_led _ _ _ es h (sym c.if-is_named.true ∙ c.is_named.ensures ∙ head_named _ _ _ es h) in
     led_key l c.key.result c.key.ensures
 
-returns-2 : tie.Need-returns-2
-returns-2 c es h = unled_key es (sym c.if1.false ∙ c.before.is_named.ensures ∙ head_named _ _ _ es h)
+returns : tie.Need-returns
+returns c es h = unled_key es (sym c.if-is_named.false ∙ c.is_named.ensures ∙ head_named _ _ _ es h)
 
 pub head_key_spec : {M : Type 1} → statement M
 head_key_spec =
     tie.close
-    (tie.spec (λ c κs. let pre = c.before.before.requires in head_inside _ _ _ pre.nodes pre.at) key-requires returns returns-2)
+    (tie.spec (λ c κs. let pre = c.requires in head_inside _ _ _ pre.nodes pre.at) key-requires returns-then-is_named returns)

@@ -9,13 +9,12 @@ use Rattle.rows.proofs.forms.Form.is_named.Statement.{statement}
 use Rattle.rows.proofs.forms.Form.is_named.Tie as tie
 
 -- there is a head
-some_head : (c : tie.Else1) → let f = c.before.before.before.args.self in f.first < f.end
-some_head c = before_end c.before.is-empty.ensures c.if1.false
+some_head : (c : tie.Else-is_empty) → let f = c.args.self in f.first < f.end
+some_head c = before_end c.is_empty.ensures c.if-is_empty.false
 
-returns-3 : tie.Need-returns-3
-returns-3 c =
-    let kind = c.before.before in
-    rw (lt-ltb _ _ (some_head kind.before), eq-eqb _ 4 (rw kind.kind.ensures at c.before.if2.false))
+returns : tie.Need-returns
+returns c =
+    rw (lt-ltb _ _ (some_head c.before.before.before), eq-eqb _ 4 (rw c.kind.ensures at c.if-kind-ne-REFERENCE.false))
     (ap not c.is_made.ensures ∙ sym (and-true _))
 
 pub is_named_spec : {M : Type 1} → statement M
@@ -23,9 +22,9 @@ is_named_spec =
     tie.close
     (tie.spec
     (λ c κs. search rules)
-    (λ c. rw (le-ltb _ _ (at_end c.before.is-empty.ensures c.if1.true)))
-    (λ c κs. (c.before.before.before.requires (some_head c)).0)
-    (λ c. let a = c.before.before.before.before.before.args in
-    sym (unnamed_kind a.table.now a.self (λ e. c.if2.true (rw c.before.kind.ensures e))))
-    (λ c κs. (c.before.before.before.before.before.requires (some_head c.before.before)).0)
-    returns-3)
+    (λ c. rw (le-ltb _ _ (at_end c.is_empty.ensures c.if-is_empty.true)))
+    (λ c κs. (c.requires (some_head c)).0)
+    (λ c. let a = c.args in
+    sym (unnamed_kind a.table.now a.self (λ e. c.if-kind-ne-REFERENCE.true (rw c.kind.ensures e))))
+    (λ c κs. (c.requires (some_head c.before.before)).0)
+    returns)

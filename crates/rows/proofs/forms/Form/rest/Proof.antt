@@ -4,4 +4,4 @@ use Rattle.rows.proofs.forms.Form.rest.Statement.{statement}
 use Rattle.rows.proofs.forms.Form.rest.Tie as tie
 
 pub rest_spec : {M : Type 1} → statement M
-rest_spec = tie.close (tie.spec (λ c κs. search rules) (λ c κs. search rules) (λ c. rw (c.starting_at.ensures, c.before.behind.ensures)))
+rest_spec = tie.close (tie.spec (λ c κs. search rules) (λ c κs. search rules) (λ c. rw (c.starting_at.ensures, c.behind.ensures)))

@@ -9,9 +9,8 @@ use Rattle.rows.proofs.forms.Form.word.Tie as tie
 
 returns : tie.Need-returns
 returns c es h =
-    let known = c.before.before.before in
-    let stream = all_bytes known.before.args.s.now (λ i. (known.shared-slice-known.given i).fits) in
-    c.word.ensures ∙ ap word_of (c.before.head_key.ensures es h) ∙ head_worded _ _ _ stream es h
+    let stream = all_bytes c.args.s.now (λ i. (c.shared_slice_known-1.given i).fits) in
+    c.word.ensures ∙ ap word_of (c.head_key.ensures es h) ∙ head_worded _ _ _ stream es h
 
 pub word_spec : {M : Type 1} → statement M
-word_spec = tie.close (tie.spec (λ c κs. c.before.before.requires) (λ c κs. search rules) returns)
+word_spec = tie.close (tie.spec (λ c κs. c.requires) (λ c κs. search rules) returns)

@@ -5,4 +5,4 @@ use Rattle.rows.proofs.forms.Node.behind.Tie as tie
 
 pub behind_spec : {M : Type 1} → statement M
 behind_spec =
-    tie.close (tie.spec (λ c. search rules) (λ c. search rules) (λ c. search rules) (λ c. rw c.enum_told.given.1) (λ c. rw c.before.self.given.1))
+    tie.close (tie.spec (λ c. search rules) (λ c. search rules) (λ c. search rules) (λ c. rw c.in-Leaf.is) (λ c. rw c.in-Branch.is))

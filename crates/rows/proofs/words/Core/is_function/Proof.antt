@@ -8,8 +8,8 @@ use Rattle.rows.proofs.Keys.{other_word}
 use Rattle.rows.proofs.words.Core.is_function.Statement.{statement}
 use Rattle.rows.proofs.words.Core.is_function.Tie as tie
 
-returns-2 : tie.Need-returns-2
-returns-2 c = rw (sym c.before.word.ensures) (sym (ap not (other_word c.before.word.result plain (0 ∷ 1 ∷ 2 ∷ 3 ∷ 4 ∷ 5 ∷ []) c.match.keys2 tt)))
+returns-in_default : tie.Need-returns-in_default
+returns-in_default c = rw (sym c.word.ensures) (sym (ap not (other_word c.word.result plain (0 ∷ 1 ∷ 2 ∷ 3 ∷ 4 ∷ 5 ∷ []) c.in_default.in_default-own.keys2 tt)))
 
 pub is_function_spec : {M : Type 1} → statement M
-is_function_spec = tie.close (tie.spec (λ c κs. search rules) (λ c. search rules) (λ c. rw (sym c.before.before.word.ensures, c.enum_told.given.1)) returns-2)
+is_function_spec = tie.close (tie.spec (λ c κs. search rules) (λ c. search rules) (λ c. rw (sym c.word.ensures, c.in-Plain.is)) returns-in_default)

@@ -6,21 +6,19 @@ use Rattle.rows.proofs.Keys.{key_other, key_upto}
 use Rattle.rows.proofs.words.Core.is_reserved.Statement.{statement}
 use Rattle.rows.proofs.words.Core.is_reserved.Tie as tie
 
-returns-2 : tie.Need-returns-2
-returns-2 c =
-    let function = c.before.before in
-    rw (sym function.is-function.ensures ∙ c.before.if1.false) (sym (key_other function.before.args.key (λ l h. omega arith)))
+returns-then-key-lt-PREFIX : tie.Need-returns-then-key-lt-PREFIX
+returns-then-key-lt-PREFIX c =
+    rw (sym c.is_function.ensures ∙ c.if-is_function.false) (sym (key_other c.args.key (λ l h. omega arith)))
 
-returns-3 : tie.Need-returns-3
-returns-3 c =
-    let function = c.before.before in
-    rw (sym function.is-function.ensures ∙ c.before.if1.false) (key_upto function.before.args.key (omega arith))
+returns : tie.Need-returns
+returns c =
+    rw (sym c.is_function.ensures ∙ c.if-is_function.false) (key_upto c.args.key (omega arith))
 
 pub is_reserved_spec : {M : Type 1} → statement M
 is_reserved_spec =
     tie.close
     (tie.spec
     (λ c κs. search rules)
-    (λ c. rw (sym c.before.is-function.ensures ∙ c.if1.true))
-    returns-2
-    returns-3)
+    (λ c. rw (sym c.is_function.ensures ∙ c.if-is_function.true))
+    returns-then-key-lt-PREFIX
+    returns)

@@ -9,10 +9,10 @@ pub word_spec : {M : Type 1} → statement M
 word_spec =
     tie.close
     (tie.spec
-    (λ c. unfold among word in sym (ap word_of c.match.keys1))
-    (λ c. unfold among word in sym (ap word_of c.match.keys2))
-    (λ c. unfold among word in sym (ap word_of c.match.keys3))
-    (λ c. unfold among word in sym (ap word_of c.match.keys4))
-    (λ c. unfold among word in sym (ap word_of c.match.keys5))
-    (λ c. unfold among word in sym (ap word_of c.match.keys6))
-    (λ c. no_name _ c.match.rest))
+    (λ c. unfold among word in sym (ap word_of c.in-8198.is))
+    (λ c. unfold among word in sym (ap word_of c.in-8201.is))
+    (λ c. unfold among word in sym (ap word_of c.in-8202.is))
+    (λ c. unfold among word in sym (ap word_of c.in-8203.is))
+    (λ c. unfold among word in sym (ap word_of c.in-8204.is))
+    (λ c. unfold among word in sym (ap word_of c.in-8205.is))
+    (λ c. no_name _ c.in_default.in_default-own.rest))

@@ -5,7 +5,7 @@ use Rattle.rules.proofs.scope.Scope.add.Statement.{statement}
 use Rattle.rules.proofs.scope.Scope.add.Tie as tie
 
 returns : tie.Need-returns
-returns c = (rw (← c.before.definition.ensures) c.put.ensures, refl, search rules)
+returns c = (rw (← c.definition.ensures) c.put.ensures, refl, search rules)
 
 pub add_spec : {M : Type 1} → statement M
 add_spec = tie.close (tie.spec (λ c κs. search rules) (λ c κs. search rules) (λ c. search rules) returns)

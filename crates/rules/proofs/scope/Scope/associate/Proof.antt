@@ -5,7 +5,7 @@ use Rattle.rules.proofs.scope.Scope.associate.Statement.{statement}
 use Rattle.rules.proofs.scope.Scope.associate.Tie as tie
 
 returns : tie.Need-returns
-returns c = (rw (← c.before.association.ensures) c.put.ensures, refl, search rules)
+returns c = (rw (← c.association.ensures) c.put.ensures, refl, search rules)
 
 pub associate_spec : {M : Type 1} → statement M
 associate_spec = tie.close (tie.spec (λ c κs. search rules) (λ c κs. search rules) (λ c. search rules) returns)

@@ -8,39 +8,37 @@ use Rattle.rules.proofs.Linking.{marks, some_marked}
 use Rattle.rules.proofs.scope.Scope.has_marker.Statement.{statement}
 use Rattle.rules.proofs.scope.Scope.has_marker.Tie as tie
 
-abbrev invariant-loop : tie.invariant-loop
-invariant-loop associations marker i₀ i = Searching (some (marks marker)) associations i₀ i
+abbrev invariant-loop-i : tie.invariant-loop-i
+invariant-loop-i associations marker i₀ i = Searching (some (marks marker)) associations i₀ i
 
-abbrev decreases-loop : tie.decreases-loop
-decreases-loop associations marker i₀ i = i
+abbrev decreases-loop-i : tie.decreases-loop-i
+decreases-loop-i associations marker i₀ i = i
 
-returns : tie.Need-returns invariant-loop decreases-loop
+returns-then-marker_in-marker : tie.Need-returns-then-marker_in-marker invariant-loop-i decreases-loop-i
 unfolding some
-returns c s ks n =
-    let l = c.before.before.before in
-    let same = eq-eqb _ _ (sym c.before.marker_in.ensures ∙ c.if1.true) in
-    rw same at (searched _ l.before.loop.invariant l.loop-test.true) ∙ some_marked s _ _ ks n
+returns-then-marker_in-marker c s ks n =
+    let same = eq-eqb _ _ (sym c.marker_in.ensures ∙ c.if-marker_in-marker.true) in
+    rw same at (searched _ c.loop-i.invariant c.loop-i-test.true) ∙ some_marked s _ _ ks n
 
-loop-again : tie.Need-loop-preserved invariant-loop decreases-loop
+loop-i-preserved : tie.Need-loop-i-preserved invariant-loop-i decreases-loop-i
 unfolding some
-loop-again c =
-    let l = c.before.before.before in
-    let other = ne_eqb _ _ (λ q. c.if1.false (c.before.marker_in.ensures ∙ q)) in
-    record { fewer = search rules; tells = rw other at (searched _ l.before.loop.invariant l.loop-test.true) }
+loop-i-preserved c =
+    let other = ne_eqb _ _ (λ q. c.if-marker_in-marker.false (c.marker_in.ensures ∙ q)) in
+    record { fewer = search rules; tells = rw other at (searched _ c.loop-i.invariant c.loop-i-test.true) }
 
 pub has_marker_spec : {M : Type 1} → statement M
 unfolding some
 has_marker_spec =
     tie.close
     (tie.spec
-    invariant-loop
-    decreases-loop
+    invariant-loop-i
+    decreases-loop-i
     (λ c. search rules)
     (λ c. search rules)
     (λ c. search rules)
     (λ c. search rules)
     (λ c κs. search rules)
-    returns
+    returns-then-marker_in-marker
     (λ c. search rules)
-    loop-again
-    (λ c s ks n. searched_all c.before.loop.invariant c.loop-test.false ∙ some_marked s _ _ ks n))
+    loop-i-preserved
+    (λ c s ks n. searched_all c.loop-i.invariant c.loop-i-test.false ∙ some_marked s _ _ ks n))

@@ -7,45 +7,39 @@ use Rattle.rules.proofs.Latest.{latest_length, Searching, searched, searched_all
 use Rattle.rules.proofs.scope.Scope.look_up.Statement.{statement}
 use Rattle.rules.proofs.scope.Scope.look_up.Tie as tie
 
-abbrev invariant-loop : tie.invariant-loop
-invariant-loop definitions key i₀ i = Searching (find key) definitions i₀ i
+abbrev invariant-loop-i : tie.invariant-loop-i
+invariant-loop-i definitions key i₀ i = Searching (find key) definitions i₀ i
 
-abbrev decreases-loop : tie.decreases-loop
-decreases-loop definitions key i₀ i = i
+abbrev decreases-loop-i : tie.decreases-loop-i
+decreases-loop-i definitions key i₀ i = i
 
-returns : tie.Need-returns invariant-loop decreases-loop
+returns-then-k-key : tie.Need-returns-then-k-key invariant-loop-i decreases-loop-i
 unfolding find
-returns c =
-    let k = c.before.before.before in
-    let l = k.before.before.before in
-    let all = rw (eq-eqb _ _ (sym k.before.key_in.ensures ∙ k.if1.true)) at (searched _ l.before.loop.invariant l.loop-test.true) in
-    rw (c.before.packed_from.ensures, c.packed_to.ensures, c.before.before.content_in.ensures) all
+returns-then-k-key c =
+    let all = rw (eq-eqb _ _ (sym c.key_in-k.ensures ∙ c.if-k-key.true)) at (searched _ c.loop-i.invariant c.loop-i-test.true) in
+    rw (c.packed_from.ensures, c.packed_to.ensures, c.content_in-part.ensures) all
 
-returns-2 : tie.Need-returns-2 invariant-loop decreases-loop
+returns-then-k-key-2 : tie.Need-returns-then-k-key-2 invariant-loop-i decreases-loop-i
 unfolding find
-returns-2 c =
-    let k = c.before.before in
-    let l = k.before.before.before.before in
-    let is = k.before.before.key_in.ensures in
-    let all = rw (ne_eqb _ _ (λ q. k.before.if1.false (is ∙ q)), eq-eqb _ _ (sym is ∙ k.if2.true)) at (searched _ l.before.loop.invariant l.loop-test.true) in
-    rw (c.code_row.ensures, c.before.content-in2.ensures) (rw latest_length at all)
+returns-then-k-key-2 c =
+    let is = c.key_in-k.ensures in
+    let all = rw (ne_eqb _ _ (λ q. c.if-k-key.false (is ∙ q)), eq-eqb _ _ (sym is ∙ c.if-k-key-2.true)) at (searched _ c.loop-i.invariant c.loop-i-test.true) in
+    rw (c.code_row.ensures, c.content_in.ensures) (rw latest_length at all)
 
-loop-again : tie.Need-loop-preserved invariant-loop decreases-loop
+loop-i-preserved : tie.Need-loop-i-preserved invariant-loop-i decreases-loop-i
 unfolding find
-loop-again c =
-    let k = c.before.before in
-    let l = k.before.before in
-    let is = k.key_in.ensures in
-    let all = searched _ l.before.loop.invariant l.loop-test.true in
-    record { fewer = search rules; tells = rw (ne_eqb _ _ (λ q. c.before.if1.false (is ∙ q)), ne_eqb _ _ (λ q. c.if2.false (is ∙ q))) at all }
+loop-i-preserved c =
+    let is = c.key_in-k.ensures in
+    let all = searched _ c.loop-i.invariant c.loop-i-test.true in
+    record { fewer = search rules; tells = rw (ne_eqb _ _ (λ q. c.if-k-key.false (is ∙ q)), ne_eqb _ _ (λ q. c.if-k-key-2.false (is ∙ q))) at all }
 
 pub look_up_spec : {M : Type 1} → statement M
 unfolding find
 look_up_spec =
     tie.close
     (tie.spec
-    invariant-loop
-    decreases-loop
+    invariant-loop-i
+    decreases-loop-i
     (λ c. search rules)
     (λ c. search rules)
     (λ c. search rules)
@@ -54,11 +48,11 @@ look_up_spec =
     (λ c κs. search rules)
     (λ c κs. search rules)
     (λ c κs. search rules)
-    returns
+    returns-then-k-key
     (λ c. search rules)
     (λ c κs. search rules)
     (λ c κs. search rules)
-    returns-2
+    returns-then-k-key-2
     (λ c. search rules)
-    loop-again
-    (λ c. searched_all c.before.loop.invariant c.loop-test.false))
+    loop-i-preserved
+    (λ c. searched_all c.loop-i.invariant c.loop-i-test.false))

@@ -1,0 +1,59 @@
+-- `bulk::item_of` meets its contract: the part from start to end, or none. Assumes nothing.
+use Prim.Native.Nat.{ℕ, ◌≤◌}
+use mathlib.Core.List.{List}
+use native.Mathlib.Omega.{arith}
+use mathlib.Core.Path.{◌≡◌, refl}
+use lib.ListN.{length, length-take, length-drop}
+use denote.Ref.{Bor}
+use borrow.Author.Rules.{rules}
+use Rattle.spec.specs.Reading.{read}
+use Rattle.spec.specs.Calls.{Buffer, of_stream, of_result, chosen, Item, item_read}
+use Rattle.laws.proofs.Steps.{all_bytes}
+use Rattle.reader.specs.Passes.{found_part}
+use Rattle.reader.specs.declared.Found.{Found}
+use Rattle.reader.specs.declared.Found.TheVariants.{At, Nothing}
+use Rattle.bulk.specs.Answers.{lent}
+use Rattle.bulk.proofs.Items.{item_inside}
+use Rattle.bulk.proofs.item_of.Goals as goal
+
+chosen_lent : (b : Buffer) (stream result : Bor (List ℕ)) → (lent b stream result).now ≡ chosen b stream.now result.now
+chosen_lent of_stream stream result = refl
+chosen_lent of_result stream result = refl
+
+-- the part that was told
+told_part : (buffer : Bor (List ℕ)) (k : ℕ) (r : Found) → ((b : Buffer) → found_part b r ≡ item_read b k (read buffer.now (length buffer.now)))
+    → (b : Buffer) (stream result : Bor (List ℕ)) → lent b stream result ≡ buffer → found_part b r ≡ Item stream.now result.now b k
+unfolding Item
+told_part buffer k r told b stream result same = rw (← chosen_lent b stream result, same) (told b)
+
+-- it lies in the buffer
+pub slice_bounds-result-count : goal.slice_bounds-result-count
+slice_bounds-result-count c =
+    let x = c.args.buffer in
+    (item_inside of_stream x.now x.now _ _ _ (all_bytes x.now (λ i. (c.type_inv.buffer i).fits)) (told_part x _ (At c.in-At.start c.in-At.end) c.in-At.ensures of_stream x x refl)).0
+
+pub slice_bounds-result-start : goal.slice_bounds-result-start
+slice_bounds-result-start c =
+    let x = c.args.buffer in
+    let i = item_inside of_stream x.now x.now _ _ _ (all_bytes x.now (λ i. (c.type_inv.buffer i).fits)) (told_part x _ (At c.in-At.start c.in-At.end) c.in-At.ensures of_stream x x refl) in
+    search rules
+
+pub slice_bounds-result-end : goal.slice_bounds-result-end
+slice_bounds-result-end c =
+    let x = c.args.buffer in
+    let i = item_inside of_stream x.now x.now _ _ _ (all_bytes x.now (λ i. (c.type_inv.buffer i).fits)) (told_part x _ (At c.in-At.start c.in-At.end) c.in-At.ensures of_stream x x refl) in
+    search rules
+
+pub returns-in-At : goal.returns-in-At
+returns-in-At c =
+    let x = c.args.buffer in
+    let i = item_inside of_stream x.now x.now _ _ _ (all_bytes x.now (λ i. (c.type_inv.buffer i).fits)) (told_part x _ (At c.in-At.start c.in-At.end) c.in-At.ensures of_stream x x refl) in
+    λ b stream res same. rw (← told_part x _ (At c.in-At.start c.in-At.end) c.in-At.ensures b stream res same) (record {
+      bytes = rw (← chosen_lent b stream res, same);
+      place = rw same (record { block = refl; offset = omega arith; size = simp (length-take, length-drop) (omega arith) });
+    })
+
+pub returns-in-Nothing : goal.returns-in-Nothing
+returns-in-Nothing c =
+    let x = c.args.buffer in
+    λ b stream res same. rw (← told_part x _ Nothing c.in-Nothing.ensures b stream res same) (record { bytes = refl; place = tt })

@@ -1,0 +1,249 @@
+-- The functions of `evaluator::run` meet their contracts, by recursion on the steps that are left. Assumes nothing.
+use Prim.Native.Nat.{ℕ, ◌+◌, ◌-◌, ◌*◌, ◌<◌}
+use mathlib.Core.Path.{◌≡◌, refl, ap, ◌∙◌, subst}
+use native.Mathlib.Omega.{arith}
+use Rattle.spec.specs.Evaluation.{run_code}
+use Rattle.workspace.specs.declared.values.Out.{Out}
+use Rattle.rules.specs.Scope.{View, view}
+use Rattle.rules.specs.Settings.{showing}
+use Rattle.rules.specs.declared.scope.Scope.{Scope}
+use Rattle.rules.specs.declared.plan.After.{After}
+use Rattle.rows.proofs.Nodes.{more_whole}
+use Rattle.rules.proofs.Latest.{latest_length, view_under}
+use Rattle.evaluator.specs.Listed.{SomeReady, LeftOut, SomeEnding, CanEnd}
+use Rattle.evaluator.proofs.Begins.{extends_none}
+use Rattle.evaluator.proofs.Turns.{going_start, going_over, going_more, held_next, going_evaluates, going_past, going_ceased, going_on}
+use Rattle.evaluator.proofs.Insides.{steps_of, can_make, making_ends, ends_as, inside_fewer, inside_some, inside_steps, inside_can_end, inside_ends}
+use Rattle.evaluator.proofs.Calling.{call_kept, part_is, call_refused, ran, call_ready, call_stopped, call_returns, can_call, call_ends, function_code, function_found, code_found}
+use Rattle.evaluator.proofs.run.+run.Goals as goal
+
+-- Calls
+
+pub call-returns-then-here-ge32 : goal.call-returns-then-here-ge32
+call-returns-then-here-ge32 t c = (λ bound codes u body behind h vs z. call_refused z _ c.if-here-ge32.true, refl)
+
+pub call-spread-count-requires-clause-values_value : goal.call-spread-count-requires-clause-values_value
+call-spread-count-requires-clause-values_value t c =
+    let z = c.requires.calls in
+    (c.requires.values, part_is z, z.finishing.sound.0, z.finishing.sound.1)
+
+pub call-list-requires : goal.call-list-requires
+call-list-requires t c =
+    let y = c.requires in (
+      omega (arith, c.decreases),
+      record {
+        bound = y.bound;
+        codes = y.codes - 1;
+        nodes = _;
+        here = _;
+        ready = call_ready y.calls c.if-here-ge32.false _ _ c.spread-count.ensures c.called-inside.ensures (view c.args.associations.now c.args.definitions.now) refl;
+      },
+    )
+
+pub call-returned-requires-clause-ran : goal.call-returned-requires-clause-ran
+call-returned-requires-clause-ran t c =
+    let y = c.requires.calls in
+    let ready = call_ready y c.if-here-ge32.false _ _ c.spread-count.ensures c.called-inside.ensures (view c.args.associations.now c.args.definitions.now) refl in
+    (_, ran y (c.in-Done.ensures.0 _ _ _ _ ready))
+
+pub call-returns-in-Refused : goal.call-returns-in-Refused
+call-returns-in-Refused t c =
+    let seen : Scope → View = view c.args.associations.now c.args.definitions.now in
+    let few = c.if-here-ge32.false in (
+      λ bound codes u body behind h vs z.
+          call_stopped z few _ _ _ (c.in-Refused.ensures.0 _ _ _ _ (call_ready z few _ _ c.spread-count.ensures c.called-inside.ensures seen refl)),
+      call_kept _ _ _ _ c.args.here.scope c.args.here.scope refl (rw c.called-inside.ensures at c.list.ensures.1),
+    )
+
+pub call-returns-in-Done : goal.call-returns-in-Done
+call-returns-in-Done t c =
+    let seen : Scope → View = view c.args.associations.now c.args.definitions.now in
+    let few = c.if-here-ge32.false in (
+      λ bound codes u body behind h vs z.
+          let o = c.in-Done.ensures.0 _ _ _ _ (call_ready z few _ _ c.spread-count.ensures c.called-inside.ensures seen refl) in
+          call_returns z few c.args.values.row o _ _ c.returned.result (c.returned.ensures _ _ (ran z o) z.nodes),
+      call_kept _ _ _ _ c.args.here.scope c.args.here.scope refl (rw c.called-inside.ensures at c.list.ensures.1),
+    )
+
+-- Codes
+
+pub code-call-out-requires : goal.code-call-out-requires
+code-call-out-requires t c = (omega (arith, c.decreases), can_call tt refl refl code_found c.requires)
+
+pub code-returns : goal.code-returns
+code-returns t c =
+    let k = c.call-out in
+    let see : Scope → View = view k.new.associations c.args.definitions.now in
+    (rw c.leaves.ensures (call_ends tt refl refl code_found k.new.w see c.args.values.row k.result k.ensures.1 k.ensures.0), k.ensures.1)
+
+pub function-code_at-body-requires : goal.function-code_at-body-requires
+function-code_at-body-requires t c = let x = function_code c.requires in (_, x.0, x.1)
+
+pub function-call-out-requires : goal.function-call-out-requires
+function-call-out-requires t c = (
+  omega (arith, c.decreases),
+  rw (c.showing-at.ensures, c.up_to.ensures) (can_call tt refl refl (function_found _ _ c.args.here.scope (c.code_at-body.ensures _)) c.requires),
+)
+
+pub function-returns : goal.function-returns
+function-returns t c =
+    let k = c.call-out in
+    let here = c.args.here in
+    let there = c.showing-at.ensures ∙ ap (λ (x : Scope). showing x here) c.up_to.ensures in
+    let see : Scope → View = view k.new.associations c.args.definitions.now in
+    let kept = call_kept _ _ _ _ here.scope _ refl (rw there at k.ensures.1) in (
+      rw c.leaves.ensures (call_ends tt refl refl (function_found _ _ here.scope (c.code_at-body.ensures _)) k.new.w see c.args.values.row k.result kept
+          (rw there at k.ensures.0)),
+      kept,
+    )
+
+pub entered-list-requires : goal.entered-list-requires
+entered-list-requires t c = (omega (arith, c.decreases), rw c.entering-at.ensures c.requires)
+
+pub entered-returns : goal.entered-returns
+entered-returns t c = rw c.entering-at.ensures at c.list.ensures
+
+-- A form whose elements were evaluated
+
+pub finish-finish-requires : goal.finish-finish-requires
+finish-finish-requires t c =
+    let a = c.args in
+    can_make (subst (SomeEnding a.s.now a.table.now a.w.now (view a.associations.now a.definitions.now a.here.scope) a.values.state a.here a.values.start)
+    c.in-Make.is c.requires)
+
+pub finish-function-requires : goal.finish-function-requires
+finish-function-requires t c =
+    let a = c.args in (
+      omega (arith, c.decreases),
+      subst (SomeEnding a.s.now a.table.now a.w.now (view a.associations.now a.definitions.now a.here.scope) a.values.state a.here a.values.start)
+          c.in-Function.is c.requires,
+    )
+
+pub finish-code-requires : goal.finish-code-requires
+finish-code-requires t c =
+    let a = c.args in (
+      omega (arith, c.decreases),
+      subst (SomeEnding a.s.now a.table.now a.w.now (view a.associations.now a.definitions.now a.here.scope) a.values.state a.here a.values.start)
+          c.in-Code.is c.requires,
+    )
+
+pub finish-returns-in-Make : goal.finish-returns-in-Make
+finish-returns-in-Make t c =
+    let a = c.args in
+    let f = c.finish in
+    let see : Scope → View = view a.associations.now f.new.definitions in (
+      ends_as a.s.now a.table.now a.w.now f.new.w (view a.associations.now a.definitions.now a.here.scope) see a.here a.values.start a.values.row a.after f.result refl
+          c.in-Make.is (making_ends a.values.state a.values.start f.new.w see a.values.row f.result (λ codes. f.ensures.0 _ _ _ (run_code codes))),
+      f.ensures.1 _,
+    )
+
+-- nothing was refused inside it
+pub closed-finish-requires : goal.closed-finish-requires
+closed-finish-requires t c =
+    let a = c.args in (
+      omega (arith, ap steps_of c.in-Done.is, c.decreases),
+      subst (CanEnd a.s.now a.table.now a.w.now (view a.associations.now a.definitions.now a.here.scope) a.here a.opened.start a.opened.after) c.in-Done.is c.requires,
+    )
+
+-- One expression
+
+pub expression-entered-ended-requires : goal.expression-entered-ended-requires
+expression-entered-ended-requires t c =
+    let x = c.requires.evaluates in
+    let b = c.in-Inside.ensures.0 c.requires.bound (run_code c.requires.codes) _ _ x.begins in
+    (omega (arith, inside_fewer x b, c.decreases), inside_some x b c.begin.ensures.1 c.within.ensures)
+
+-- what is inside it was evaluated
+pub expression-closed-requires : goal.expression-closed-requires
+expression-closed-requires t c =
+    let x = c.requires.evaluates in
+    let b = c.in-Inside.ensures.0 c.requires.bound (run_code c.requires.codes) _ _ x.begins in
+    let n = c.entered-ended in (
+      omega (arith, inside_steps x b c.begin.ensures.1 c.within.ensures _ n.result n.ensures.0, c.decreases),
+      inside_can_end x b c.begin.ensures.1 c.within.ensures _ n.result n.ensures.0 (latest_length _ _) n.ensures.1,
+    )
+
+pub expression-returns-in-Inside : goal.expression-returns-in-Inside
+expression-returns-in-Inside t c =
+    let f = c.closed in
+    let n = c.entered-ended in
+    let kept = c.begin.ensures.1 in (
+      λ bound codes e h x.
+          let b = c.in-Inside.ensures.0 bound (run_code codes) e h x.begins in
+          inside_ends x b kept c.within.ensures _ n.result n.ensures.0 (latest_length _ _) n.ensures.1 f.new.w (view f.new.associations f.new.definitions) f.result
+          f.ensures.0,
+      f.ensures.1 ∙ n.ensures.1 ∙ kept,
+    )
+
+-- Lists
+
+pub list-loop-row-init : goal.list-loop-row-init
+list-loop-row-init t c = record { going = λ y. going_start y.ready; kept = refl; extends = extends_none _ }
+
+pub list-element-node-requires : goal.list-element-node-requires
+list-element-node-requires t c = more_whole _ _ _ _ (going_more (c.loop-row.invariant.going c.requires) c.loop-row-test.true)
+
+pub list-behind-behind-requires : goal.list-behind-behind-requires
+list-behind-behind-requires t c = (more_whole _ _ _ _ (going_more (c.loop-row.invariant.going c.requires) c.loop-row-test.true)).1
+
+pub list-expression-left-requires : goal.list-expression-left-requires
+list-expression-left-requires t c =
+    let g = c.loop-row.invariant.going c.requires in (
+      omega (arith, g.fewer, c.decreases),
+      record { bound = _; codes = _; expression = _; here = _; evaluates = going_evaluates g c.loop-row-test.true c.element-node.ensures },
+    )
+
+-- the expression was evaluated
+pub list-returns-in-Refused : goal.list-returns-in-Refused
+list-returns-in-Refused t c =
+    let a = c.args in
+    let l = c.loop-row in
+    let on = c.loop-row-test.true in
+    let left = c.expression-left in
+    let see : Scope → View = view left.new.associations left.new.definitions in (
+      λ bound codes es h r.
+          let y : SomeReady a.s.now a.table.now a.w.now a.args.now (view a.associations.now a.definitions.now a.here.scope) a.state a.here a.form.flat a.form.first a.form.end =
+          record { bound = bound; codes = codes; nodes = es; here = h; ready = r } in
+          let g = l.invariant.going y in
+          going_ceased g on _ _
+          (subst (LeftOut a.s.now a.table.now l.w left.new.w see l.here.scope l.state (held_next g on) left.result.scope) c.in-Refused.is
+          (left.ensures.0 _ _ _ _ (going_evaluates g on c.element-node.ensures))),
+      view_under _ _ _ _ a.here.scope l.here.scope l.invariant.extends.defined l.invariant.extends.associated left.ensures.1 ∙ l.invariant.kept,
+    )
+
+pub list-loop-row-smaller : goal.list-loop-row-smaller
+list-loop-row-smaller t c =
+    let g = c.loop-row.invariant.going c.requires in
+    let on = c.loop-row-test.true in
+    let e = going_more g on in
+    omega (arith, going_past g on c.element-node.ensures c.behind-behind.ensures, e.forward, e.inside, on)
+
+pub list-loop-row-preserved : goal.list-loop-row-preserved
+list-loop-row-preserved t c =
+    let a = c.args in
+    let l = c.loop-row in
+    let on = c.loop-row-test.true in
+    let left = c.expression-left in
+    let see : Scope → View = view left.new.associations left.new.definitions in
+    let Listed : Type 0 =
+    SomeReady a.s.now a.table.now a.w.now a.args.now (view a.associations.now a.definitions.now a.here.scope) a.state a.here a.form.flat a.form.first a.form.end in
+    let left_as = λ (y : Listed).
+    let g = l.invariant.going y in
+    subst (LeftOut a.s.now a.table.now l.w left.new.w see l.here.scope l.state (held_next g on) left.result.scope) c.in-Done.is
+    (left.ensures.0 _ _ _ _ (going_evaluates g on c.element-node.ensures)) in
+    let i = l.invariant.extends in
+    let past = going_past (l.invariant.going c.requires) on c.element-node.ensures c.behind-behind.ensures in
+    let more = (left_as c.requires).1 in
+    rw c.showing-here.ensures (record {
+      going = λ y. going_on (l.invariant.going y) on _ past (left_as y).0;
+      kept = view_under _ _ _ _ a.here.scope l.here.scope i.defined i.associated left.ensures.1 ∙ l.invariant.kept;
+      extends = record { defined = omega (arith, more.defined, i.defined); associated = omega (arith, more.associated, i.associated) };
+    })
+
+pub list-returns : goal.list-returns
+list-returns t c =
+    let i = c.loop-row.invariant in (
+      λ bound codes es h r.
+          rw c.down_to.ensures (going_over (i.going (record { bound = bound; codes = codes; nodes = es; here = h; ready = r })) c.loop-row-test.false),
+      i.kept,
+    )
