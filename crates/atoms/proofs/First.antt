@@ -9,7 +9,7 @@ use lib.ListN.{length, drop, get_or, length-drop}
 use lib.Seq.{drop-cons}
 use lib.Dec.{ltb, eqb}
 use borrow.Author.Tests.{lt-ltb, le-ltb, ne_eqb}
-use Rattle.spec.specs.Expr.{if◌then◌else◌, int}
+use Rattle.spec.specs.Expr.{when◌then◌else◌, int}
 use Rattle.spec.specs.Reading.{taken, and_then, take_bytes, length_expr, marker, name, as_array, read_atom, token}
 use Rattle.atoms.specs.Tokens.{token_at, shown, shown_atom}
 use Rattle.atoms.specs.declared.Token.{Token}
@@ -72,7 +72,7 @@ module _ (s : List ℕ) (p : ℕ) (inside : p < length s) where
 
   -- a byte from 80 on
   from_80 : 0x80 ≤ byte
-      → told ≡ shown_atom p (length s) (if ltb byte 0xC0 then taken (int (byte - 0x80)) (drop (suc p) s)
+      → told ≡ shown_atom p (length s) (when ltb byte 0xC0 then taken (int (byte - 0x80)) (drop (suc p) s)
       else and_then (take_bytes (byte - 0xC0) (drop (suc p) s)) as_array)
   unfolding read_atom
   from_80 h =

@@ -13,7 +13,7 @@ use lib.ListN.{length, take, drop, get_or, length-take, length-drop}
 use lib.Seq.{drop-cons, drop-drop}
 use lib.Dec.{eqb}
 use borrow.Author.Tests.{lt-ltb, le-ltb, le-leb, lt-leb, ne_eqb}
-use Rattle.spec.specs.Expr.{if◌then◌else◌}
+use Rattle.spec.specs.Expr.{when◌then◌else◌}
 use Rattle.spec.specs.Reading.{Taken, taken, cut_off, failed, and_then, take_bytes, natural, as_length, plain_length, length_expr, marker, name, as_array}
 use Rattle.laws.specs.Demands.{Bytes}
 use Rattle.laws.specs.Grammar.{SpellsLength}
@@ -208,12 +208,12 @@ by_threes zero [] = few (omega arith) (omega arith) refl
 by_threes (suc k) [] = few (omega arith) (omega arith) refl
 by_threes zero (b ∷ s) = go (eqb b 0x03) refl
   where
-    go : (c : Bool) → eqb b 0x03 ≡ c → ByThrees zero (b ∷ s) (if eqb b 0x03 then 1 else 0)
+    go : (c : Bool) → eqb b 0x03 ≡ c → ByThrees zero (b ∷ s) (when eqb b 0x03 then 1 else 0)
     go true e = rw e (many refl (omega arith) (rw e))
     go false e = rw e (few (omega arith) (omega arith) (rw e))
 by_threes (suc k) (b ∷ s) = go (eqb b 0x03) refl (by_threes k s)
   where
-    go : (c : Bool) → eqb b 0x03 ≡ c → {j : ℕ} → ByThrees k s j → ByThrees (suc k) (b ∷ s) (if eqb b 0x03 then suc j else 0)
+    go : (c : Bool) → eqb b 0x03 ≡ c → {j : ℕ} → ByThrees k s j → ByThrees (suc k) (b ∷ s) (when eqb b 0x03 then suc j else 0)
     go true e (few l i is) = rw e (few (omega arith) (omega arith) (rw (e, is)))
     go true e (many q i is) = rw e (many (omega arith) (omega arith) (rw (e, is)))
     go false e x = rw e (few (omega arith) (omega arith) (rw e))

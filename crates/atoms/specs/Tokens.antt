@@ -1,7 +1,7 @@
 -- What this crate's functions answer, as `Reading` of the crate `spec` defines it. A definition says "bytes left"; the code says places.
 -- Document 01: "Bytes to expressions". Assumes nothing.
 use Rattle.std.specs.Prelude.{ℕ, zero, suc, ◌-◌, min, List, [], ◌∷◌, length, drop, get_or, eqb}
-use Rattle.spec.specs.Expr.{if◌then◌else◌, Atom, if_array, array_head}
+use Rattle.spec.specs.Expr.{when◌then◌else◌, Atom, if_array, array_head}
 use Rattle.spec.specs.Reading.{Taken, taken, cut_off, failed, and_then, take_bytes, as_length, plain_length, Token, opening, closing, whole, unfinished, bad, atom_kind, atom_token, token}
 use Rattle.atoms.specs.declared.Length.{Length}
 use Rattle.atoms.specs.declared.Length.TheVariants.{Is, CutOff, Wrong}
@@ -26,7 +26,7 @@ shown (bad w p) = Bad w p
 
 -- the head that the canonical bytes of an atom of that kind have before a body of n bytes
 abbrev pub atom_head : ℕ → ℕ → List ℕ
-atom_head kind n = if eqb kind 2 then array_head n else []
+atom_head kind n = when eqb kind 2 then array_head n else []
 
 -- Lengths
 
@@ -40,7 +40,7 @@ measured end (failed w s) = Wrong w (end - length s)
 unfoldable pub leading_threes : ℕ → List ℕ → ℕ
 leading_threes zero s = 0
 leading_threes (suc k) [] = 0
-leading_threes (suc k) (b ∷ s) = if eqb b 0x03 then suc (leading_threes k s) else 0
+leading_threes (suc k) (b ∷ s) = when eqb b 0x03 then suc (leading_threes k s) else 0
 
 -- a length that is no generic array, where no 03 stands
 abbrev pub plain : List ℕ → Taken ℕ

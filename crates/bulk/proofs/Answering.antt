@@ -1,11 +1,11 @@
 -- What Read, Write and Evaluate answer once the stream was read into the table, or refused. Document 01: "Read", "Write", "Evaluate", and
 -- "18 last of all". Assumes nothing.
 use Prim.Native.Nat.{ℕ, ◌≤◌, ◌<◌}
-use mathlib.Core.Path.{◌≡◌, sym, ap, ◌∙◌}
-use mathlib.Core.List.{List, [], ◌++◌}
+use mathlib.Core.Path.{◌≡◌, sym, ap}
+use mathlib.Core.List.{List, []}
 use native.Mathlib.Omega.{arith}
-use lib.ListN.{length, take, drop, get_or}
-use lib.Seq.{take-length, length-take-le}
+use lib.ListN.{length, take, get_or}
+use lib.Seq.{length-take-le}
 use borrow.Author.Tests.{lt-ltb, le-ltb}
 use Rattle.spec.specs.Expr.{canonical}
 use Rattle.spec.specs.Reading.{tokens, rows_of, refused}

@@ -10,7 +10,7 @@ use denote.Ref.{Bor}
 use lib.Dec.{eqb}
 use borrow.Author.Tests.{ne_eqb}
 use native.Mathlib.Omega.{arith}
-use Rattle.spec.specs.Expr.{if◌then◌else◌, rows_all, canonical}
+use Rattle.spec.specs.Expr.{when◌then◌else◌, rows_all, canonical}
 use Rattle.spec.specs.Reading.{tokens, rows_of, row_width, refused, readable, read}
 use Rattle.spec.specs.Runs.{steps_in}
 use Rattle.spec.specs.Evaluation.{run}
@@ -37,10 +37,10 @@ evaluate_call s t w o steps r t' o' h = record { answer = r; table = t'; output 
 -- What a call answers is decided by the definition's number, place, length and count.
 
 abbrev pub given_by : Answer → Given
-given_by a = if eqb a.number 0 then Accepted a.given else Refused a.number a.place
+given_by a = when eqb a.number 0 then Accepted a.given else Refused a.number a.place
 
 abbrev pub evaluation_by : Answer → Evaluation
-evaluation_by a = if eqb a.number 0 then Result a.given a.steps else Refusal a.number a.place
+evaluation_by a = when eqb a.number 0 then Result a.given a.steps else Refusal a.number a.place
 
 given_decided : (r : Given) (t o : List ℕ) → Numbered r → r ≡ given_by (stated r t o)
 given_decided (Accepted n) t o h = refl

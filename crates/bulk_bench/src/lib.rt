@@ -1,3 +1,5 @@
+#![tactic(auto)]
+
 // The calls as functions that C and Rust can call, for the benchmark (`bench/`) and the runs on a small stack (`stack/`): each gives document 01's rows
 // or length, which is 0 on a refusal, and leaves table and output as document 01 says. An item gives its part's length, which is 0 if there is none. A
 // backlog, of document 02, §2, gives the results' length in all, and the list of answers.
@@ -5,13 +7,13 @@ ghost use Rattle.std.specs.Prelude.{◌≡◌, [], length};
 ghost use Rattle.spec.specs.Calls.{Read, Write, Evaluate, Item};
 ghost use Rattle.spec.specs.Backlog.{Backlog};
 ghost use Rattle.bulk.specs.Answers.{asked};
-ghost use Rattle.bulk_bench.specs.Given.{given, result, size, which, Gives, GivesBacklog};
+ghost use Rattle.bulk_bench.specs.Given.{given, result as given_result, size, which, Gives, GivesBacklog};
 
 use bulk::{Answer, Buffer, Evaluation};
 
 // What Read, Write or Backlog gives.
 fn given(answer: Answer) -> usize
-    ensures* { λ r. ⌜ r ≡ given answer ⌝ }
+    ensures { result ≡ given answer }
 {
     match answer {
         Answer::Accepted { given } => given,
@@ -24,7 +26,7 @@ fn given(answer: Answer) -> usize
 
 // What Evaluate gives.
 fn result(answer: Evaluation) -> usize
-    ensures* { λ r. ⌜ r ≡ result answer ⌝ }
+    ensures { result ≡ given_result answer }
 {
     match answer {
         Evaluation::Accepted { length, steps: _ } => length,
@@ -37,14 +39,14 @@ fn result(answer: Evaluation) -> usize
 
 #[unsafe(no_mangle)]
 pub extern "C" fn bulk_bench_read(stream: &[u8], table: &mut [u32]) -> usize
-    ensures* { λ r. ⌜ Gives (Read stream.now table.old) r table.new [] ⌝ }
+    ensures { Gives (Read stream.now table.old) result table.new [] }
 {
     given(bulk::read(stream, table))
 }
 
 #[unsafe(no_mangle)]
 pub extern "C" fn bulk_bench_write(stream: &[u8], table: &mut [u32], output: &mut [u8]) -> usize
-    ensures* { λ r. ⌜ Gives (Write stream.now table.old output.old) r table.new output.new ⌝ }
+    ensures { Gives (Write stream.now table.old output.old) result table.new output.new }
 {
     given(bulk::write(stream, table, output))
 }
@@ -57,8 +59,7 @@ pub extern "C" fn bulk_bench_evaluate(
     output: &mut [u8],
     steps: u64,
 ) -> usize
-    ensures* { λ r.
-        ⌜ Gives (Evaluate stream.now table.old (length workspace.old) output.old steps) r table.new output.new ⌝ }
+    ensures { Gives (Evaluate stream.now table.old (length workspace.old) output.old steps) result table.new output.new }
 {
     result(bulk::evaluate(stream, table, workspace, output, steps))
 }
@@ -73,15 +74,14 @@ pub extern "C" fn bulk_bench_backlog(
     steps: u64,
     answers: &mut [u64],
 ) -> usize
-    ensures* { λ r.
-        ⌜ GivesBacklog (Backlog buffer.now ends.now table.old (length workspace.old) output.old steps answers.old) r table.new output.new answers.new ⌝ }
+    ensures { GivesBacklog (Backlog buffer.now ends.now table.old (length workspace.old) output.old steps answers.old) result table.new output.new answers.new }
 {
     given(bulk::backlog(buffer, ends, table, workspace, output, steps, answers))
 }
 
 // Which of Item's two buffers.
 fn which(of_result: bool) -> Buffer
-    ensures* { λ r. ⌜ asked r ≡ which of_result ⌝ }
+    ensures { asked result ≡ which of_result }
 {
     if of_result {
         return Buffer::Result;
@@ -96,7 +96,7 @@ pub extern "C" fn bulk_bench_item<'a>(
     of_result: bool,
     k: usize,
 ) -> usize
-    ensures* { λ r. ⌜ r ≡ size (Item stream.now res.now (which of_result) k) ⌝ }
+    ensures { result ≡ size (Item stream.now res.now (which of_result) k) }
 {
     bulk::item(stream, res, which(of_result), k).len()
 }

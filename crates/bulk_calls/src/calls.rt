@@ -27,6 +27,7 @@ pub const ANSWERS_SIZE: usize = bulk::ANSWER_WIDTH * ENDS_SIZE;
 pub type Answers = [u64; ANSWERS_SIZE];
 
 fn read(
+    rt: &impl Print,
     buffer: &mut Buffer,
     used: usize,
     asked: ReadRequest,
@@ -39,12 +40,13 @@ fn read(
     let length = text::within(asked.stream, stream.len());
     let size = text::within(asked.table, table.len());
     match bulk::read(&stream[0..length], &mut table[0..size]) {
-        Answer::Refused { number, place } => text::refused(buffer, used, number, place),
-        Answer::Accepted { given } => answers::rows(buffer, used, table, given),
+        Answer::Refused { number, place } => text::refused(rt, buffer, used, number, place),
+        Answer::Accepted { given } => answers::rows(rt, buffer, used, table, given),
     }
 }
 
 fn write(
+    rt: &impl Print,
     buffer: &mut Buffer,
     used: usize,
     asked: WriteRequest,
@@ -63,12 +65,13 @@ fn write(
         &mut table[0..size],
         &mut output[0..room],
     ) {
-        Answer::Refused { number, place } => text::refused(buffer, used, number, place),
-        Answer::Accepted { given } => answers::written(buffer, used, output, given),
+        Answer::Refused { number, place } => text::refused(rt, buffer, used, number, place),
+        Answer::Accepted { given } => answers::written(rt, buffer, used, output, given),
     }
 }
 
 fn evaluate(
+    rt: &impl Print,
     buffer: &mut Buffer,
     used: usize,
     asked: EvaluateRequest,
@@ -91,11 +94,11 @@ fn evaluate(
         &mut output[0..room],
         asked.steps,
     ) {
-        Evaluation::Refused { number, place } => text::refused(buffer, used, number, place),
+        Evaluation::Refused { number, place } => text::refused(rt, buffer, used, number, place),
         Evaluation::Accepted {
             length: given,
             steps,
-        } => { answers::evaluated(buffer, used, output, given, steps) }
+        } => { answers::evaluated(rt, buffer, used, output, given, steps) }
     }
 }
 
@@ -113,6 +116,7 @@ fn lacks_output(told: &[u64]) -> bool {
 
 // What a backlog told. If a stream lacked output, and more was asked for than can be lent, the call that was asked for might have told otherwise.
 fn backlogged(
+    rt: &impl Print,
     buffer: &mut Buffer,
     used: usize,
     asked: u64,
@@ -125,13 +129,14 @@ fn backlogged(
 {
     if (output.len() as u64) < asked {
         if lacks_output(told) {
-            return answers::too_long(buffer, used);
+            return answers::too_long(rt, buffer, used);
         }
     }
-    answers::backlog(buffer, used, told, output, given)
+    answers::backlog(rt, buffer, used, told, output, given)
 }
 
 fn backlog(
+    rt: &impl Print,
     buffer: &mut Buffer,
     used: usize,
     asked: BacklogRequest,
@@ -160,10 +165,10 @@ fn backlog(
         asked.steps,
         &mut answers[0..places],
     ) {
-        Answer::Refused { number, place } => text::refused(buffer, used, number, place),
+        Answer::Refused { number, place } => text::refused(rt, buffer, used, number, place),
         Answer::Accepted { given } => {
             let told = &answers[0..bulk::ANSWER_WIDTH * count];
-            backlogged(buffer, used, asked.output, told, output, given)
+            backlogged(rt, buffer, used, asked.output, told, output, given)
         }
     }
 }
@@ -177,6 +182,7 @@ fn which(bit: u64) -> Which {
 }
 
 fn item<'a>(
+    rt: &impl Print,
     buffer: &mut Buffer,
     used: usize,
     asked: ItemRequest,
@@ -194,12 +200,13 @@ fn item<'a>(
     let buffer_asked = which(asked.which);
     let part = bulk::item(s, r, buffer_asked, k);
     match bulk::item_part(s, r, buffer_asked, k) {
-        Part::Empty => answers::no_part(buffer, used),
-        Part::Of { start, end: _ } => answers::part(buffer, used, start, start + part.len()),
+        Part::Empty => answers::no_part(rt, buffer, used),
+        Part::Of { start, end: _ } => answers::part(rt, buffer, used, start, start + part.len()),
     }
 }
 
 pub fn answer(
+    rt: &impl Print,
     buffer: &mut Buffer,
     used: usize,
     request: Request,
@@ -214,18 +221,18 @@ pub fn answer(
     ensures { result ≤ buffer_size }
 {
     match request {
-        Request::Read(asked) => read(buffer, used, asked, stream, table),
-        Request::Write(asked) => write(buffer, used, asked, stream, table, output),
+        Request::Read(asked) => read(rt, buffer, used, asked, stream, table),
+        Request::Write(asked) => write(rt, buffer, used, asked, stream, table, output),
         Request::Evaluate(asked) => {
-            evaluate(buffer, used, asked, stream, table, workspace, output)
+            evaluate(rt, buffer, used, asked, stream, table, workspace, output)
         }
         Request::Backlog(asked) => {
             backlog(
-                buffer, used, asked, stream, ends, table, workspace, output, answers,
+                rt, buffer, used, asked, stream, ends, table, workspace, output, answers,
             )
         }
-        Request::Item(asked) => item(buffer, used, asked, stream, output),
-        Request::TooLong => answers::too_long(buffer, used),
-        Request::Bad => text::bytes(buffer, used, b"bad request\n"),
+        Request::Item(asked) => item(rt, buffer, used, asked, stream, output),
+        Request::TooLong => answers::too_long(rt, buffer, used),
+        Request::Bad => text::bytes(rt, buffer, used, b"bad request\n"),
     }
 }

@@ -1,11 +1,16 @@
 // Standard input, a byte at a time through a buffer. Assumes the contract that the kit states of C's `read`.
 ghost use Rattle.std.specs.Prelude.{◌≡◌, ◌-◌, ◌≤◌};
 
-use libc::STDIN_FILENO;
+use std::io::Read;
 
 pub const SOURCE_SIZE: usize = 4096;
 
-pub type Source = [u8; SOURCE_SIZE];
+// What is read from, and the buffer that it is read into.
+#[derive(Drop)]
+pub struct Source<R: Read> {
+    pub reader: R,
+    pub bytes: [u8; SOURCE_SIZE],
+}
 
 // Where the input stands.
 #[derive(Clone, Copy)]
@@ -58,8 +63,15 @@ pub fn judged(input: Input, good: bool) -> Input
     }
 }
 
+// Reads into the buffer, and gives how many bytes were read. A read that fails gives none.
+fn refill(source: &mut Source<impl Read>) -> usize
+    ensures { result ≤ SOURCE_SIZE }
+{
+    source.reader.read(&mut source.bytes).unwrap_or(0)
+}
+
 // The byte at hand is taken, and the next is at hand.
-pub fn advance(source: &mut Source, input: Input) -> Input
+pub fn advance(source: &mut Source<impl Read>, input: Input) -> Input
     ensures { result.left ≤ input.left - 1 }
 {
     if input.left <= 1 {
@@ -69,19 +81,19 @@ pub fn advance(source: &mut Source, input: Input) -> Input
         // Taken so, a place is inside the buffer whatever it is.
         let at = input.next % SOURCE_SIZE;
         return Input {
-            byte: source[at],
+            byte: source.bytes[at],
             good: input.good,
             next: at + 1,
             ready: input.ready - 1,
             left: input.left - 1,
         };
     }
-    let got = io::count(libc::read(STDIN_FILENO, source), source);
+    let got = refill(source);
     if got == 0 {
         return ended(input.good);
     }
     Input {
-        byte: source[0],
+        byte: source.bytes[0],
         good: input.good,
         next: 1,
         ready: got - 1,

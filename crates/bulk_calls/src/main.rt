@@ -1,3 +1,5 @@
+#![tactic(auto)]
+
 // Answers requests on standard input, one a line, each with a line. Assumes the contracts that the kit states of C's `read` and `write`.
 mod answers;
 mod calls;
@@ -8,22 +10,26 @@ mod words;
 ghost use Rattle.std.specs.Prelude.{◌≤◌};
 ghost use Rattle.text.specs.Size.{buffer_size};
 
+use crate::input::Source;
 use text::Buffer;
 
 // Writes out the answers so far if the input that was read is used up, so that no one waits for them.
-fn before_reading(buffer: &Buffer, used: usize, ready: usize) -> usize
+fn before_reading(rt: &impl Print, buffer: &Buffer, used: usize, ready: usize) -> usize
     requires { used ≤ buffer_size }
     ensures { result ≤ buffer_size }
 {
     if 0 < ready {
         return used;
     }
-    text::flush(buffer, used);
+    text::flush(rt, buffer, used);
     0
 }
 
-fn main() {
-    let mut source = [0u8; input::SOURCE_SIZE];
+fn main(rt: HostRuntime) {
+    let mut source = Source {
+        reader: rt.stdin(),
+        bytes: [0u8; input::SOURCE_SIZE],
+    };
     let mut stream = [0u8; words::KEPT_SIZE];
     let mut ends = [0u64; words::ENDS_SIZE];
     let mut table = [0u32; bulk::TABLE_LIMIT];
@@ -37,6 +43,7 @@ fn main() {
         let line = requests::next(&mut source, at, &mut stream, &mut ends, &mut output);
         let request = line.request;
         used = calls::answer(
+            &rt,
             &mut buffer,
             used,
             request,
@@ -48,8 +55,8 @@ fn main() {
             &mut answers,
         );
         let line_end = line.input;
-        used = before_reading(&buffer, used, line_end.ready);
+        used = before_reading(&rt, &buffer, used, line_end.ready);
         at = input::advance(&mut source, line_end);
     }
-    text::flush(&buffer, used);
+    text::flush(&rt, &buffer, used);
 }

@@ -4,6 +4,7 @@ ghost use Rattle.std.specs.Prelude.{◌≤◌};
 use crate::input::{Input, Source, judged};
 use crate::words;
 use crate::words::{ENDS_SIZE, Ends, KEPT_SIZE, Kept};
+use std::io::Read;
 
 // `stream`, `result`, `buffer` and `ends` are how many bytes or ends were written; other numbers are as written, or the largest of 64 bits.
 #[derive(Clone, Copy)]
@@ -88,7 +89,7 @@ const BACKLOG: u64 = 0x62_6163_6b6c_6f67;
 const ITEM: u64 = 0x6974_656d;
 
 // The request whose words were all taken, if the line ends behind them.
-fn finish(source: &mut Source, from: Input, request: Request) -> Line
+fn finish(source: &mut Source<impl Read>, from: Input, request: Request) -> Line
     ensures { result.input.left ≤ from.left }
 {
     let input = words::line_end(source, from);
@@ -101,7 +102,7 @@ fn finish(source: &mut Source, from: Input, request: Request) -> Line
     }
 }
 
-fn read(source: &mut Source, from: Input, stream: &mut Kept) -> Line
+fn read(source: &mut Source<impl Read>, from: Input, stream: &mut Kept) -> Line
     ensures { result.input.left ≤ from.left }
 {
     let bytes = words::hex(source, from, stream);
@@ -113,7 +114,7 @@ fn read(source: &mut Source, from: Input, stream: &mut Kept) -> Line
     finish(source, table.input, Request::Read(asked))
 }
 
-fn write(source: &mut Source, from: Input, stream: &mut Kept) -> Line
+fn write(source: &mut Source<impl Read>, from: Input, stream: &mut Kept) -> Line
     ensures { result.input.left ≤ from.left }
 {
     let bytes = words::hex(source, from, stream);
@@ -127,7 +128,7 @@ fn write(source: &mut Source, from: Input, stream: &mut Kept) -> Line
     finish(source, output.input, Request::Write(asked))
 }
 
-fn lending(source: &mut Source, from: Input) -> Lent
+fn lending(source: &mut Source<impl Read>, from: Input) -> Lent
     ensures { result.input.left ≤ from.left }
 {
     let table = words::number(source, from);
@@ -144,7 +145,7 @@ fn lending(source: &mut Source, from: Input) -> Lent
     }
 }
 
-fn evaluate(source: &mut Source, from: Input, stream: &mut Kept) -> Line
+fn evaluate(source: &mut Source<impl Read>, from: Input, stream: &mut Kept) -> Line
     ensures { result.input.left ≤ from.left }
 {
     let bytes = words::hex(source, from, stream);
@@ -170,7 +171,7 @@ fn whole(asked: BacklogRequest) -> Request {
     Request::Backlog(asked)
 }
 
-fn backlog(source: &mut Source, from: Input, stream: &mut Kept, ends: &mut Ends) -> Line
+fn backlog(source: &mut Source<impl Read>, from: Input, stream: &mut Kept, ends: &mut Ends) -> Line
     ensures { result.input.left ≤ from.left }
 {
     let bytes = words::hex(source, from, stream);
@@ -189,7 +190,7 @@ fn backlog(source: &mut Source, from: Input, stream: &mut Kept, ends: &mut Ends)
     finish(source, answers.input, whole(asked))
 }
 
-fn item(source: &mut Source, from: Input, stream: &mut Kept, res: &mut Kept) -> Line
+fn item(source: &mut Source<impl Read>, from: Input, stream: &mut Kept, res: &mut Kept) -> Line
     ensures { result.input.left ≤ from.left }
 {
     let bytes = words::hex(source, from, stream);
@@ -207,7 +208,7 @@ fn item(source: &mut Source, from: Input, stream: &mut Kept, res: &mut Kept) -> 
 
 // The line that begins with the byte at hand.
 pub fn next(
-    source: &mut Source,
+    source: &mut Source<impl Read>,
     from: Input,
     stream: &mut Kept,
     ends: &mut Ends,

@@ -3,6 +3,7 @@
 ghost use Rattle.std.specs.Prelude.{◌-◌, ◌≤◌, ◌<◌};
 
 use crate::input::{Input, Source, advance, judged};
+use std::io::Read;
 
 // How many bytes of a word are kept: as many as three of the longest streams have. A stream of which others were dropped is still too long.
 pub const KEPT_SIZE: usize = 3 * bulk::STREAM_LIMIT;
@@ -31,7 +32,7 @@ fn with_letter(name: u64, letter: u8) -> u64 {
 }
 
 // The name at the line's start.
-pub fn name(source: &mut Source, line: Input) -> Word
+pub fn name(source: &mut Source<impl Read>, line: Input) -> Word
     ensures { result.input.left ≤ line.left }
 {
     let mut input = line;
@@ -51,7 +52,7 @@ pub fn name(source: &mut Source, line: Input) -> Word
 }
 
 // The space in front of a word.
-fn space(source: &mut Source, input: Input) -> Input
+fn space(source: &mut Source<impl Read>, input: Input) -> Input
     ensures { result.left ≤ input.left }
 {
     if input.byte == b' ' {
@@ -61,7 +62,7 @@ fn space(source: &mut Source, input: Input) -> Input
 }
 
 // The line's end: the rest of a line that goes on is passed over.
-pub fn line_end(source: &mut Source, from: Input) -> Input
+pub fn line_end(source: &mut Source<impl Read>, from: Input) -> Input
     ensures { result.left ≤ from.left }
 {
     if from.byte == b'\n' {
@@ -78,7 +79,7 @@ pub fn line_end(source: &mut Source, from: Input) -> Input
 }
 
 // The digits of a decimal number.
-fn decimal(source: &mut Source, from: Input) -> Word
+fn decimal(source: &mut Source<impl Read>, from: Input) -> Word
     ensures { result.input.left ≤ from.left }
 {
     let mut input = from;
@@ -106,7 +107,7 @@ fn decimal(source: &mut Source, from: Input) -> Word
 }
 
 // A decimal number.
-pub fn number(source: &mut Source, from: Input) -> Word
+pub fn number(source: &mut Source<impl Read>, from: Input) -> Word
     ensures { result.input.left ≤ from.left }
 {
     let input = space(source, from);
@@ -114,7 +115,7 @@ pub fn number(source: &mut Source, from: Input) -> Word
 }
 
 // Decimal numbers parted by commas, or `-` for none. Gives how many there are; the first `ENDS_SIZE` are kept.
-pub fn ends(source: &mut Source, from: Input, kept: &mut Ends) -> Word
+pub fn ends(source: &mut Source<impl Read>, from: Input, kept: &mut Ends) -> Word
     ensures { result.input.left ≤ from.left }
 {
     let mut input = space(source, from);
@@ -144,7 +145,7 @@ pub fn ends(source: &mut Source, from: Input, kept: &mut Ends) -> Word
 }
 
 // `0` or `1`.
-pub fn bit(source: &mut Source, from: Input) -> Word
+pub fn bit(source: &mut Source<impl Read>, from: Input) -> Word
     ensures { result.input.left ≤ from.left }
 {
     let input = space(source, from);
@@ -179,7 +180,7 @@ fn hex_digit(b: u8) -> u8
 }
 
 // Two hexadecimal digits, which are a byte.
-fn hex_byte(source: &mut Source, from: Input) -> Word
+fn hex_byte(source: &mut Source<impl Read>, from: Input) -> Word
     ensures { (result.input.left ≤ from.left - 1) × (result.value < 256) }
 {
     let high = hex_digit(from.byte);
@@ -200,7 +201,7 @@ fn hex_byte(source: &mut Source, from: Input) -> Word
 }
 
 // Bytes in hexadecimal, or `-` for none. Gives how many there are; the first `KEPT_SIZE` are kept.
-pub fn hex(source: &mut Source, from: Input, kept: &mut Kept) -> Word
+pub fn hex(source: &mut Source<impl Read>, from: Input, kept: &mut Kept) -> Word
     ensures { result.input.left ≤ from.left }
 {
     let mut input = space(source, from);

@@ -1,5 +1,7 @@
 // The program's arguments: how many steps may be taken, and how many bytes of workspace there are. Assumes the contracts that the kit states of
 // its calls in C for arguments.
+use std::env::{Env, FillError};
+
 // Over in a second.
 const STEPS: u64 = 1_000_000;
 
@@ -40,22 +42,31 @@ fn number(word: &[u8]) -> Word {
 }
 
 // Argument i, or what stands for it if there is none.
-fn argument(i: usize, absent: u64) -> Word {
-    if os::arg_count() <= i {
-        return Word::Number(absent);
-    }
+fn argument(rt: &impl Env, i: usize, absent: u64) -> Word {
     let mut word = [0u8; WORD_SIZE];
-    let length = os::arg(i, &mut word);
-    number(&word[..length])
+    match rt.arg(i, &mut word) {
+        Ok(length) => number(&word[..length]),
+        Err(FillError::NotPresent) => Word::Number(absent),
+        Err(FillError::TooLong) => Word::Other,
+    }
 }
 
-pub fn read() -> Bounds {
-    if 3 < os::arg_count() {
+// Whether there is an argument i.
+fn is_given(rt: &impl Env, i: usize) -> bool {
+    let mut word = [0u8; WORD_SIZE];
+    match rt.arg(i, &mut word) {
+        Err(FillError::NotPresent) => false,
+        _ => true,
+    }
+}
+
+pub fn read(rt: &impl Env) -> Bounds {
+    if is_given(rt, 3) {
         return Bounds::Malformed;
     }
-    match argument(1, STEPS) {
+    match argument(rt, 1, STEPS) {
         Word::Other => Bounds::Malformed,
-        Word::Number(steps) => match argument(2, bulk::WORKSPACE_LIMIT as u64) {
+        Word::Number(steps) => match argument(rt, 2, bulk::WORKSPACE_LIMIT as u64) {
             Word::Other => Bounds::Malformed,
             Word::Number(workspace) => Bounds::Are { steps, workspace },
         },

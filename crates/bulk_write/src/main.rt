@@ -1,23 +1,24 @@
+#![tactic(auto)]
+
 // Writes the stream on standard input canonically to standard output, or prints its refusal.
 // Assumes the contracts that the kit states of C's `read` and `write`.
 use bulk::Answer;
-use libc::{STDIN_FILENO, STDOUT_FILENO};
 
-fn rewrite(stream: &[u8], table: &mut [u32], output: &mut [u8]) {
+fn rewrite(rt: &impl Print, stream: &[u8], table: &mut [u32], output: &mut [u8]) {
     match bulk::write(stream, table, output) {
-        Answer::Refused { number, place } => text::print_refusal(number, place),
+        Answer::Refused { number, place } => text::print_refusal(rt, number, place),
         Answer::Accepted { given } => {
-            io::write_all(STDOUT_FILENO, &output[0..given]);
+            let _ = rt.write_all(&output[0..given]);
         }
     }
 }
 
-fn main() {
+fn main(rt: HostRuntime) {
     // A byte more than a stream may have, so that one that is too long is seen to be.
     let mut stream = [0u8; bulk::STREAM_LIMIT + 1];
     let mut table = [0u32; bulk::TABLE_LIMIT];
     // No canonical stream is longer than its stream.
     let mut output = [0u8; bulk::STREAM_LIMIT];
-    let length = io::read_full(STDIN_FILENO, &mut stream);
-    rewrite(&stream[..length], &mut table, &mut output);
+    let length = text::read_full(&mut rt.stdin(), &mut stream);
+    rewrite(&rt, &stream[..length], &mut table, &mut output);
 }

@@ -6,7 +6,7 @@ use lib.Dec.{eqb}
 use borrow.Author.Tests.{eq-eqb, ne_eqb}
 use native.Mathlib.Decide.{ℕ_discrete}
 use native.Mathlib.Omega.{arith}
-use Rattle.spec.specs.Expr.{if◌then◌else◌}
+use Rattle.spec.specs.Expr.{when◌then◌else◌}
 use Rattle.spec.specs.Bytecode.{Operator, Around, all}
 use Rattle.rows.specs.Rows.{mark, link, next, ReferenceAt}
 use Rattle.bytecode.specs.Numbers.{Changed, Unlisted}
@@ -33,7 +33,7 @@ module _ {s t t' : List ℕ} {end : ℕ} {node node' : ℕ → ℕ} (c : Steady 
 
   -- what a key is outside, by its own reference
   outside_stays : (outer : List Operator) (r k : ℕ) → ((node k ≡ r → ⊥) → mark t' r ≡ mark t r)
-      → role_of outer k ≡ (if eqb (node k) r then Operand else role_by (mark t r)) → role_of outer k ≡ (if eqb (node k) r then Operand else role_by (mark t' r))
+      → role_of outer k ≡ (when eqb (node k) r then Operand else role_by (mark t r)) → role_of outer k ≡ (when eqb (node k) r then Operand else role_by (mark t' r))
   outside_stays outer r k m e = elim (ℕ_discrete (node k) r) [
     | yes z ↦ e ∙ rw (eq-eqb (node k) r z)
     | no z ↦ e ∙ rw (ne_eqb (node k) r z) (ap role_by (sym (m z)))

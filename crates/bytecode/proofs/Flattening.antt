@@ -7,7 +7,7 @@ use native.Mathlib.Omega.{arith}
 use lib.ListN.{length}
 use lib.Dec.{ltb, leb, eqb}
 use borrow.Author.Tests.{eqb-true, lt-ltb, le-leb, leb-true, le-ltb}
-use Rattle.spec.specs.Expr.{if◌then◌else◌, some, nil, array, int, ref}
+use Rattle.spec.specs.Expr.{when◌then◌else◌, some, nil, array, int, ref}
 use Rattle.spec.specs.Reading.{row_width}
 use Rattle.spec.specs.Nodes.{core, plain as plain_word, is, among, word, Node, leaf, branch, bytecode, Nodes, empty, cons, becomes, row, elements, head_word}
 use Rattle.spec.specs.Bytecode.{prefix, prefix*, is_name, led_by_name, Operator, listed, operators, Around, all, Part, nodes, transformed_all, gathered, placed, result_of, outcome, linked, transform, parts_of, short, node_depth}
@@ -21,7 +21,7 @@ use Rattle.rows.proofs.Nodes.{written_whole}
 use Rattle.rows.proofs.Outcomes.{written_rows}
 
 pub clash : {A : Type 0} → false ≡ true → A
-clash e = impossible (ap (λ (b : Bool). if b then 1 else 0) e)
+clash e = impossible (ap (λ (b : Bool). when b then 1 else 0) e)
 
 both_true : (a b : Bool) → (a && b) ≡ true → (a ≡ true) × (b ≡ true)
 both_true true b q = (refl, q)
@@ -90,7 +90,7 @@ pub data Flattens (around : Around) (h : Node) : Nodes → ℕ → List Operator
 
 -- the row of the flat list, by the head's row and the mark
 abbrev pub flat_from : List ℕ → ℕ → ℕ → ℕ
-flat_from t r k = if eqb k 2 then next t (r + 1) else r + 1
+flat_from t r k = when eqb k 2 then next t (r + 1) else r + 1
 
 pub flattens_to : (r : ℕ) (around : Around) (h : Node) {gs : Nodes} {k : ℕ} {os : List Operator} {around' : Around} {es : Nodes} → Flattens around h gs k os around' es
     → LedPlainly (cons h gs) × (transform (branch r (cons h gs)) around ≡ bytecode r (cons h gs) (outcome r os around' (linked (parts_of es))))
@@ -186,7 +186,7 @@ module _ (s t : List ℕ) (r first end : ℕ) (around : Around) where
   result_asked os empty w h n = (refl, refl, (λ y. absurd (none y)), λ y. n)
     where
       none : single t flat_form ≡ true → ⊥
-      none y = let z : ◌≡◌ {A = ℕ} 0 1 = ap (λ (c : Bool). if c then 1 else 0) (rw (le-ltb first end (omega (arith, n))) at y) in omega (arith, z)
+      none y = let z : ◌≡◌ {A = ℕ} 0 1 = ap (λ (c : Bool). when c then 1 else 0) (rw (le-ltb first end (omega (arith, n))) at y) in omega (arith, z)
   result_asked os (cons e es) w h n = more_result os e es w.2 h n
 
 -- what a bytecode form that is fine becomes
@@ -205,7 +205,7 @@ outcome_asked s t place own around h {k = k} {os = os} {around' = around'} {es =
 pub refusal_small : (r : ℕ) (os : List Operator) (es : Nodes) → refusal r os es < 63
 refusal_small r os es = go (short os 0 es || led_by_name (elements (result r os es))) (ltb 64 (node_depth (result r os es)))
   where
-    go : (b c : Bool) → (if b then 22 else if c then 6 else 0) < 63
+    go : (b c : Bool) → (when b then 22 else when c then 6 else 0) < 63
     go true c = omega arith
     go false true = omega arith
     go false false = omega arith

@@ -5,7 +5,7 @@ use mathlib.Core.List.{List}
 use mathlib.Core.Bool.{Bool, true, false, not, ◌||◌}
 use lib.ListN.{length}
 use native.Mathlib.Omega.{arith}
-use Rattle.spec.specs.Expr.{if◌then◌else◌}
+use Rattle.spec.specs.Expr.{when◌then◌else◌}
 use Rattle.spec.specs.Reading.{row_width}
 use Rattle.spec.specs.Nodes.{Node, Nodes, cons}
 use Rattle.spec.specs.Bytecode.{Operator, if_operator, short}
@@ -127,7 +127,7 @@ RoleAt s t a r role = (os : List Operator) (e : Node) → Tells s t a os → Wri
 pub record Passing (s : List ℕ) (a : Arities) (t : List ℕ) (r end p : ℕ) : Type 0 where
   pub arity : ℕ
   pub role : RoleAt s t a r (As arity)
-  pub past : (s : List ℕ) (es : Nodes) → WrittenAll s t (next t r) end es → p ≡ (if lacks arity es then end + 1 else beyond t arity (next t r))
+  pub past : (s : List ℕ) (es : Nodes) → WrittenAll s t (next t r) end es → p ≡ (when lacks arity es then end + 1 else beyond t arity (next t r))
 
 module _ {s t : List ℕ} {a : Arities} {first end : ℕ} {t' : List ℕ} {r : ℕ} (h : Held s t a first end t' r) where
   pub held_one : Gathering s t' first end h.operators h.nodes r
@@ -159,14 +159,14 @@ module _ {s t : List ℕ} {a : Arities} {first end : ℕ} {t' : List ℕ} {r : �
       past_end : (es : Nodes) → WrittenAll s t' (next t' r) end es → end < p → lacks o.arity es ≡ true
       past_end es w k = go (lacks o.arity es) refl (o.past s es w)
         where
-          go : (b : Bool) → lacks o.arity es ≡ b → p ≡ (if b then end + 1 else beyond t' o.arity (next t' r)) → b ≡ true
+          go : (b : Bool) → lacks o.arity es ≡ b → p ≡ (when b then end + 1 else beyond t' o.arity (next t' r)) → b ≡ true
           go true e q = refl
           go false e q = absurd (omega (arith, k, q, written_order s t' _ end _ (beyond_written s t' o.arity (next t' r) end es w e)))
 
       within_end : (es : Nodes) → WrittenAll s t' (next t' r) end es → p ≤ end → (lacks o.arity es ≡ false) × (p ≡ beyond t' o.arity (next t' r))
       within_end es w k = go (lacks o.arity es) (o.past s es w)
         where
-          go : (b : Bool) → p ≡ (if b then end + 1 else beyond t' o.arity (next t' r)) → (b ≡ false) × (p ≡ beyond t' o.arity (next t' r))
+          go : (b : Bool) → p ≡ (when b then end + 1 else beyond t' o.arity (next t' r)) → (b ≡ false) × (p ≡ beyond t' o.arity (next t' r))
           go true q = absurd (omega (arith, k, q))
           go false q = (refl, q)
 

@@ -7,7 +7,7 @@ use mathlib.Core.Bool.{true, false, ◌||◌}
 use native.Mathlib.Decide.{ℕ_discrete, dec_lt}
 use native.Mathlib.Omega.{arith}
 use lib.ListN.{length}
-use Rattle.spec.specs.Expr.{if◌then◌else◌}
+use Rattle.spec.specs.Expr.{when◌then◌else◌}
 use Rattle.spec.specs.Reading.{row_width}
 use Rattle.spec.specs.Nodes.{Node, leaf, branch, bytecode, Nodes, empty, cons}
 use Rattle.spec.specs.Bytecode.{Operator, if_operator, short}
@@ -72,11 +72,11 @@ module _ {s t : List ℕ} {first end n : ℕ} {es : Nodes} where
   passed_none h = record { rest = es; written = h; lacking = refl; behind = refl }
 
   module _ {r left : ℕ} (p : Passed s t first end n es r left) where
-    pub passed_all : left ≤ 0 → r ≡ (if lacks n es then end + 1 else beyond t n first)
+    pub passed_all : left ≤ 0 → r ≡ (when lacks n es then end + 1 else beyond t n first)
     unfolding lacks beyond
     passed_all l = let z : left ≡ 0 = omega arith in rw (← p.lacking, ← p.behind, z)
 
-    pub passed_few : 0 < left → end ≤ r → end + 1 ≡ (if lacks n es then end + 1 else beyond t n first)
+    pub passed_few : 0 < left → end ≤ r → end + 1 ≡ (when lacks n es then end + 1 else beyond t n first)
     passed_few l g =
         let none : lacks n es ≡ true = sym p.lacking ∙ ap (lacks left) (written_done s t r end p.rest p.written g) ∙ lacks_none left l in
         rw none

@@ -7,7 +7,7 @@ use lib.Dec.{eqb}
 use borrow.Author.Tests.{eq-eqb, ne_eqb, le-ltb}
 use native.Mathlib.Decide.{ℕ_discrete, dec_lt}
 use native.Mathlib.Omega.{arith}
-use Rattle.spec.specs.Expr.{if◌then◌else◌, ref}
+use Rattle.spec.specs.Expr.{when◌then◌else◌, ref}
 use Rattle.spec.specs.Reading.{row_width}
 use Rattle.spec.specs.Bytecode.{Operator}
 use Rattle.rows.specs.Rows.{kind, mark, link, next, LeafAt, ReferenceAt, key_of}
@@ -201,7 +201,7 @@ hang {s} {t} {u} {t'} {tree} {row} {key} {m} {last} {bit} x free w below high a 
 
 -- where a tree has each key, with one more
 abbrev pub adding : (ℕ → ℕ) → ℕ → ℕ → ℕ → ℕ
-adding node key row k = if eqb k key then row else node k
+adding node key row k = when eqb k key then row else node k
 
 pub adding_new : (node : ℕ → ℕ) (key row : ℕ) → adding node key row key ≡ row
 adding_new node key row = rw (eq-eqb key key refl)

@@ -6,7 +6,7 @@ use mathlib.Core.Bool.{Bool, true, false, ◌&&◌}
 use lib.Dec.{eqb}
 use borrow.Author.Tests.{eq-eqb, eqb-true}
 use native.Mathlib.Omega.{arith}
-use Rattle.spec.specs.Expr.{if◌then◌else◌, nil, array, int, ref}
+use Rattle.spec.specs.Expr.{when◌then◌else◌, nil, array, int, ref}
 use Rattle.spec.specs.Nodes.{Node, leaf, branch, bytecode}
 use Rattle.spec.specs.Bytecode.{Operator, if_listed, if_operator}
 use Rattle.laws.specs.Demands.{Bytes}
@@ -29,8 +29,8 @@ listed_append [] ps m n f other = refl
 listed_append (o ∷ os) ps m n f other = go (eqb o.marker m && eqb o.name n) (listed_append os ps m n f other)
   where
     go : (b : Bool) → if_listed (os ++ ps) m n f other ≡ by_role f (if_listed ps m n f other) (if_listed os m n (λ k. As k) Operand)
-        → (if b then f o.arity else if_listed (os ++ ps) m n f other)
-        ≡ by_role f (if_listed ps m n f other) (if b then As o.arity else if_listed os m n (λ k. As k) Operand)
+        → (when b then f o.arity else if_listed (os ++ ps) m n f other)
+        ≡ by_role f (if_listed ps m n f other) (when b then As o.arity else if_listed os m n (λ k. As k) Operand)
     go true e = refl
     go false e = e
 
@@ -52,7 +52,7 @@ module _ (o : Operator) (k : ℕ) (small : o.name < 256) where
   unfolding if_listed
   one_not h = go (eqb o.marker (k / 256)) (eqb o.name (k % 256)) refl refl
     where
-      go : (a b : Bool) → eqb o.marker (k / 256) ≡ a → eqb o.name (k % 256) ≡ b → (if a && b then As o.arity else Operand) ≡ Operand
+      go : (a b : Bool) → eqb o.marker (k / 256) ≡ a → eqb o.name (k % 256) ≡ b → (when a && b then As o.arity else Operand) ≡ Operand
       go true true p q = absurd (h (omega (arith, eqb-true o.marker (k / 256) p, eqb-true o.name (k % 256) q)))
       go true false p q = refl
       go false b p q = refl

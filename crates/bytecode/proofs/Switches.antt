@@ -8,7 +8,7 @@ use lib.Dec.{eqb}
 use borrow.Author.Tests.{eq-eqb, ne_eqb}
 use native.Mathlib.Decide.{ℕ_discrete}
 use native.Mathlib.Omega.{arith}
-use Rattle.spec.specs.Expr.{if◌then◌else◌}
+use Rattle.spec.specs.Expr.{when◌then◌else◌}
 use Rattle.spec.specs.Reading.{row_width}
 use Rattle.spec.specs.Bytecode.{Operator, Around, all}
 use Rattle.laws.proofs.Basics.{impossible}
@@ -345,7 +345,7 @@ module _ {s t : List ℕ} {to list : ℕ} {os : List Operator} {around : Around}
           marked = kept_row.2
 
           -- what the key is outside is told by the first now
-          told : (if eqb first row then Operand else role_by (mark t' row)) ≡ role_by (mark t'' first)
+          told : (when eqb first row then Operand else role_by (mark t' row)) ≡ role_by (mark t'' first)
           told = elim (ℕ_discrete first row) [
             | yes z ↦ rw (x.first_is, eq-eqb first row z)
             | no z ↦ rw (x.first_is, ne_eqb first row z)

@@ -1,7 +1,7 @@
 -- The flat list in the table: the heights of its forms, which rows are linked, and the expressions that it is gathered to. Document 02, §1.
 -- Assumes nothing.
 use Rattle.std.specs.Prelude.{ℕ, zero, suc, ◌+◌, ◌≤◌, ◌<◌, ◌≡◌, List, Bool, true, false, eqb, ltb}
-use Rattle.spec.specs.Expr.{if◌then◌else◌, Atom}
+use Rattle.spec.specs.Expr.{when◌then◌else◌, Atom}
 use Rattle.spec.specs.Nodes.{Node, leaf, branch, Nodes, empty, cons, elements}
 use Rattle.spec.specs.Bytecode.{Operator, led_by_name, if_operator, node_depth, nodes_deepest}
 use Rattle.rows.specs.Rows.{kind, mark, link, next, ReferenceAt, WrittenAt, WrittenAll, is_made, behind}
@@ -27,7 +27,7 @@ pub record Measured (s t : List ℕ) (from to : ℕ) : Type 0 where
 
 -- the height of what is written at a row, by its mark
 abbrev pub height : List ℕ → ℕ → ℕ
-height t r = if eqb (kind t r) 1 then mark t r else 0
+height t r = when eqb (kind t r) 1 then mark t r else 0
 
 -- only marks are put, or only links
 abbrev pub SameLinks : List ℕ → List ℕ → Type 0
@@ -101,4 +101,4 @@ Plain (Branch f) = f.flat ≡ false
 
 -- 22: "a result headed by a function or bytecode name"; "then 6, a result of over 64 forms one inside another"; 0 for none
 abbrev pub judged : Node → ℕ
-judged e = if led_by_name (elements e) then 22 else if ltb 64 (node_depth e) then 6 else 0
+judged e = when led_by_name (elements e) then 22 else when ltb 64 (node_depth e) then 6 else 0

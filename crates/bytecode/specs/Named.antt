@@ -1,7 +1,7 @@
 -- Trees of references in the table, by the bits of their keys; the operators that an arity list names, and the lists around a row. Document 02,
 -- §1. Assumes nothing.
 use Rattle.std.specs.Prelude.{ℕ, ◌/◌, ◌%◌, ◌+◌, ◌-◌, ◌*◌, ◌≤◌, ◌<◌, ◌≡◌, List, [], ◌∷◌, Bool, true, false, length, eqb, ltb}
-use Rattle.spec.specs.Expr.{if◌then◌else◌, ref}
+use Rattle.spec.specs.Expr.{when◌then◌else◌, ref}
 use Rattle.spec.specs.Reading.{row_width}
 use Rattle.spec.specs.Nodes.{Node, Nodes}
 use Rattle.spec.specs.Bytecode.{Operator, if_listed, Arities, listed, ill_formed, Around, all}
@@ -20,11 +20,11 @@ role_of os k = if_listed os (k / 256) (k % 256) (λ n. As n) Operand
 
 -- what a mark tells
 abbrev pub role_by : ℕ → Role
-role_by m = if ltb m 64 then Operand else As (m - 64)
+role_by m = when ltb m 64 then Operand else As (m - 64)
 
 -- what the reference at a row tells, 0 for none
 abbrev pub role_at : List ℕ → ℕ → Role
-role_at t r = if eqb r 0 then Operand else role_by (mark t r)
+role_at t r = when eqb r 0 then Operand else role_by (mark t r)
 
 -- Trees
 
@@ -74,7 +74,7 @@ pub record Lists (s t : List ℕ) (list to : ℕ) (os : List Operator) : Type 0 
 -- what a reference of a list inside those that name `outer` keeps: the tree of all has its key, not behind it; where it isn't that one itself,
 -- its mark tells what the key is outside
 abbrev pub Keeps : List ℕ → (ℕ → ℕ) → List Operator → ℕ → ℕ → Type 0
-Keeps t node outer r k = (0 < node k) × (node k ≤ r) × (63 ≤ mark t r) × (role_of outer k ≡ (if eqb (node k) r then Operand else role_by (mark t r)))
+Keeps t node outer r k = (0 < node k) × (node k ≤ r) × (63 ≤ mark t r) × (role_of outer k ≡ (when eqb (node k) r then Operand else role_by (mark t r)))
 
 -- such a list; each of its references keeps that
 pub record Entered (s t : List ℕ) (node : ℕ → ℕ) (list : ℕ) (os outer : List Operator) : Type 0 where
@@ -158,8 +158,8 @@ pub record Marked (t t' : List ℕ) : Type 0 where
 -- the marks of two rows change places; of one and the same, it tells no operator
 pub record Exchanged (t t' : List ℕ) (first row : ℕ) : Type 0 where
   pub marked : Marked t t'
-  pub first_is : mark t' first ≡ (if eqb first row then 63 else mark t row)
-  pub row_is : mark t' row ≡ (if eqb first row then 63 else mark t first)
+  pub first_is : mark t' first ≡ (when eqb first row then 63 else mark t row)
+  pub row_is : mark t' row ≡ (when eqb first row then 63 else mark t first)
   pub others : (r : ℕ) → (r ≡ first → ⊥) → (r ≡ row → ⊥) → mark t' r ≡ mark t r
 
 -- a reference is put below the last row of a search, with nothing below itself

@@ -1,6 +1,6 @@
 -- How far a stream is transformed, row after row: the arity lists around a row, and the lists that are left. Document 02, §1. Assumes nothing.
 use Rattle.std.specs.Prelude.{ℕ, suc, ◌+◌, ◌-◌, ◌≤◌, ◌<◌, ◌≡◌, List, [], ◌∷◌, true, eqb}
-use Rattle.spec.specs.Expr.{if◌then◌else◌}
+use Rattle.spec.specs.Expr.{when◌then◌else◌}
 use Rattle.spec.specs.Nodes.{Node, Nodes, tail}
 use Rattle.spec.specs.Bytecode.{prefix*, is_name, Operator, Around, listed, ill_formed, Arities, nodes_deepest}
 use Rattle.spec.proofs.Flat.{refusal}
@@ -113,7 +113,7 @@ pub data Judged (s t : List ℕ) (form : Form) (list k : ℕ) (os : List Operato
   refused : (w : ℕ) → refusal form.first os es ≡ suc w → mark t form.first ≡ suc w → AroundAt s t form.end list outer
       → Judged s t form list k os outer around es (record { row = form.end; around = list })
   fine : (first nearest : ℕ) → refusal form.first os es ≡ 0 → mark t form.first ≡ k
-      → first ≡ (if eqb k 2 then next t (form.first + 1) else form.first + 1) → form.first < first
+      → first ≡ (when eqb k 2 then next t (form.first + 1) else form.first + 1) → form.first < first
       → Framed s t (flat_frame form first os es around nearest) → AroundAt s t first nearest around → Descends t form.end nearest around list outer
       → Judged s t form list k os outer around es (record { row = first; around = nearest })
 

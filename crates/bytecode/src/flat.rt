@@ -1,6 +1,6 @@
 // A flat list: its operators are linked to the row behind their operands, and the result is judged.
 ghost use Rattle.std.specs.Prelude.{◌≡◌, List, true, false, not, ℕ, ◌+◌, ◌≤◌, ◌<◌};
-ghost use Rattle.spec.specs.Expr.{if◌then◌else◌};
+ghost use Rattle.spec.specs.Expr.{when◌then◌else◌};
 ghost use Rattle.spec.specs.Nodes.{Node as Expression, Nodes};
 ghost use Rattle.spec.specs.Bytecode.{Operator as Listed, short};
 ghost use Rattle.spec.proofs.Flat.{refusal};
@@ -17,7 +17,7 @@ use rows::words::Core;
 // The row behind n expressions; past the end if there are fewer.
 fn skip(table: &[u32], first: usize, end: usize, n: usize) -> usize
     requires { (end ≤ 65536) × ((s : List ℕ) × (es : Nodes) × WrittenAll s table.now first end es) }
-    ensures { (s : List ℕ) (es : Nodes) → WrittenAll s table.now first end es → result ≡ (if lacks n es then end + 1 else beyond table.now n first) }
+    ensures { (s : List ℕ) (es : Nodes) → WrittenAll s table.now first end es → result ≡ (when lacks n es then end + 1 else beyond table.now n first) }
 {
     let mut row = first;
     let mut left = n;

@@ -1,6 +1,6 @@
 // All bytecode forms of a stream, those outside first.
 ghost use Rattle.std.specs.Prelude.{◌≡◌, List, false, ℕ, ◌+◌, ◌*◌, ◌≤◌, ◌<◌, length, eqb};
-ghost use Rattle.spec.specs.Expr.{if◌then◌else◌};
+ghost use Rattle.spec.specs.Expr.{when◌then◌else◌};
 ghost use Rattle.spec.specs.Reading.{row_width};
 ghost use Rattle.spec.specs.Nodes.{Nodes};
 ghost use Rattle.spec.specs.Bytecode.{Around, all, transform_all};
@@ -26,7 +26,7 @@ struct Scan {
 // The mark of a bytecode form: its refusal, or which of its elements are the flat list.
 fn put_verdict(table: &mut [u32], form: Form, refusal: u32, fine: u32)
     requires { (row_width * form.first + row_width ≤ length table.old) × (refusal < 128) × (fine < 128) }
-    ensures { Changed table.old table.new form.first (form.first + 1) × (mark table.new form.first ≡ (if eqb refusal 0 then fine else refusal)) × (link table.new form.first ≡ link table.old form.first) }
+    ensures { Changed table.old table.new form.first (form.first + 1) × (mark table.new form.first ≡ (when eqb refusal 0 then fine else refusal)) × (link table.new form.first ≡ link table.old form.first) }
 {
     if refusal == 0 {
         numbers::put_mark(table, form.first, fine);

@@ -8,7 +8,7 @@ use lib.ListN.{length, get_or, set}
 use lib.Dec.{eqb}
 use borrow.Author.Tests.{eqb-true, eqb-false}
 use native.Mathlib.Omega.{arith}
-use Rattle.spec.specs.Expr.{if◌then◌else◌, Atom, atom, form, Exprs, none, only}
+use Rattle.spec.specs.Expr.{when◌then◌else◌, Atom, atom, form, Exprs, none, only}
 use Rattle.spec.specs.Nodes.{Node, leaf, branch, bytecode, Nodes, Outcome, becomes, unnumbered_all, elements}
 use Rattle.spec.specs.Runs.{Held, ceased, hold}
 use Rattle.spec.specs.Plan.{Definition, Namespace, Within, Here, Finish, Plan, refuse, leave, associate, define_function, inside, plan}
@@ -295,7 +295,7 @@ module _ {s t w args : List ℕ} {v : View} {st : State} {at : Seen} {place : �
 module _ {s t w args : List ℕ} {bound : ℕ} {v : View} {st : State} {at : Seen} {node : Ranged} {place : ℕ} {e : Node} {h : Here}
     (b : Beginning s t bound w args v st at node place e h) where
   -- "16", at its start
-  pub begin_none : (run : Call) (number r : ℕ) → (if eqb st.steps 0 then Refused 16 place else Done (stepped st)) ≡ Refused number r
+  pub begin_none : (run : Call) (number r : ℕ) → (when eqb st.steps 0 then Refused 16 place else Done (stepped st)) ≡ Refused number r
       → hold st.steps st.room (eval run e h) ≡ ceased number r
   begin_none run number r =
       by_test (λ (out : Out). out ≡ Refused number r → hold st.steps st.room (eval run e h) ≡ ceased number r) (eqb st.steps 0)
@@ -303,7 +303,7 @@ module _ {s t w args : List ℕ} {bound : ℕ} {v : View} {st : State} {at : See
       hold_eval_none run h e st.steps st.room (eqb-true st.steps 0 t) ∙ cc (element_place b.is)) (λ t q. impossible (cc))
 
 -- it is taken
-pub begin_some : (st : State) (place : ℕ) {st' : State} → (if eqb st.steps 0 then Refused 16 place else Done (stepped st)) ≡ Done st' → (st' ≡ stepped st) × (0 < st.steps)
+pub begin_some : (st : State) (place : ℕ) {st' : State} → (when eqb st.steps 0 then Refused 16 place else Done (stepped st)) ≡ Done st' → (st' ≡ stepped st) × (0 < st.steps)
 begin_some st place {st'} =
     by_test (λ (out : Out). out ≡ Done st' → (st' ≡ stepped st) × (0 < st.steps)) (eqb st.steps 0) (λ t q. impossible (cc))
     (λ t q. (cc, omega (arith, eqb-false st.steps 0 t)))

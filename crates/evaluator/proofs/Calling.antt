@@ -7,7 +7,7 @@ use mathlib.Core.Bool.{false}
 use native.Mathlib.Omega.{arith}
 use lib.ListN.{length, take, drop}
 use lib.Seq.{slice}
-use Rattle.spec.specs.Expr.{if◌then◌else◌, form, Exprs, only, size, deepest, canonical}
+use Rattle.spec.specs.Expr.{when◌then◌else◌, form, Exprs, only, size, deepest, canonical}
 use Rattle.spec.specs.Nodes.{Nodes}
 use Rattle.spec.specs.Runs.{Held, ceased, hold}
 use Rattle.spec.specs.Plan.{Scope as Definitions, Here, Finish, as_call}
@@ -109,23 +109,23 @@ module _ {s t : List ℕ} {bound codes : ℕ} {w : List ℕ} {u v : View} {st : 
         })
 
     module _ (row : ℕ) where
-      call_held_is : call_held row ≡ and_hold body_held (λ left steps work. hold steps work (complete row (if one_value body then left.values else only (form left.values)) h))
+      call_held_is : call_held row ≡ and_hold body_held (λ left steps work. hold steps work (complete row (when one_value body then left.values else only (form left.values)) h))
       call_held_is =
           let fewer : codes ≡ suc (codes - 1) = omega (arith, k.enterable.entered) in
           ap (λ (n : ℕ). hold st.steps st.room (finish (run_code n) row h (as_call body behind) vs)) fewer
-          ∙ hold_code (codes - 1) row body (in_body h behind vs) refl (λ (us : Exprs). complete row (if one_value body then us else only (form us)) h) st.steps st.room
+          ∙ hold_code (codes - 1) row body (in_body h behind vs) refl (λ (us : Exprs). complete row (when one_value body then us else only (form us)) h) st.steps st.room
 
       pub call_stopped : (n r : ℕ) → body_held ≡ ceased n r → call_held row ≡ ceased n r
       call_stopped n r e = call_held_is ∙ rw e
 
       pub call_returns : {w₁ : List ℕ} {st₁ : State} (o : Over w w₁ st body_held st₁) (w₂ : List ℕ) (sc : Scope) (out : Out)
-          → Completed w₁ w₂ st₁ start row (if one_value body then o.left.values else only (form o.left.values)) out
+          → Completed w₁ w₂ st₁ start row (when one_value body then o.left.values else only (form o.left.values)) out
           → LeftOut s t w w₂ (λ (x : Scope). u) sc (with_top st st.room start) (call_held row) sc out
       call_returns {w₁} {st₁} o w₂ sc out done =
           let us : Exprs = o.left.values in
           left_from s t w w₁ w₂ (λ (x : Scope). u) sc sc (with_top st st.room start) st₁ out
           (untouched_less start st.floor k.finishing.stand.order (omega arith) o.others) o.floor (call_held_is ∙ rw o.is)
-          (completed_left s t w₁ w₂ (λ (x : Scope). u) sc sc (with_top st₁ st₁.room start) st₁ row (if one_value body then us else only (form us)) h out
+          (completed_left s t w₁ w₂ (λ (x : Scope). u) sc sc (with_top st₁ st₁.room start) st₁ row (when one_value body then us else only (form us)) h out
           refl (ran o).fitting (omega (arith, k.finishing.stand.order, o.stand.order)) (extends_none sc) (rw o.floor (sees_kept k.sees o.others)) done)
 
 -- A form's values as the arguments of a code

@@ -3,15 +3,15 @@
 use Prim.Native.Nat.{ℕ, ◌+◌, ◌-◌, ◌*◌, ◌/◌, ◌≤◌, ◌<◌, min}
 use mathlib.Core.Path.{◌≡◌, refl, sym, ap, ◌∙◌}
 use mathlib.Core.List.{List, [], ◌∷◌, ◌++◌}
-use mathlib.Core.Bool.{Bool, true, false, not, ◌&&◌}
+use mathlib.Core.Bool.{Bool, true, false, not}
 use lib.ListN.{length, take, drop, length-append, length-take, take-append-drop}
 use lib.Seq.{take-append-le}
 use borrow.Author.Tests.{not-false}
 use native.Mathlib.Decide.{dec_lt}
 use native.Mathlib.Omega.{arith}
-use Rattle.spec.specs.Expr.{if◌then◌else◌, same, int, ref, Expr, atom, form, Exprs, none, more, rows, rows_all, depth, deepest, marker_bytes, canonical}
+use Rattle.spec.specs.Expr.{when◌then◌else◌, same, int, ref, Expr, atom, form, Exprs, none, more, rows, rows_all, depth, deepest, marker_bytes, canonical}
 use Rattle.spec.specs.Reading.{Row, row_width, readable}
-use Rattle.spec.specs.Nodes.{core, version, Node, bytecode, Nodes, empty, number, number_all, elements, markers_all}
+use Rattle.spec.specs.Nodes.{core, version, Node, Nodes, empty, number, number_all, elements, markers_all}
 use Rattle.spec.specs.Bytecode.{node_depth, nodes_deepest, transform_all}
 use Rattle.spec.specs.Runs.{End, stopped, give, Held, reached, ceased, hold_events, hold, forget, cut, steps_in}
 use Rattle.spec.specs.Evaluation.{Left, run_code, start, run, result}
@@ -270,11 +270,11 @@ module _ (s t w out : List ℕ) (steps : ℕ) (rs : List Row) (es : Exprs) (read
   lent = record { table = t; work = length w; output = out; steps = steps }
 
   -- a refusal says nothing of the workspace
-  pub answer_version : not (same (take 6 s) version_bytes) ≡ true → (number : ℕ) → number ≡ (if is_versioned es then 10 else 9)
+  pub answer_version : not (same (take 6 s) version_bytes) ≡ true → (number : ℕ) → number ≡ (when is_versioned es then 10 else 9)
       → Evaluated s t w w out steps rs (Refused number 0)
   answer_version h number q = rw q (go (is_versioned es) refl)
     where
-      go : (v : Bool) → is_versioned es ≡ v → Evaluated s t w w out steps rs (Refused (if v then 10 else 9) 0)
+      go : (v : Bool) → is_versioned es ≡ v → Evaluated s t w w out steps rs (Refused (when v then 10 else 9) 0)
       go true v = (omega arith, evaluation_answered s lent (wrong_version rs es reads (ap not v) h))
       go false v = (omega arith, evaluation_answered s lent (unversioned rs es reads (ap not v)))
 

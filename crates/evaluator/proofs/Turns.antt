@@ -1,6 +1,6 @@
 -- How a list goes on: what is known before each of its expressions, and what one expression leaves of it, on lists and numbers alone.
 -- Document 01: "Evaluation goes depth first, left to right, over a list of definitions". Assumes nothing.
-use Prim.Native.Nat.{ℕ, ◌+◌, ◌≤◌, ◌<◌}
+use Prim.Native.Nat.{ℕ, ◌≤◌, ◌<◌}
 use mathlib.Core.Path.{◌≡◌, refl, sym, ap, ◌∙◌, subst}
 use mathlib.Core.List.{List, ◌++◌, append-nil}
 use mathlib.Core.Bool.{Bool, true, false, or_comm}

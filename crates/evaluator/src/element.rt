@@ -1,6 +1,6 @@
 // One expression: its step, its rule, and what it leaves. Nothing here evaluates what is inside it. Document 01: "Steps", refusal 16.
 ghost use Rattle.std.specs.Prelude.{◌≡◌, List, false, ℕ, ◌<◌, length, get_or};
-ghost use Rattle.spec.specs.Expr.{if◌then◌else◌, form, Exprs, only};
+ghost use Rattle.spec.specs.Expr.{when◌then◌else◌, form, Exprs, only};
 ghost use Rattle.spec.specs.Nodes.{Node as Expression, bytecode, Nodes, becomes};
 ghost use Rattle.spec.specs.Runs.{hold};
 ghost use Rattle.spec.specs.Plan.{Here as Known, Finish};
@@ -284,7 +284,7 @@ pub fn returned(
     requires nodes_at { (es : Nodes) × NodesAt s.now table.now false body.first body.end es }
     requires ran { (vs : Exprs) × Ran w.old state start from vs }
     ensures { (vs : Exprs) (es : Nodes) → Ran w.old state start from vs → NodesAt s.now table.now false body.first body.end es
-        → Completed w.old w.new state start row (if one_value es then vs else only (form vs)) result }
+        → Completed w.old w.new state start row (when one_value es then vs else only (form vs)) result }
 {
     if body.is_single(s, table) {
         let top = state.top;

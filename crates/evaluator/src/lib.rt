@@ -5,7 +5,7 @@ mod element;
 mod run;
 
 ghost use Rattle.std.specs.Prelude.{◌≡◌, List, true, ℕ, ◌*◌, min, ◌≤◌, ◌<◌, length, take};
-ghost use Rattle.spec.specs.Expr.{if◌then◌else◌, same, Exprs};
+ghost use Rattle.spec.specs.Expr.{when◌then◌else◌, same, Exprs};
 ghost use Rattle.spec.specs.Reading.{Row, row_width, readable};
 ghost use Rattle.spec.specs.Calls.{filled, reading, is_versioned, version_bytes};
 ghost use Rattle.rows.specs.Rows.{cell};
@@ -64,7 +64,7 @@ fn has_version(s: &[u8]) -> bool
 // The refusal of a stream that doesn't begin with version 1.0.
 fn wrong_version(s: &[u8], table: &[u32], rows: usize) -> u32
     requires { HasRead s.now table.now rows }
-    ensures { (t : List ℕ) (rs : List Row) (es : Exprs) → reading s.now t ≡ readable rs es → result ≡ (if is_versioned es then 10 else 9) }
+    ensures { (t : List ℕ) (rs : List Row) (es : Exprs) → reading s.now t ≡ readable rs es → result ≡ (when is_versioned es then 10 else 9) }
 {
     if is_versioned(s, table, rows) {
         return 10;

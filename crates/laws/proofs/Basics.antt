@@ -3,13 +3,13 @@ use Prim.Native.Nat.{ℕ}
 use mathlib.Core.Path.{◌≡◌, refl}
 use mathlib.Core.Bool.{Bool, true, false, ◌||◌}
 use native.Mathlib.Omega.{arith}
-use Rattle.spec.specs.Expr.{if◌then◌else◌}
+use Rattle.spec.specs.Expr.{when◌then◌else◌}
 
 pub impossible : {A : Type 0} → ◌≡◌ {A = ℕ} 0 1 → A
 impossible e = absurd (omega arith)
 
 -- what holds of both branches, each with what the test says there, holds of the choice
-pub by_test : {A : Type 0} (P : A → Type 0) (b : Bool) {x y : A} → (b ≡ true → P x) → (b ≡ false → P y) → P (if b then x else y)
+pub by_test : {A : Type 0} (P : A → Type 0) (b : Bool) {x y : A} → (b ≡ true → P x) → (b ≡ false → P y) → P (when b then x else y)
 by_test P true f g = f refl
 by_test P false f g = g refl
 

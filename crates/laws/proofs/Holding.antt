@@ -8,7 +8,7 @@ use lib.ListN.{length, drop, get_or}
 use lib.Dec.{ltb, eqb}
 use borrow.Author.Tests.{lt-ltb, le-ltb, ne_eqb}
 use native.Mathlib.Omega.{arith}
-use Rattle.spec.specs.Expr.{if◌then◌else◌, Exprs, none, append, deepest, canonical}
+use Rattle.spec.specs.Expr.{when◌then◌else◌, Exprs, none, append, deepest, canonical}
 use Rattle.spec.specs.Nodes.{Node, leaf, branch, bytecode, Nodes, empty, cons, fails, becomes, number_all, row, elements, markers}
 use Rattle.spec.specs.Bytecode.{transform_all}
 use Rattle.spec.specs.Runs.{Event, step, charge, End, done, stopped, Run, give, stop, before, after, follow, bind, Held, reached, ceased, hold_events, hold, steps_in}
@@ -35,7 +35,7 @@ module _ {A B : Type 0} where
   and_hold_twice (ceased v r) f g = refl
 
   and_hold_if : (b : Bool) (v r : ℕ) (x : Held A) {y : Held B} (f : A → ℕ → ℕ → Held B) → y ≡ and_hold x f
-      → (if b then ceased v r else y) ≡ and_hold (if b then ceased v r else x) f
+      → (when b then ceased v r else y) ≡ and_hold (when b then ceased v r else x) f
   and_hold_if true v r x f h = refl
   and_hold_if false v r x f h = h
 

@@ -5,7 +5,7 @@ use mathlib.Core.Path.{◌≡◌, refl, sym, ap, ◌∙◌, subst}
 use mathlib.Core.List.{List, [], ◌∷◌, ◌++◌, append_assoc}
 use lib.ListN.{length, get_or}
 use native.Mathlib.Omega.{arith}
-use Rattle.spec.specs.Expr.{Atom, Expr, atom, form, Exprs, none, size}
+use Rattle.spec.specs.Expr.{Atom, Expr, atom, form, Exprs, none}
 use Rattle.spec.specs.Reading.{taken, read_atom, Token, opening, closing, whole, token, further, tokens, put, wrap, lists, Row, readable, read}
 use Rattle.laws.specs.Demands.{Bytes}
 use Rattle.laws.specs.Grammar.{SpellsAtom, Spells, SpellsAll}

@@ -9,7 +9,7 @@ use lib.Dec.{ltb}
 use borrow.Author.Tests.{ltb-true, ltb-false, le-ltb, lt-leb, ne_eqb}
 use native.Mathlib.Omega.{arith}
 use native.Mathlib.Numerals.{add-one}
-use Rattle.spec.specs.Expr.{if◌then◌else◌, Atom, Expr, atom, form, Exprs, none, more, rows, rows_all, depth, deepest, bytes, canonical}
+use Rattle.spec.specs.Expr.{when◌then◌else◌, Atom, Expr, atom, form, Exprs, none, more, rows, rows_all, depth, deepest, bytes, canonical}
 use Rattle.spec.specs.Reading.{Token, opening, closing, whole, token, tokens, Verdict, right, wrong, began, check, put, wrap, lists, Row, rows_of, refused, readable, by_verdict, read}
 use Rattle.laws.specs.Demands.{Bytes, meaning_of}
 use Rattle.laws.proofs.Basics.{impossible}
@@ -80,7 +80,7 @@ unfolding read
 read_readable s room rs es h = go (ltb 65536 (length s)) refl (check 0 room (tokens 0 0 s) 0 0) refl h
   where
     go : (b : Bool) → ltb 65536 (length s) ≡ b → (v : Verdict) → check 0 room (tokens 0 0 s) 0 0 ≡ v
-        → (if b then refused 1 0 else by_verdict v (tokens 0 0 s)) ≡ readable rs es → Readable s room rs es
+        → (when b then refused 1 0 else by_verdict v (tokens 0 0 s)) ≡ readable rs es → Readable s room rs es
     go true e v k h = impossible (cc)
     go false e right k h = record { short = ltb-false 65536 (length s) e; well = right_tokens 0 room (tokens 0 0 s) 0 0 k; rows_are = cc; means = cc }
     go false e (wrong w p) k h = impossible (cc)
@@ -99,7 +99,7 @@ read_refusal s room w p b h =
     go (ltb 65536 (length s)) refl (check 0 room (tokens 0 0 s) 0 0) inside h
   where
     go : (c : Bool) → ltb 65536 (length s) ≡ c → (v : Verdict) → RefusalInside 0 (length s) room (length s) v
-        → (if c then refused 1 0 else by_verdict v (tokens 0 0 s)) ≡ refused w p → (1 ≤ w) × (w ≤ 8) × (w ≤ 7 + (length s - room)) × (p < length s)
+        → (when c then refused 1 0 else by_verdict v (tokens 0 0 s)) ≡ refused w p → (1 ≤ w) × (w ≤ 8) × (w ≤ 7 + (length s - room)) × (p < length s)
     go true e v r h = let number : 1 ≡ w = cc in let place : 0 ≡ p = cc in omega (arith, ltb-true 65536 (length s) e)
     go false e right r h = impossible (cc)
     go false e (wrong v q) r h = let number : v ≡ w = cc in let place : q ≡ p = cc in omega arith

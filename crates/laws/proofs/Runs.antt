@@ -8,7 +8,7 @@ use lib.ListN.{length, get_or}
 use lib.Dec.{ltb}
 use borrow.Author.Tests.{ltb-true, ltb-false, ne_eqb}
 use native.Mathlib.Omega.{arith}
-use Rattle.spec.specs.Expr.{if◌then◌else◌}
+use Rattle.spec.specs.Expr.{when◌then◌else◌}
 use Rattle.spec.specs.Runs.{Event, step, charge, End, done, stopped, Run, follow, bind, Held, reached, ceased, hold_events, forget, cut, steps_in}
 use Rattle.laws.specs.Demands.{step_rows}
 use Rattle.laws.proofs.Basics.{impossible}
@@ -59,7 +59,7 @@ charges_append (charge r n ∷ es) fs = omega (arith, charges_append es fs)
 unfoldable pub full_row : ℕ → List Event → ℕ
 full_row w [] = 0
 full_row w (step r ∷ es) = full_row w es
-full_row w (charge r n ∷ es) = if ltb w n then r else full_row (w - n) es
+full_row w (charge r n ∷ es) = when ltb w n then r else full_row (w - n) es
 
 module _ {A : Type 0} where
   -- a run's own end, with what is left of its bounds
@@ -88,7 +88,7 @@ module _ {A : Type 0} where
       go (lacks_work k p l q) = lacks_work k p (omega arith) q
   holds (charge r m ∷ es) e n w = go (ltb w m) refl (holds es e n (w - m))
     where
-      go : (b : Bool) → ltb w m ≡ b → {x : Held A} → Holds n (w - m) es e x → Holds n w (charge r m ∷ es) e (if b then ceased 17 r else x)
+      go : (b : Bool) → ltb w m ≡ b → {x : Held A} → Holds n (w - m) es e x → Holds n w (charge r m ∷ es) e (when b then ceased 17 r else x)
       go true t y = lacks_work r (omega (arith, ltb-true w m t)) (rw t (omega arith)) (rw t)
       go false t (ends n' w' p q l) = ends n' w' p (omega (arith, ltb-false w m t)) (rw t l)
       go false t (lacks_step k p l q) = lacks_step k p (rw t l) (rw t q)

@@ -9,7 +9,7 @@ use native.Mathlib.Omega.{arith}
 use lib.ListN.{length, drop}
 use lib.Dec.{ltb, eqb}
 use borrow.Author.Tests.{ltb-false, not-true}
-use Rattle.spec.specs.Expr.{if◌then◌else◌, nil, array, int, ref, Expr, atom, form, Exprs, none, more, only, append, size, first, without, deepest, canonical}
+use Rattle.spec.specs.Expr.{when◌then◌else◌, nil, array, int, ref, Expr, atom, form, Exprs, none, more, only, append, size, first, without, deepest, canonical}
 use Rattle.spec.specs.Nodes.{Word, rest, plain, is, Node, leaf, branch, bytecode, Nodes, empty, cons, Outcome, fails, becomes, elements, tail, head_word, headed_by}
 use Rattle.spec.specs.Runs.{charge, done, Run, give, stop, before}
 use Rattle.spec.specs.Plan.{Defined, value, function, Definition, Scope, Found, latest, nothing, look_up, Namespace, Within, element, inner, top, passed, Here, as_form, as_concat, as_call, Plan, associate, inside, plan}
@@ -118,7 +118,7 @@ module _ (call : Call) (r : ℕ) (ms : List Meaning) (h : Here) (left : Left) wh
 
   call_done : (code : Nodes) (scope : Scope) → (perform call r ms h (inside 1 inner (as_call code scope))).end ≡ done left
       → (vs : Exprs) × (l : Left) × ((call r code (in_code h scope vs)).end ≡ done l)
-      × (left ≡ record { values = if one_value code then l.values else only (form l.values); here = h })
+      × (left ≡ record { values = when one_value code then l.values else only (form l.values); here = h })
   call_done code scope e =
       let a = bind_done (in_order (drop 1 ms) (entering inner h)) _ left e in
       let b = bind_done (call r code (in_code h scope a.0.values)) _ left a.2 in
@@ -265,7 +265,7 @@ module _ (bound : ℕ) where
 
   module _ (call : Call) (call_single : SingleCall call) where
     call_value : (r : ℕ) (code : Nodes) (h : Here) (left : Left) → FitsNodes bound code → h.within ≡ inner → SingleScope bound h.scope
-        → (call r code h).end ≡ done left → Single (if one_value code then left.values else only (form left.values))
+        → (call r code h).end ≡ done left → Single (when one_value code then left.values else only (form left.values))
     call_value r code h left f i s e =
         by_test Single (one_value code) (λ q. call_single r code h left q f i s e) (λ q. record { value = form left.values; is = refl })
 

@@ -9,7 +9,7 @@ use lib.Seq.{take_at, drop_at}
 use lib.Dec.{ltb, leb, eqb}
 use borrow.Author.Tests.{ltb-true, ltb-false, leb-true, eqb-true, eqb-false, lt-ltb, le-ltb, le-leb, ne_eqb}
 use native.Mathlib.Omega.{arith}
-use Rattle.spec.specs.Expr.{if◌then◌else◌, Atom, nil, array, int, ref, array_head, marker_bytes, atom_bytes}
+use Rattle.spec.specs.Expr.{when◌then◌else◌, Atom, nil, array, int, ref, array_head, marker_bytes, atom_bytes}
 use Rattle.spec.specs.Reading.{Taken, taken, cut_off, failed, and_then, take_bytes, natural, as_length, plain_length, length_expr, marker, name, as_array, read_atom}
 use Rattle.laws.specs.Demands.{Bytes}
 use Rattle.laws.specs.Grammar.{SpellsLength, as_int, as_small, as_generic, SpellsArray, small, generic, SpellsAtom}
@@ -166,7 +166,7 @@ canonical_atom (ref m n) f = (f.0, f.1, refl)
 -- To bytes that spell
 
 -- what a choice gives is given by one of its branches
-by_choice : {A : Type 0} {P : Type 0} (c : Bool) (x y z : Taken A) → (c ≡ true → x ≡ z → P) → (c ≡ false → y ≡ z → P) → (if c then x else y) ≡ z → P
+by_choice : {A : Type 0} {P : Type 0} (c : Bool) (x y z : Taken A) → (c ≡ true → x ≡ z → P) → (c ≡ false → y ≡ z → P) → (when c then x else y) ≡ z → P
 by_choice true x y z f g h = f refl h
 by_choice false x y z f g h = g refl h
 

@@ -8,7 +8,7 @@ use lib.ListN.{length, length-append}
 use lib.Dec.{leb, eqb}
 use borrow.Author.Tests.{leb-true, leb-false, eqb-true, eqb-false, lt-leb}
 use native.Mathlib.Omega.{arith}
-use Rattle.spec.specs.Expr.{if◌then◌else◌, Atom, atom_bytes}
+use Rattle.spec.specs.Expr.{when◌then◌else◌, Atom, atom_bytes}
 use Rattle.spec.specs.Reading.{Taken, taken, cut_off, failed, read_atom, Token, opening, closing, whole, unfinished, bad, atom_token, token, further, tokens, Verdict, right, wrong, began, check}
 use Rattle.laws.specs.Demands.{Bytes}
 use Rattle.laws.proofs.Basics.{impossible, by_test}
@@ -25,7 +25,7 @@ pub data Right (room : ℕ) : List Token → ℕ → ℕ → Type 0 where
   stands : {ts : List Token} {a : Atom} {q e d n : ℕ} → n < room → Right room ts d (n + 1) → Right room (whole a q e ∷ ts) d n
 
 -- a verdict is right only by way of the branch that does not refuse
-not_refused : (b : Bool) (w p : ℕ) (v : Verdict) → (if b then wrong w p else v) ≡ right → (b ≡ false) × (v ≡ right)
+not_refused : (b : Bool) (w p : ℕ) (v : Verdict) → (when b then wrong w p else v) ≡ right → (b ≡ false) × (v ≡ right)
 not_refused true w p v h = impossible (cc)
 not_refused false w p v h = (refl, h)
 
@@ -222,12 +222,12 @@ abbrev NotEight : Verdict → Type 0
 NotEight right = Unit {0}
 NotEight (wrong w p) = w ≡ 8 → ⊥
 
-not_full : (b b' : Bool) (q : ℕ) (v v' z : Verdict) → NotEight z → (b ≡ false → b' ≡ false) → (v ≡ z → v' ≡ z) → (if b then wrong 8 q else v) ≡ z
-    → (if b' then wrong 8 q else v') ≡ z
+not_full : (b b' : Bool) (q : ℕ) (v v' z : Verdict) → NotEight z → (b ≡ false → b' ≡ false) → (v ≡ z → v' ≡ z) → (when b then wrong 8 q else v) ≡ z
+    → (when b' then wrong 8 q else v') ≡ z
 not_full true b' q v v' z other free same e = absurd ((rw (← e) at other) refl)
 not_full false b' q v v' z other free same e = rw (free refl) (same e)
 
-otherwise : (b : Bool) (x v v' z : Verdict) → (v ≡ z → v' ≡ z) → (if b then x else v) ≡ z → (if b then x else v') ≡ z
+otherwise : (b : Bool) (x v v' z : Verdict) → (v ≡ z → v' ≡ z) → (when b then x else v) ≡ z → (when b then x else v') ≡ z
 otherwise true x v v' z same e = e
 otherwise false x v v' z same e = same e
 

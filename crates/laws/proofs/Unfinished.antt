@@ -10,7 +10,7 @@ use lib.Dec.{ltb, leb, eqb}
 use borrow.Author.Tests.{ltb-false, le-ltb, leb-false, eqb-true, eqb-false}
 use native.Mathlib.Omega.{arith}
 use native.Mathlib.Nat.{zero-add}
-use Rattle.spec.specs.Expr.{if◌then◌else◌, rows_all}
+use Rattle.spec.specs.Expr.{when◌then◌else◌, rows_all}
 use Rattle.spec.specs.Reading.{Token, opening, closing, whole, unfinished, bad, tokens, Verdict, right, wrong, began, check, rows_of, refused, readable, by_verdict, read}
 use Rattle.laws.specs.Demands.{Bytes, meaning_of, CanRead}
 use Rattle.laws.proofs.Basics.{impossible, by_test}
@@ -30,7 +30,7 @@ data Unfinished (room from q : ℕ) (u : List ℕ) (d n p : ℕ) : Type 0 where
   behind : (x y : List ℕ) → u ≡ x ++ y → 0 < length y → p ≡ q + length x → Right room (tokens q 0 x) d n → Unfinished room from q u d n p
 
 -- another refusal does not come first
-not_first : (b : Bool) (w q p : ℕ) (v : Verdict) → (w ≡ 2 → ⊥) → (if b then wrong w q else v) ≡ wrong 2 p → (b ≡ false) × (v ≡ wrong 2 p)
+not_first : (b : Bool) (w q p : ℕ) (v : Verdict) → (w ≡ 2 → ⊥) → (when b then wrong w q else v) ≡ wrong 2 p → (b ≡ false) × (v ≡ wrong 2 p)
 not_first true w q p v h e = absurd (h (cc))
 not_first false w q p v h e = (refl, e)
 
@@ -114,7 +114,7 @@ unfolding read
 read_wrong s room w p other h = go (ltb 65536 (length s)) refl (check 0 room (tokens 0 0 s) 0 0) refl h
   where
     go : (c : Bool) → ltb 65536 (length s) ≡ c → (v : Verdict) → check 0 room (tokens 0 0 s) 0 0 ≡ v
-        → (if c then refused 1 0 else by_verdict v (tokens 0 0 s)) ≡ refused w p → (length s ≤ 65536) × (check 0 room (tokens 0 0 s) 0 0 ≡ wrong w p)
+        → (when c then refused 1 0 else by_verdict v (tokens 0 0 s)) ≡ refused w p → (length s ≤ 65536) × (check 0 room (tokens 0 0 s) 0 0 ≡ wrong w p)
     go true e v k q = absurd (other (cc))
     go false e right k q = impossible (cc)
     go false e (wrong x y) k q = (ltb-false 65536 (length s) e, k ∙ cc)

@@ -7,7 +7,7 @@ use mathlib.Core.List.{List, [], ◌∷◌, ◌++◌, map}
 use mathlib.Core.Bool.{false}
 use native.Mathlib.Omega.{arith}
 use lib.ListN.{length, drop, length-append}
-use Rattle.spec.specs.Expr.{if◌then◌else◌, Atom, nil, array, int, ref, Expr, atom, form, Exprs, none, more, only, append, first, without, rows, rows_all, depth, deepest, canonical}
+use Rattle.spec.specs.Expr.{when◌then◌else◌, Atom, nil, array, int, ref, Expr, atom, form, Exprs, none, more, only, append, first, without, rows, rows_all, depth, deepest, canonical}
 use Rattle.spec.specs.Nodes.{Word, Node, leaf, branch, bytecode, Nodes, empty, cons, Outcome, fails, becomes, number, number_all, unnumbered, unnumbered_all, elements, markers}
 use Rattle.spec.specs.Bytecode.{transform_all}
 use Rattle.spec.specs.Runs.{Event, step, charge, End, done, stopped, Run, stop, give, before, after, follow, bind}
@@ -276,7 +276,7 @@ module _ (bound : ℕ) where
     finish_sound r h as_concat vs q f v s = join_sound r [] vs h q tt v.0 s
     finish_sound r h (as_call code scope) vs q f v s =
         after_goes (calls r code _ q f.0 (f.1, v))
-        λ left l. complete_sound r (if one_value code then left.values else only (form left.values)) h q
+        λ left l. complete_sound r (when one_value code then left.values else only (form left.values)) h q
         (by_test FitsAll (one_value code) (λ e. l.0.0) (λ e. (l.0.0, tt))) s
 
     perform_sound : (r : ℕ) (ms : List Meaning) (h : Here) (p : Plan) → r < bound → SoundPlan p → SoundMeanings ms → SoundHere h →

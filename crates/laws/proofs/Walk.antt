@@ -7,7 +7,7 @@ use mathlib.Core.Bool.{Bool, true, false, ◌||◌}
 use lib.ListN.{length}
 use lib.Dec.{eqb, ltb, leb}
 use borrow.Author.Tests.{ltb-true, ltb-false, leb-true, leb-false, eqb-false, not-false}
-use Rattle.spec.specs.Expr.{if◌then◌else◌, same, some, Atom, nil, array, int, ref, atom, form, Exprs, only, size, first, without}
+use Rattle.spec.specs.Expr.{when◌then◌else◌, same, some, Atom, nil, array, int, ref, atom, form, Exprs, only, size, first, without}
 use Rattle.spec.specs.Nodes.{core, Word, ns, define, concat, subst, arg, rest, plain, is, word, Node, leaf, branch, bytecode, Nodes, empty, cons, unnumbered_all, elements, tail, head_word, headed_by}
 use Rattle.spec.specs.Plan.{value, function, Scope, Found, latest, nothing, look_up, Within, top, element, inner, Arguments, outside, passed, Here, as_form, as_definition, as_concat, as_call, Plan, refuse, leave, associate, define_function, inside, expect_one, expect_two, expect_ref, expect_array, expect_int, clash, plan_ns, plan_definition, plan_define, plan_arg, plan_rest, plan_head, plan_other, plan_form, plan_reference, plan_atom, plan}
 use Rattle.laws.specs.Sanity.{RuleNumber}
@@ -110,7 +110,7 @@ module _ (h : Here) where
     expect_int_rule (bytecode q es o) s = refuses refl
 
     -- a refusal where the test holds
-    unless : (v : ℕ) (b : Bool) {p : Plan} → RuleNumber v → (b ≡ false → Rule h w e p) → Rule h w e (if b then refuse v else p)
+    unless : (v : ℕ) (b : Bool) {p : Plan} → RuleNumber v → (b ≡ false → Rule h w e p) → Rule h w e (when b then refuse v else p)
     unless v b n s = by_test (Rule h w e) b (λ t. refuses n) s
 
   ns_rule : (r : ℕ) (es : Nodes) (p : Within) → h.within ≡ p → Rule h ns (branch r es) (plan_ns p es h)

@@ -1,6 +1,6 @@
 -- Document 01, "For demand 3" and "Step count": the words in which the demands are stated. Assumes nothing.
 use Rattle.std.specs.Prelude.{ℕ, ◌-◌, ◌*◌, ◌≤◌, ◌<◌, min, ◌≡◌, List, [], ◌∷◌, ◌++◌, map, not, length, take, drop, ltb}
-use Rattle.spec.specs.Expr.{if◌then◌else◌, same, Exprs, size, first, canonical}
+use Rattle.spec.specs.Expr.{when◌then◌else◌, same, Exprs, size, first, canonical}
 use Rattle.spec.specs.Reading.{tokens, meaning, rows_of, row_width, Reading, refused, readable, read}
 use Rattle.spec.specs.Runs.{Event, step, charge, End, done, stopped, steps_in}
 use Rattle.spec.specs.Evaluation.{run, result}
@@ -111,15 +111,15 @@ bytes_of_first q s = canonical (result (take q (left_by (run (meaning_of s)).end
 unfoldable pub step_rows : ℕ → List Event → List ℕ
 step_rows work [] = []
 step_rows work (step r ∷ es) = r ∷ step_rows work es
-step_rows work (charge r n ∷ es) = if ltb work n then [] else step_rows (work - n) es
+step_rows work (charge r n ∷ es) = when ltb work n then [] else step_rows (work - n) es
 
 -- the places of the expressions that take a step when "these rules, reading first," are run "with the table, workspace [..] given and no
 -- bound on steps"
 abbrev pub step_places_once_read : List ℕ → ℕ → Reading → List ℕ
 step_places_once_read s work (refused w p) = []
 step_places_once_read s work (readable rows es) =
-    if not (is_versioned es) then [] else
-    if not (same (take 6 s) version_bytes) then [] else
+    when not (is_versioned es) then [] else
+    when not (same (take 6 s) version_bytes) then [] else
     map (λ r. (row_at rows r).start) (step_rows (min work 65536) (run es).events)
 
 unfoldable pub step_places : List ℕ → List ℕ → ℕ → List ℕ

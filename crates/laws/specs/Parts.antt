@@ -1,7 +1,7 @@
 -- Document 02, §4, "I must know what to hold back": the words in which it is stated what a queue may pass on of the bytes that it has, what it
 -- holds back, and what is read in the end. Assumes nothing.
 use Rattle.std.specs.Prelude.{ℕ, ◌+◌, ◌≤◌, ◌<◌, ◌≡◌, ◌⊎◌, List, [], ◌∷◌, ◌++◌, length, take, drop, eqb}
-use Rattle.spec.specs.Expr.{if◌then◌else◌, Exprs, none, append}
+use Rattle.spec.specs.Expr.{when◌then◌else◌, Exprs, none, append}
 use Rattle.spec.specs.Calls.{Answer, Read}
 use Rattle.laws.specs.Demands.{row_numbers, meaning_of, CanRead}
 use Rattle.laws.specs.Grammar.{SpellsAll}
@@ -20,7 +20,7 @@ RightSoFar a = (a.number ≡ 0) ⊎ (a.number ≡ 2)
 
 -- how many bytes of the stream may be passed on after such an answer: all of them, or those before the place
 abbrev pub passed_on : List ℕ → Answer → ℕ
-passed_on s a = if eqb a.number 0 then length s else a.place
+passed_on s a = when eqb a.number 0 then length s else a.place
 
 -- the numbers of rows as they are behind p bytes and k rows: places are counted from the first byte of all, and rows from the first of all
 unfoldable pub moved : ℕ → ℕ → List ℕ → List ℕ

@@ -8,7 +8,7 @@ use borrow.Author.Rules.{rules}
 use lib.ListN.{length, get_or, length-append}
 use lib.Dec.{eqb}
 use borrow.Author.Tests.{lt-ltb, le-ltb, le-leb, lt-leb, ne_eqb}
-use Rattle.spec.specs.Expr.{if◌then◌else◌}
+use Rattle.spec.specs.Expr.{when◌then◌else◌}
 use Rattle.spec.specs.Reading.{Token, opening, closing, whole, tokens, right, wrong, began, check, rows_of, read}
 use Rattle.laws.proofs.Tokens.{right_tokens}
 use Rattle.laws.proofs.Written.{bytes_of, token_bytes, canonical_tokens}
@@ -129,7 +129,7 @@ module _ (s : List ℕ) (room p from d n saved : ℕ) (short : length s ≤ 6553
 
   -- at the stream's end
   module _ (end : length s ≤ p) where
-    verdict_end : check from room (tokens_from s p) d n ≡ (if eqb d 0 then right else wrong 2 from)
+    verdict_end : check from room (tokens_from s p) d n ≡ (when eqb d 0 then right else wrong 2 from)
     unfolding check
     verdict_end = rw (tokens_end s p end)
 

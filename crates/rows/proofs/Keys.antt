@@ -13,7 +13,7 @@ use mir.Val.{has_key}
 use denote.Enum.Declared.{tag_of}
 use native.Mathlib.Decide.{ℕ_discrete}
 use native.Mathlib.Omega.{arith}
-use Rattle.spec.specs.Expr.{if◌then◌else◌, some, int, ref, marker_bytes}
+use Rattle.spec.specs.Expr.{when◌then◌else◌, some, int, ref, marker_bytes}
 use Rattle.spec.specs.Nodes.{core, Word, plain, order, is, Name, names, among, word, leaf, Nodes, cons}
 use Rattle.spec.specs.Bytecode.{bytecode_names, led_by_name}
 use Rattle.laws.proofs.Canonical.{Mark, short, long, marker_bytes_are}
@@ -71,7 +71,7 @@ pub no_name : (k : ℕ) → Unnamed (Unit {0}) names k → plain ≡ word_of k
 unfolding word
 no_name k h = go (eqb (k / 256) core) refl
   where
-    go : (b : Bool) → eqb (k / 256) core ≡ b → plain ≡ if b then among names (k % 256) else plain
+    go : (b : Bool) → eqb (k / 256) core ≡ b → plain ≡ when b then among names (k % 256) else plain
     go false e = refl
     go true e = (not_among k (eqb-true (k / 256) core e) names (Unit {0}) h).1
 

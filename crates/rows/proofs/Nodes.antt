@@ -9,7 +9,7 @@ use lib.Seq.{slice, length-slice, drop-drop, drop_at}
 use native.Mathlib.Omega.{arith}
 use Rattle.spec.specs.Expr.{Atom, nil, array, int, ref, atom_bytes}
 use Rattle.spec.specs.Reading.{atom_kind, row_width}
-use Rattle.spec.specs.Nodes.{is, Node, leaf, branch, bytecode, Nodes, empty, cons, row, markers, markers_all}
+use Rattle.spec.specs.Nodes.{Node, leaf, branch, bytecode, Nodes, empty, cons, row, markers, markers_all}
 use Rattle.laws.specs.Demands.{Bytes}
 use Rattle.laws.specs.Grammar.{SpellsArray, small, generic}
 use Rattle.laws.proofs.Fits.{bytes_take, bytes_drop, Fits}

@@ -7,7 +7,7 @@ use mathlib.Core.Bool.{Bool, true, false, not, ◌&&◌, and-false}
 use lib.Dec.{ltb, leb, eqb}
 use borrow.Author.Tests.{leb-true, leb-false, lt-ltb, le-ltb, ne_eqb}
 use native.Mathlib.Omega.{arith}
-use Rattle.spec.specs.Expr.{if◌then◌else◌, some, Atom, nil, array, int, ref}
+use Rattle.spec.specs.Expr.{when◌then◌else◌, some, Atom, nil, array, int, ref}
 use Rattle.spec.specs.Nodes.{core, word, plain, is, Node, leaf, branch, bytecode, Nodes, empty, cons, Outcome, fails, becomes, row, elements, head_word}
 use Rattle.spec.specs.Bytecode.{led_by_name}
 use Rattle.laws.specs.Demands.{Bytes}
@@ -249,14 +249,14 @@ module _ (s t : List ℕ) (flat : Bool) (r : ℕ) where
   pub form_unflat : (form_at t flat r).flat ≡ false
   form_unflat = go (is_made t flat r)
     where
-      go : (b : Bool) → (if b then record { first = r; end = link t r; flat = false } else written t r).flat ≡ false
+      go : (b : Bool) → (when b then record { first = r; end = link t r; flat = false } else written t r).flat ≡ false
       go true = refl
       go false = refl
 
   form_end : (form_at t flat r).end ≡ behind t flat r
   form_end = go (is_made t flat r)
     where
-      go : (b : Bool) → (if b then record { first = r; end = link t r; flat = false } else written t r).end ≡ (if b then link t r else next t r)
+      go : (b : Bool) → (when b then record { first = r; end = link t r; flat = false } else written t r).end ≡ (when b then link t r else next t r)
       go true = refl
       go false = refl
 

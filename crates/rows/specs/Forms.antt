@@ -1,6 +1,6 @@
 -- What the code's words, forms and nodes are, in the definitions' terms. Document 01: "Names of the core namespace", "Table". Assumes nothing.
 use Rattle.std.specs.Prelude.{ℕ, ◌+◌, ◌*◌, ◌/◌, ◌%◌, ◌≤◌, ◌<◌, ◌≡◌, List, Bool, true, false, not, ◌&&◌, ◌||◌, length, eqb, ltb}
-use Rattle.spec.specs.Expr.{if◌then◌else◌, some, Atom, if_ref}
+use Rattle.spec.specs.Expr.{when◌then◌else◌, some, Atom, if_ref}
 use Rattle.spec.specs.Reading.{row_width}
 use Rattle.spec.specs.Nodes.{core, Word, ns, define, concat, subst, arg, rest, plain, is, word, Node, leaf, branch, bytecode, Nodes, empty, cons, Outcome, head_word}
 use Rattle.spec.specs.Bytecode.{bytecode_names, is_name}
@@ -36,8 +36,8 @@ flattened first f = record { first = first; end = f.end; flat = true }
 -- the code's node for the element at a row of a list
 abbrev pub element_at : List ℕ → Bool → ℕ → Ranged
 element_at t flat r =
-    if eqb (kind t r) 1 then Branch (written t r) else
-    if is_made t flat r then Branch (form_at t flat r) else Leaf
+    when eqb (kind t r) 1 then Branch (written t r) else
+    when is_made t flat r then Branch (form_at t flat r) else Leaf
 
 -- the row behind an element at a row
 abbrev pub past : ℕ → Ranged → ℕ
@@ -46,7 +46,7 @@ past r (Branch f) = f.end
 
 -- the code's node for the result of a flat list
 abbrev pub result_at : List ℕ → Form → Ranged
-result_at t g = if single t g then element_at t true g.first else Branch g
+result_at t g = when single t g then element_at t true g.first else Branch g
 
 -- whether a form's head is a reference, by the table
 abbrev pub is_named : List ℕ → Form → Bool

@@ -2,7 +2,7 @@
 -- Document 01: "Table". Assumes nothing.
 use Rattle.std.specs.Prelude.{ℕ, ◌+◌, ◌*◌, ◌/◌, ◌%◌, ◌≤◌, ◌<◌, ◌≡◌, List, [], ◌∷◌, Bool, true, false, not, ◌&&◌, length, get_or, eqb, ltb, leb}
 use Rattle.std.proofs.Math.Seq.{slice}
-use Rattle.spec.specs.Expr.{if◌then◌else◌, Atom, ref, if_ref}
+use Rattle.spec.specs.Expr.{when◌then◌else◌, Atom, ref, if_ref}
 use Rattle.spec.specs.Reading.{atom_kind, row_width}
 use Rattle.spec.specs.Nodes.{plain, is, Node, leaf, branch, bytecode, Nodes, empty, cons, Outcome, fails, becomes, row, head_word}
 use Rattle.laws.specs.Grammar.{SpellsAtom}
@@ -70,14 +70,14 @@ is_made t flat r = flat && not (eqb (link t r) 0)
 
 -- the row behind the element at a row of a list
 abbrev pub behind : List ℕ → Bool → ℕ → ℕ
-behind t flat r = if is_made t flat r then link t r else next t r
+behind t flat r = when is_made t flat r then link t r else next t r
 
 -- the form that is written at a row, or that is made of the operator there
 abbrev pub written : List ℕ → ℕ → Form
 written t r = record { first = r + 1; end = next t r; flat = false }
 
 abbrev pub form_at : List ℕ → Bool → ℕ → Form
-form_at t flat r = if is_made t flat r then record { first = r; end = link t r; flat = false } else written t r
+form_at t flat r = when is_made t flat r then record { first = r; end = link t r; flat = false } else written t r
 
 -- the row of a reference
 pub record ReferenceAt (s t : List ℕ) (r : ℕ) : Type 0 where
@@ -103,7 +103,7 @@ abbrev pub Unmarked : List ℕ → ℕ → Nodes → Type 0
 Unmarked t r es = led_by_reference es ≡ true → mark t r ≡ 0
 
 abbrev pub flat_first : List ℕ → Form → ℕ
-flat_first t f = if eqb (mark t f.first) 2 then next t (f.first + 1) else f.first + 1
+flat_first t f = when eqb (mark t f.first) 2 then next t (f.first + 1) else f.first + 1
 
 -- the flat list of a bytecode form
 abbrev pub flat_of : List ℕ → Form → Form

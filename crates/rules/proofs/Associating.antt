@@ -9,7 +9,7 @@ use lib.ListN.{length}
 use lib.Seq.{slice}
 use lib.Dec.{ltb, leb, eqb}
 use borrow.Author.Tests.{ltb-false, leb-false, le-ltb}
-use Rattle.spec.specs.Expr.{if◌then◌else◌, some, array, ref}
+use Rattle.spec.specs.Expr.{when◌then◌else◌, some, array, ref}
 use Rattle.spec.specs.Nodes.{ns, Node, leaf, branch, bytecode, Nodes, empty, cons, head_word, markers_all}
 use Rattle.spec.specs.Plan.{Namespace, Within, top, Here, Plan, refuse, clash, plan_ns}
 use Rattle.laws.specs.Demands.{Bytes}
@@ -148,7 +148,7 @@ module _ {s t : List ℕ} {p : Parts} {es : Nodes} (g : NsAt s t p es) (bytes : 
       → some (eqb (key / 256)) earlier ≡ some (eqb (key / 256)) (markers_all fs) → clash (key / 256) (slice from to s) earlier ks ≡ clashing)
       → leb 64 here.scope.associated ≡ full
       → Answers s t args (view associations definitions here.scope) here at (branch row es) (λ h. plan_ns h.within es h)
-      (if clashing then Refuse 14 else if full then Refuse 19 else Ns f (key / 256) (id stream from (to - from)))
+      (when clashing then Refuse 14 else when full then Refuse 19 else Ns f (key / 256) (id stream from (to - from)))
   ns_answers f associations definitions here there stand led clashing full known counted = λ w st h set.
       let part = array_part g.array_there begins ends in
       let marker : key / 256 ≡ g.marker = rw keyed (key_marker g.marker g.name (leaf_fits bytes g.reference).2) in

@@ -8,7 +8,7 @@ use native.Mathlib.Omega.{arith}
 use lib.ListN.{length}
 use lib.Dec.{leb}
 use borrow.Author.Tests.{leb-false}
-use Rattle.spec.specs.Expr.{if◌then◌else◌, ref}
+use Rattle.spec.specs.Expr.{when◌then◌else◌, ref}
 use Rattle.spec.specs.Nodes.{subst, rest, Node, leaf, branch, bytecode, Nodes, empty, cons, elements, tail, head_word, headed_by}
 use Rattle.spec.specs.Plan.{function, Namespace, Within, inner, Here, as_definition, Plan, refuse, define_function, inside, undefinable, plan_definition, plan_define}
 use Rattle.laws.specs.Demands.{Bytes}
@@ -106,8 +106,8 @@ module _ {s t : List ℕ} (f : Form) (unflat : f.flat ≡ false) {p : Parts} {es
 
   made : {w : List ℕ} {floor r q : ℕ} {v : View} {sc : Scope} (code : Bool) → headed_by subst g.value ≡ code → length v.definitions < 256
       → Planned s t w floor v sc r (branch q (cons g.head (cons reference (cons g.value empty))))
-      (if code then Function (key + function_bit) p.third else Inside (starting_at p.third f) (Make (Define key)))
-      (if code then define_function (record { marker = g.marker; name = g.name; content = function (tail (elements g.value)) }) else
+      (when code then Function (key + function_bit) p.third else Inside (starting_at p.third f) (Make (Define key)))
+      (when code then define_function (record { marker = g.marker; name = g.name; content = function (tail (elements g.value)) }) else
       inside 2 inner (as_definition g.marker g.name))
   unfolding skip
   made true is room = rw keyed (defines g.marker g.name p.third _ fits room (code_headed s t p.third g.value g.there is))
@@ -119,7 +119,7 @@ module _ {s t : List ℕ} (f : Form) (unflat : f.flat ≡ false) {p : Parts} {es
       → ((ks : List Namespace) → Linked s (latest associations here.scope.associated) ks → undefinable (key / 256) ks ≡ unknown)
       → leb 256 here.scope.defined ≡ full → headed_by subst g.value ≡ code
       → Answers s t args (view associations definitions here.scope) here r (branch q es) (plan_definition es)
-      (if unknown then Refuse 14 else if full then Refuse 19 else if code then Function (key + function_bit) p.third else Inside (starting_at p.third f) (Make (Define key)))
+      (when unknown then Refuse 14 else when full then Refuse 19 else when code then Function (key + function_bit) p.third else Inside (starting_at p.third f) (Make (Define key)))
   define_answers associations definitions here r q unknown full code known counted is = λ w st h set.
       let marker : key / 256 ≡ g.marker = rw keyed (key_marker g.marker g.name fits.2) in
       let unknowns = rw marker at (known h.namespaces set.sees.associations) in

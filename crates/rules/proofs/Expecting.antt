@@ -7,7 +7,7 @@ use mathlib.Core.Bool.{Bool, true, false}
 use lib.Dec.{eqb}
 use native.Mathlib.Omega.{arith}
 use borrow.Author.Tests.{eqb-true, eqb-false, ne_eqb}
-use Rattle.spec.specs.Expr.{if◌then◌else◌, Atom, nil, array, int, ref}
+use Rattle.spec.specs.Expr.{when◌then◌else◌, Atom, nil, array, int, ref}
 use Rattle.spec.specs.Reading.{atom_kind}
 use Rattle.spec.specs.Nodes.{Word, subst, plain, order, is, Node, leaf, branch, bytecode, Nodes, empty, cons, Outcome, elements, head_word, headed_by}
 use Rattle.spec.specs.Plan.{Plan, refuse, expect_one, expect_two, expect_ref, expect_array, expect_int}
@@ -111,6 +111,6 @@ headed w v e told read = sym (told ∙ ap (λ (x : Word). is x v) read)
 
 -- a refusal if a test says so, else what is planned
 pub refused_if : {s t w : List ℕ} {floor : ℕ} {v : View} {sc : Scope} {r : ℕ} {e : Node} {x : Task} {q : Plan} (b : Bool) (n : ℕ)
-    → (b ≡ false → Planned s t w floor v sc r e x q) → Planned s t w floor v sc r e (if b then Refuse n else x) (if b then refuse n else q)
+    → (b ≡ false → Planned s t w floor v sc r e x q) → Planned s t w floor v sc r e (when b then Refuse n else x) (when b then refuse n else q)
 refused_if true n k = refuses n
 refused_if false n k = k refl

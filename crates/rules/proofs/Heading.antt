@@ -7,7 +7,7 @@ use mathlib.Core.Bool.{Bool, true, false}
 use lib.ListN.{length, drop}
 use borrow.Author.Tests.{eq-eqb, ne_eqb}
 use native.Mathlib.Omega.{arith}
-use Rattle.spec.specs.Expr.{if◌then◌else◌, nil, array, int, ref}
+use Rattle.spec.specs.Expr.{when◌then◌else◌, nil, array, int, ref}
 use Rattle.spec.specs.Nodes.{Word, ns, define, concat, subst, arg, rest, plain, is, Node, leaf, branch, bytecode, Nodes, empty, cons, Outcome, fails, becomes, elements, tail, head_word, headed_by}
 use Rattle.spec.specs.Reading.{row_width}
 use Rattle.spec.specs.Plan.{Scope as Definitions, Found as Sought, element, inner, as_form, as_call, inside, data_form, plan_head, plan_other, plan_form, plan}
@@ -82,7 +82,7 @@ module _ {s t w : List ℕ} {floor : ℕ} {es : List ℕ} where
 
 module _ (s t : List ℕ) (flat : Bool) (r : ℕ) where
   pub unnamed_rule : (e : Node) (es : Nodes) (ds : Definitions) → NodeAt s t flat r e → led_by_reference (cons e es) ≡ false
-      → plan_other (cons e es) ds ≡ (if headed_by subst e then inside 1 inner (as_call (tail (elements e)) ds) else data_form)
+      → plan_other (cons e es) ds ≡ (when headed_by subst e then inside 1 inner (as_call (tail (elements e)) ds) else data_form)
   unnamed_rule (leaf q nil) es ds n h = refl
   unnamed_rule (leaf q (array bs)) es ds n h = refl
   unnamed_rule (leaf q (int v)) es ds n h = refl

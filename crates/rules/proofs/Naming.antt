@@ -5,7 +5,7 @@ use mathlib.Core.Path.{◌≡◌, refl}
 use mathlib.Core.List.{List}
 use mathlib.Core.Bool.{Bool, true, false, not}
 use native.Mathlib.Omega.{arith}
-use Rattle.spec.specs.Expr.{if◌then◌else◌, Atom, nil, array, int, ref, atom, only}
+use Rattle.spec.specs.Expr.{when◌then◌else◌, Atom, nil, array, int, ref, atom, only}
 use Rattle.spec.specs.Nodes.{plain, is, word, Node}
 use Rattle.spec.specs.Plan.{Scope as Definitions, Found as Sought, look_up, refuse, leave, plan_reference, plan_atom}
 use Rattle.spec.specs.Reading.{atom_kind}
@@ -38,11 +38,11 @@ own_rule (ref m n) ds h = absurd (h refl)
 
 -- a reference, by whether its key is a function name's
 pub name_rule : (k m n : ℕ) (ds : Definitions) (b : Bool) → k ≡ key_of m n → Fits (ref m n) → b ≡ not (is (word_of k) plain)
-    → plan_atom (ref m n) ds ≡ (if b then refuse 12 else plan_reference (look_up m n ds) (ref m n))
+    → plan_atom (ref m n) ds ≡ (when b then refuse 12 else plan_reference (look_up m n ds) (ref m n))
 unfolding plan_atom
 name_rule k m n ds b at fits e = rw (e, at, word_again m n fits.2) (go (is (word m n) plain))
   where
-    go : (b : Bool) → (if b then plan_reference (look_up m n ds) (ref m n) else refuse 12) ≡ (if not b then refuse 12 else plan_reference (look_up m n ds) (ref m n))
+    go : (b : Bool) → (when b then plan_reference (look_up m n ds) (ref m n) else refuse 12) ≡ (when not b then refuse 12 else plan_reference (look_up m n ds) (ref m n))
     go true = refl
     go false = refl
 

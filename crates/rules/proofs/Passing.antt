@@ -8,7 +8,7 @@ use native.Mathlib.Omega.{arith}
 use lib.ListN.{length, get_or}
 use lib.Dec.{ltb, leb, eqb}
 use borrow.Author.Tests.{ltb-true, ltb-false, leb-false, le-leb, lt-leb, eq-eqb, ne_eqb}
-use Rattle.spec.specs.Expr.{if◌then◌else◌, Exprs, none, more, size, without}
+use Rattle.spec.specs.Expr.{when◌then◌else◌, Exprs, none, more, size, without}
 use Rattle.spec.specs.Nodes.{Node, Nodes}
 use Rattle.spec.specs.Plan.{Arguments, outside, passed, Plan, refuse, expect_one, expect_int}
 use Rattle.rows.specs.Rows.{kind, NodesAt, parts_of}
@@ -49,9 +49,9 @@ outside_code false n = refl
 -- what is answered in code for the part where argument n stands, by whether n is below the number of arguments, or above it
 abbrev counted_task : ℕ → Frame → Bool → Bool → Bool → Task
 counted_task part frame all fewer over =
-    if fewer then Again (packed_from part) (if all then frame.end else packed_to part) else
-    if over then Refuse 15 else
-    if all then Again frame.end frame.end else Refuse 15
+    when fewer then Again (packed_from part) (when all then frame.end else packed_to part) else
+    when over then Refuse 15 else
+    when all then Again frame.end frame.end else Refuse 15
 
 module _ {s t w : List ℕ} {floor : ℕ} {v : View} {sc : Scope} {r : ℕ} {e : Node} (args : List ℕ) (frame : Frame) (n : ℕ) where
   -- by their number
@@ -71,8 +71,8 @@ module _ {s t w : List ℕ} {floor : ℕ} {v : View} {sc : Scope} {r : ℕ} {e :
   -- 11 if n is no small integer, 15 outside code; then by how many arguments there are
   pub passing_planned : {above : ℕ} {xs : Arguments} → ArgumentsOf w args frame above xs → (rest all big out fewer over : Bool) → rest ≡ all → leb 64 n ≡ big → eqb frame.depth 0 ≡ out
       → ltb n frame.count ≡ fewer → ltb frame.count n ≡ over
-      → Planned s t w floor v sc r e (if big then Refuse 11 else if out then Refuse 15 else counted_task (get_or args n 0) frame all fewer over)
-      (if leb 64 n then refuse 11 else passing rest n xs)
+      → Planned s t w floor v sc r e (when big then Refuse 11 else when out then Refuse 15 else counted_task (get_or args n 0) frame all fewer over)
+      (when leb 64 n then refuse 11 else passing rest n xs)
   passing_planned (no_code d) rest all big out fewer over is is-big is-out p q =
       rw is-big (refused_if big 11 (λ small. rw (sym is-out ∙ eq-eqb frame.depth 0 d, outside_code rest n) (refuses 15)))
   passing_planned (in_code {vs} from d c l i g a) rest all big out fewer over is is-big is-out p q =

@@ -9,7 +9,7 @@ use native.Mathlib.Omega.{arith}
 use lib.ListN.{length, drop}
 use lib.Dec.{eqb}
 use borrow.Author.Tests.{eqb-true, eqb-false, eq-eqb, ne_eqb}
-use Rattle.spec.specs.Expr.{if◌then◌else◌, ref, Exprs, none, more}
+use Rattle.spec.specs.Expr.{when◌then◌else◌, ref, Exprs, none, more}
 use Rattle.spec.specs.Nodes.{Nodes}
 use Rattle.spec.specs.Plan.{Defined, value, function, Definition, Scope, Found as Sought, latest, nothing, look_up, Namespace, Arguments, Here}
 use Rattle.spec.specs.Evaluation.{add_namespace, add_definition}
@@ -96,7 +96,7 @@ module _ (s t w : List ℕ) (floor : ℕ) where
     -- the latest definition is of the key, or it isn't
     answers_next : (e : ℕ) (es : List ℕ) (ds : Scope) (k l : ℕ) (c : Defined) (b : Bool) → eqb (key_of k l) key ≡ b → EntryAt s t w floor e k l c
         → Shows s t w floor es ds → Answers s t w floor (e ∷ es) (find key es) (look_up m n ds)
-        → Answers s t w floor (e ∷ es) (find key (e ∷ es)) (if b then latest c ds else look_up m n ds)
+        → Answers s t w floor (e ∷ es) (find key (e ∷ es)) (when b then latest c ds else look_up m n ds)
     unfolding find
     answers_next e es ds k l (value vs) true q (value_at from to f is p low order short stand) sh rest =
         rw (eq-eqb (key_in e) key (is ∙ eqb-true _ _ q), p, from_packed from to order short, to_packed from to order short) (value_answer from to vs ds stand order low)

@@ -1,7 +1,7 @@
 -- What a scope shows of the lent arrays: the entries of the visible definitions and of the associations; and what a key finds.
 -- Document 01: "a list of definitions that are visible at each place". Assumes nothing.
 use Rattle.std.specs.Prelude.{ℕ, zero, suc, ◌+◌, List, [], ◌∷◌, length, get_or, eqb}
-use Rattle.spec.specs.Expr.{if◌then◌else◌}
+use Rattle.spec.specs.Expr.{when◌then◌else◌}
 use Rattle.workspace.specs.Packed.{packed_from, packed_to}
 use Rattle.rules.specs.Entries.{function_bit, key_in, content_in}
 use Rattle.rules.specs.declared.scope.Scope.{Scope}
@@ -25,5 +25,5 @@ view associations definitions sc = record { definitions = latest definitions sc.
 unfoldable pub find : ℕ → List ℕ → Found
 find key [] = Nothing
 find key (e ∷ es) =
-    if eqb (key_in e) key then Value (packed_from (content_in e)) (packed_to (content_in e)) else
-    if eqb (key_in e) (key + function_bit) then Function (content_in e) (length es) else find key es
+    when eqb (key_in e) key then Value (packed_from (content_in e)) (packed_to (content_in e)) else
+    when eqb (key_in e) (key + function_bit) then Function (content_in e) (length es) else find key es

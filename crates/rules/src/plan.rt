@@ -1,7 +1,7 @@
 // What is to be done with an expression whose step is taken: the refusals 13, 12, 11, 14, 15, 19, and the rule that applies. Nothing here writes.
 // Document 01: the rules of "Evaluation".
 ghost use Rattle.std.specs.Prelude.{◌≡◌, List, true, false, ℕ, ◌≤◌, ◌<◌, leb};
-ghost use Rattle.spec.specs.Expr.{if◌then◌else◌, Atom};
+ghost use Rattle.spec.specs.Expr.{when◌then◌else◌, Atom};
 ghost use Rattle.spec.specs.Nodes.{ns, subst, rest, is, Node as Expression, leaf, branch, Nodes, Outcome, head_word};
 ghost use Rattle.spec.specs.Plan.{Arguments, Plan, refuse, expect_one, expect_int, plan_ns, plan_definition, plan_define, plan_concat, plan_other, plan};
 ghost use Rattle.rows.specs.Rows.{mark as mark_of, LeafAt, led_by_reference, NodesAt, OutcomeAt, ResultAt};
@@ -260,7 +260,7 @@ fn concat(s: &[u8], table: &[u32], form: Form) -> Task
 fn number(s: &[u8], table: &[u32], form: Form) -> usize
     requires { (es : Nodes) × NodesAt s.now table.now false form.first form.end es }
     ensures { (es : Nodes) (rule : ℕ → Plan) → NodesAt s.now table.now false form.first form.end es
-        → expect_one es (λ a. expect_int a rule) ≡ (if leb 64 result then refuse 11 else rule result) }
+        → expect_one es (λ a. expect_int a rule) ≡ (when leb 64 result then refuse 11 else rule result) }
 {
     let p = form.parts(table);
     if p.count != 2 {
@@ -275,7 +275,7 @@ fn number(s: &[u8], table: &[u32], form: Form) -> usize
 // An arg form, or a rest form, with this n.
 fn arguments(args: &[u32; 64], frame: Frame, n: usize, rest: bool) -> Task
     ensures { (s t w : List ℕ) (floor top at : ℕ) (v : View) (sc : Scope) (e : Expression) (xs : Arguments) → ArgumentsOf w args.now frame top xs
-        → Planned s t w floor v sc at e result (if leb 64 n then refuse 11 else passing rest n xs) }
+        → Planned s t w floor v sc at e result (when leb 64 n then refuse 11 else passing rest n xs) }
 {
     if 64 <= n {
         return Task::Refuse(11);

@@ -7,7 +7,7 @@ use native.Mathlib.Omega.{arith}
 use lib.ListN.{length, take}
 use lib.Dec.{ltb, eqb}
 use borrow.Author.Tests.{lt-ltb}
-use Rattle.spec.specs.Expr.{if◌then◌else◌, nil, array, int, ref}
+use Rattle.spec.specs.Expr.{when◌then◌else◌, nil, array, int, ref}
 use Rattle.spec.specs.Nodes.{Node, leaf, branch, bytecode, Nodes, empty, cons, Outcome, fails, becomes, row, elements}
 use Rattle.spec.specs.Bytecode.{prefix, prefix*, is_name, led_by_name, Operator, if_listed, if_operator, Arities, listed, ill_formed, operators, Around, all, short, node_depth, Part, nodes, gathered, placed, result_of, outcome, with_arities, made, linked, transform, parts_of}
 use Rattle.spec.proofs.Made.{written, keep, each_row, parts_linked, nodes_parts, nodes_kept, rows_linked, made_written, result, outcome_written}
@@ -33,7 +33,7 @@ listed_role [] m n f other = refl
 listed_role (o ∷ os) m n f other = go (eqb o.marker m && eqb o.name n) (listed_role os m n f other)
   where
     go : (b : Bool) → if_listed os m n f other ≡ by_role f other (if_listed os m n operator operand)
-        → (if b then f o.arity else if_listed os m n f other) ≡ by_role f other (if b then operator o.arity else if_listed os m n operator operand)
+        → (when b then f o.arity else if_listed os m n f other) ≡ by_role f other (when b then operator o.arity else if_listed os m n operator operand)
     go true t = refl
     go false t = t
 
@@ -152,8 +152,8 @@ short_operands os e es n k h = rw (by_operator os e (λ n. n) 0 n k, short) at h
 
 abbrev pub refusal : ℕ → List Operator → Nodes → ℕ
 refusal r os es =
-    if short os 0 es || led_by_name (elements (result r os es)) then 22 else
-    if ltb 64 (node_depth (result r os es)) then 6 else 0
+    when short os 0 es || led_by_name (elements (result r os es)) then 22 else
+    when ltb 64 (node_depth (result r os es)) then 6 else 0
 
 -- its row does not matter
 pub refusal_any : (r q : ℕ) (os : List Operator) (es : Nodes) → refusal r os es ≡ refusal q os es
@@ -161,7 +161,7 @@ unfolding node_depth
 refusal_any r q os es = go (gathered os 0 (linked (parts_of es)))
   where
     by_node : Node → ℕ
-    by_node e = if short os 0 es || led_by_name (elements e) then 22 else if ltb 64 (node_depth e) then 6 else 0
+    by_node e = when short os 0 es || led_by_name (elements e) then 22 else when ltb 64 (node_depth e) then 6 else 0
 
     go : (ps : List Part) → by_node (result_of r ps).node ≡ by_node (result_of q ps).node
     go [] = refl
@@ -175,8 +175,8 @@ outcome_refused r os around es w h = rw (outcome_written r os around es) (go (sh
     fine : Outcome
     fine = becomes (each_row es) (placed r (transform (result r os es) around))
 
-    go : (b c : Bool) → (if b then 22 else if c then 6 else 0) ≡ suc w
-        → ((if b then fails 22 else if c then fails 6 else fine) ≡ fails (suc w)) × (2 ≤ w)
+    go : (b c : Bool) → (when b then 22 else when c then 6 else 0) ≡ suc w
+        → ((when b then fails 22 else when c then fails 6 else fine) ≡ fails (suc w)) × (2 ≤ w)
     go true c h = (ap fails h, omega (arith, h))
     go false true h = (ap fails h, omega (arith, h))
     go false false h = absurd (omega (arith, h))
@@ -191,8 +191,8 @@ outcome_fine r os around es h =
     fine : Outcome
     fine = becomes (each_row es) ((result_of r (gathered os 0 (linked (parts_of es)))).transformed around)
 
-    go : (a b c : Bool) → ◌≡◌ {A = ℕ} (if a || b then 22 else if c then 6 else 0) 0
-        → ((if a || b then fails 22 else if c then fails 6 else fine) ≡ fine) × (a ≡ false) × (b ≡ false)
+    go : (a b c : Bool) → ◌≡◌ {A = ℕ} (when a || b then 22 else when c then 6 else 0) 0
+        → ((when a || b then fails 22 else when c then fails 6 else fine) ≡ fine) × (a ≡ false) × (b ≡ false)
     go true b c h = absurd (omega (arith, h))
     go false true c h = absurd (omega (arith, h))
     go false false true h = absurd (omega (arith, h))

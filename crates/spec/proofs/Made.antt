@@ -7,7 +7,7 @@ use mathlib.Core.Bool.{Bool, true, false, not, ◌&&◌, ◌||◌}
 use native.Mathlib.Omega.{arith}
 use lib.ListN.{length, take, length-take}
 use lib.Dec.{ltb, eqb}
-use Rattle.spec.specs.Expr.{if◌then◌else◌, some, nil, array, int, ref}
+use Rattle.spec.specs.Expr.{when◌then◌else◌, some, nil, array, int, ref}
 use Rattle.spec.specs.Nodes.{Node, leaf, branch, bytecode, Nodes, empty, cons, Outcome, fails, becomes, row, elements, is, head_word, plain}
 use Rattle.spec.specs.Bytecode.{prefix, prefix*, is_name, led_by_name, Operator, if_listed, if_operator, listed, ill_formed, Arities, operators, Around, all, short, node_depth, Part, nodes, transformed_all, Element, parts, gathered, placed, result_of, outcome, with_operators, with_arities, headed, made, linked, transform, parts_of}
 use Rattle.spec.specs.Runs.{step, stop, after}
@@ -37,7 +37,7 @@ module _ (P : Part → Part → ℕ → Type 0) (f g : ℕ → Part) (p q : Part
   listed_holds (o ∷ os) m n = go (eqb o.marker m && eqb o.name n) (listed_holds os m n)
     where
       go : (b : Bool) → P (if_listed os m n f p) (if_listed os m n g q) (if_listed os m n (λ k. k) 0)
-          → P (if b then f o.arity else if_listed os m n f p) (if b then g o.arity else if_listed os m n g q) (if b then o.arity else if_listed os m n (λ k. k) 0)
+          → P (when b then f o.arity else if_listed os m n f p) (when b then g o.arity else if_listed os m n g q) (when b then o.arity else if_listed os m n (λ k. k) 0)
       go true t = each o.arity
       go false t = t
 
@@ -99,8 +99,8 @@ gathered_similar os (suc k) (x ∷ xs) [] s q = elim s [ ]
 abbrev outcome_of : ℕ → Around → Bool → List ℕ → List Part → Outcome
 outcome_of r around b rows ps =
     let e = result_of r ps in
-    if b || led_by_name (elements e.node) then fails 22 else
-    if ltb 64 (node_depth e.node) then fails 6 else
+    when b || led_by_name (elements e.node) then fails 22 else
+    when ltb 64 (node_depth e.node) then fails 6 else
     becomes rows (e.transformed around)
 
 outcome_similar : (r : ℕ) (os : List Operator) (around : Around) (xs ys : List Element) → Similar xs ys → outcome r os around xs ≡ outcome r os around ys
@@ -233,8 +233,8 @@ result r os es = (result_of r (gathered os 0 (linked (parts_of es)))).node
 -- what a bytecode form with the flat list es becomes: at its place, what its result is transformed to where it is written there
 pub outcome_written : (r : ℕ) (os : List Operator) (around : Around) (es : Nodes)
     → outcome r os around (linked (parts_of es))
-    ≡ (if short os 0 es || led_by_name (elements (result r os es)) then fails 22 else
-    if ltb 64 (node_depth (result r os es)) then fails 6 else
+    ≡ (when short os 0 es || led_by_name (elements (result r os es)) then fails 22 else
+    when ltb 64 (node_depth (result r os es)) then fails 6 else
     becomes (each_row es) (placed r (transform (result r os es) around)))
 outcome_written r os around es =
     rw (parts_linked (parts_of es), nodes_parts es, rows_linked es)
@@ -244,8 +244,8 @@ outcome_written r os around es =
     e = result_of r (gathered os 0 (linked (parts_of es)))
 
     go : (b : Bool) → (b ≡ false → e.transformed around ≡ placed r (transform e.node around))
-        → (if b then fails 22 else if ltb 64 (node_depth e.node) then fails 6 else becomes (each_row es) (e.transformed around))
-        ≡ (if b then fails 22 else if ltb 64 (node_depth e.node) then fails 6 else becomes (each_row es) (placed r (transform e.node around)))
+        → (when b then fails 22 else when ltb 64 (node_depth e.node) then fails 6 else becomes (each_row es) (e.transformed around))
+        ≡ (when b then fails 22 else when ltb 64 (node_depth e.node) then fails 6 else becomes (each_row es) (placed r (transform e.node around)))
     go true w = refl
     go false w = rw (w refl)
 
@@ -258,8 +258,8 @@ made_evaluated call e n es around h = rw (made_written e n es around)
 
 pub bytecode_evaluated : (call : Call) (r : ℕ) (os : List Operator) (around : Around) (es : Nodes) (h : Here)
     → rule_bytecode call r (outcome r os around (linked (parts_of es))) h
-    ≡ (if short os 0 es || led_by_name (elements (result r os es)) then stop 22 r else
-    if ltb 64 (node_depth (result r os es)) then stop 6 r else
+    ≡ (when short os 0 es || led_by_name (elements (result r os es)) then stop 22 r else
+    when ltb 64 (node_depth (result r os es)) then stop 6 r else
     after (map step (each_row es)) (rule call (placed r (transform (result r os es) around)) h))
 unfolding rule
 bytecode_evaluated call r os around es h =
@@ -268,8 +268,8 @@ bytecode_evaluated call r os around es h =
     e : Node
     e = placed r (transform (result r os es) around)
 
-    go : (b c : Bool) → rule_bytecode call r (if b then fails 22 else if c then fails 6 else becomes (each_row es) e) h
-        ≡ (if b then stop 22 r else if c then stop 6 r else after (map step (each_row es)) (rule call e h))
+    go : (b c : Bool) → rule_bytecode call r (when b then fails 22 else when c then fails 6 else becomes (each_row es) e) h
+        ≡ (when b then stop 22 r else when c then stop 6 r else after (map step (each_row es)) (rule call e h))
     go true c = refl
     go false true = refl
     go false false = refl

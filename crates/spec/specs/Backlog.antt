@@ -1,6 +1,6 @@
 -- Document 02, §2, "A night's backlog at once": what the call answers, for every input. Assumes nothing.
 use Rattle.std.specs.Prelude.{ℕ, ◌+◌, ◌-◌, ◌/◌, List, [], ◌∷◌, ◌++◌, Bool, false, not, ◌||◌, length, take, drop, ltb, eqb}
-use Rattle.spec.specs.Expr.{if◌then◌else◌}
+use Rattle.spec.specs.Expr.{when◌then◌else◌}
 use Rattle.spec.specs.Calls.{Answer, refusal, acceptance, over, Evaluate}
 
 -- "Take one buffer of streams end to end with a list of their ends": the streams, the first of which starts at `start`
@@ -69,5 +69,5 @@ accepted es answers = record { own = acceptance es.given 0 es.table es.output; a
 -- 23 comes "at 0, before all others, nothing written".
 unfoldable pub Backlog : List ℕ → List ℕ → List ℕ → ℕ → List ℕ → ℕ → List ℕ → Backlogged
 Backlog buffer ends table work output steps answers =
-    if is_23 buffer ends answers then record { own = refusal 23 0 table output; answers = answers } else
+    when is_23 buffer ends answers then record { own = refusal 23 0 table output; answers = answers } else
     accepted (in_turn (streams 0 ends buffer) table work output steps) answers

@@ -2,7 +2,7 @@
 -- evaluate the resulting expression with the normal BULK evaluation rules". The transformation depends on the written stream alone.
 -- Assumes nothing.
 use Rattle.std.specs.Prelude.{ℕ, zero, suc, max, ◌+◌, List, [], ◌∷◌, ◌++◌, map, Bool, true, false, not, ◌&&◌, ◌||◌, length, take, eqb, ltb}
-use Rattle.spec.specs.Expr.{if◌then◌else◌, some, if_ref, if_int}
+use Rattle.spec.specs.Expr.{when◌then◌else◌, some, if_ref, if_int}
 use Rattle.spec.specs.Nodes.{core, plain, is, Node, leaf, branch, bytecode, Nodes, empty, cons, Outcome, fails, becomes, row, elements, head_word}
 
 -- Names
@@ -40,7 +40,7 @@ pub record Operator : Type 0 where
 -- one thing for a listed reference's arity, another for a reference that isn't listed
 unfoldable pub if_listed : {A : Type 0} → List Operator → ℕ → ℕ → (ℕ → A) → A → A
 if_listed [] m n f other = other
-if_listed (o ∷ os) m n f other = if eqb o.marker m && eqb o.name n then f o.arity else if_listed os m n f other
+if_listed (o ∷ os) m n f other = when eqb o.marker m && eqb o.name n then f o.arity else if_listed os m n f other
 
 -- "operators MUST be references"; "References not listed as operators are operands."
 abbrev pub if_operator : {A : Type 0} → List Operator → Node → (ℕ → A) → A → A
@@ -156,8 +156,8 @@ result_of r (e ∷ f ∷ es) = record { node = branch r (nodes (e ∷ f ∷ es))
 abbrev pub outcome : ℕ → List Operator → Around → List Element → Outcome
 outcome r os around flat =
     let e = result_of r (gathered os 0 flat) in
-    if short os 0 (nodes (parts flat)) || led_by_name (elements e.node) then fails 22 else
-    if ltb 64 (node_depth e.node) then fails 6 else
+    when short os 0 (nodes (parts flat)) || led_by_name (elements e.node) then fails 22 else
+    when ltb 64 (node_depth e.node) then fails 6 else
     becomes (map (λ x. row x.alone.node) flat) (e.transformed around)
 
 -- "( prefix* {arities}:Expr {bytecode} )": by what its arity list gives, and by what follows its head
@@ -174,8 +174,8 @@ with_arities r around (a ∷ flat) = with_operators r around flat (operators a.a
 abbrev pub headed : ℕ → Part → List Element → Around → Node
 headed r e es around =
     let ps = e ∷ parts es in
-    if is_name prefix* e.node then bytecode r (nodes ps) (with_arities r around es) else
-    if is_name prefix e.node && ltb 0 (length around) then bytecode r (nodes ps) (outcome r (all around) around es) else
+    when is_name prefix* e.node then bytecode r (nodes ps) (with_arities r around es) else
+    when is_name prefix e.node && ltb 0 (length around) then bytecode r (nodes ps) (outcome r (all around) around es) else
     branch r (transformed_all around ps)
 
 -- "a list is created with the operator as the first expression, then as many next expressions as its arity [..] appended at the end of this

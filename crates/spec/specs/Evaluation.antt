@@ -1,6 +1,6 @@
 -- Document 01, "Evaluation": "depth first, left to right, over a list of definitions that are visible at each place", as a run. Assumes nothing.
 use Rattle.std.specs.Prelude.{ℕ, zero, suc, List, [], ◌∷◌, ◌++◌, map, Bool, false, not, length, drop, ltb}
-use Rattle.spec.specs.Expr.{if◌then◌else◌, array, if_array, atom, form, Exprs, none, more, only, append, canonical, deepest}
+use Rattle.spec.specs.Expr.{when◌then◌else◌, array, if_array, atom, form, Exprs, none, more, only, append, canonical, deepest}
 use Rattle.spec.specs.Nodes.{rest, Node, leaf, branch, bytecode, Nodes, empty, cons, Outcome, fails, becomes, number_all, row, headed_by, markers}
 use Rattle.spec.specs.Bytecode.{transform_all}
 use Rattle.spec.specs.Runs.{step, charge, Run, give, stop, before, after, bind}
@@ -32,7 +32,7 @@ defining d h = give (record { values = none; here = add_definition d h })
 -- value)". 6: "a value with over 64 forms one inside another"; "then 6, 17".
 abbrev pub complete : ℕ → Exprs → Here → Run Left
 complete r vs h =
-    if ltb 64 (deepest vs) then stop 6 r else
+    when ltb 64 (deepest vs) then stop 6 r else
     before (charge r (length (canonical vs))) (give (record { values = vs; here = h }))
 
 -- "both arrays; their bytes joined": bs of the operands before. "Concat's 11 for an operand whose value is no array comes after both
@@ -60,7 +60,7 @@ finish call r h (as_definition m n) vs = defining (record { marker = m; name = n
 finish call r h as_concat vs = join r [] vs h
 finish call r h (as_call code scope) vs =
     bind (call r code (record { within = inner; scope = scope; namespaces = h.namespaces; arguments = passed vs }))
-    λ left. complete r (if one_value code then left.values else only (form left.values)) h
+    λ left. complete r (when one_value code then left.values else only (form left.values)) h
 
 -- an expression's evaluation, where it is evaluated
 abbrev pub Meaning : Type 0

@@ -2,7 +2,7 @@
 -- of first bytes", from 0. Evaluation speaks of row numbers; only the calls turn one into a place, the row's start.
 -- Document 01: "Names of the core namespace", "Table". Assumes nothing.
 use Rattle.std.specs.Prelude.{ℕ, ◌+◌, List, [], ◌∷◌, ◌++◌, Bool, eqb}
-use Rattle.spec.specs.Expr.{if◌then◌else◌, Atom, if_ref, Expr, atom, form, Exprs, none, more, rows}
+use Rattle.spec.specs.Expr.{when◌then◌else◌, Atom, if_ref, Expr, atom, form, Exprs, none, more, rows}
 
 -- "Names of the core namespace, marker 0x20": the mixed list of drafts 04 and 05. `version` (00) is looked for at the stream's
 -- beginning; it stands for itself, as `true` (01) and `false` (02) do: "All other core names stand for themselves."
@@ -49,11 +49,11 @@ names =
 -- the word of a name byte, by a table
 unfoldable pub among : List Name → ℕ → Word
 among [] n = plain
-among (k ∷ ks) n = if eqb k.byte n then k.word else among ks n
+among (k ∷ ks) n = when eqb k.byte n then k.word else among ks n
 
 -- the word of a reference's marker and name
 unfoldable pub word : ℕ → ℕ → Word
-word m n = if eqb m core then among names n else plain
+word m n = when eqb m core then among names n else plain
 
 mutual
   pub data Node : Type 0 where

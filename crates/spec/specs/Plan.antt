@@ -1,7 +1,7 @@
 -- Document 01, "Evaluation": what an expression's rule says is to be done once its step is taken, or which refusal it is given: "In one
 -- expression: 16, 13, 12, 11, 14, 15, 19 (for define, before its value)". Nothing here evaluates; a call's 19 follows its arguments. Assumes nothing.
 use Rattle.std.specs.Prelude.{ℕ, List, [], ◌∷◌, Bool, not, ◌&&◌, ◌||◌, length, ltb, leb, eqb}
-use Rattle.spec.specs.Expr.{if◌then◌else◌, same, some, Atom, if_ref, if_array, if_int, atom, form, Exprs, only, size, first, without}
+use Rattle.spec.specs.Expr.{when◌then◌else◌, same, some, Atom, if_ref, if_array, if_int, atom, form, Exprs, only, size, first, without}
 use Rattle.spec.specs.Nodes.{core, Word, ns, define, concat, subst, arg, rest, plain, is, word, Node, leaf, branch, bytecode, Nodes, empty, cons, unnumbered_all, elements, tail, head_word, headed_by}
 
 -- Where an expression is evaluated
@@ -27,7 +27,7 @@ pub data Found : Type 0 where
 
 unfoldable pub look_up : ℕ → ℕ → Scope → Found
 look_up m n [] = nothing
-look_up m n (d ∷ ds) = if eqb d.marker m && eqb d.name n then latest d.content ds else look_up m n ds
+look_up m n (d ∷ ds) = when eqb d.marker m && eqb d.name n then latest d.content ds else look_up m n ds
 
 -- a marker with the id that it is associated with
 pub record Namespace : Type 0 where
@@ -121,9 +121,9 @@ plan_ns element es h = refuse 13
 plan_ns inner es h = refuse 13
 plan_ns (top earlier) es h =
     expect_two es λ a b. expect_ref a λ m n. expect_array b λ id.
-    if ltb (length id) 1 || ltb 64 (length id) then refuse 11 else
-    if clash m id earlier h.namespaces then refuse 14 else
-    if leb 64 (length h.namespaces) then refuse 19 else
+    when ltb (length id) 1 || ltb 64 (length id) then refuse 11 else
+    when clash m id earlier h.namespaces then refuse 14 else
+    when leb 64 (length h.namespaces) then refuse 19 else
     associate (only (form (unnumbered_all es))) (record { marker = m; id = id })
 
 -- 14: "define: marker 0x20 or not yet associated"
@@ -135,10 +135,10 @@ undefinable m known = eqb m core || not (some (λ k. eqb k.marker m) known)
 abbrev pub plan_definition : Nodes → Here → Plan
 plan_definition es h =
     expect_two es λ a v. expect_ref a λ m n.
-    if headed_by rest v then refuse 11 else
-    if undefinable m h.namespaces then refuse 14 else
-    if leb 256 (length h.scope) then refuse 19 else
-    if headed_by subst v then define_function (record { marker = m; name = n; content = function (tail (elements v)) }) else
+    when headed_by rest v then refuse 11 else
+    when undefinable m h.namespaces then refuse 14 else
+    when leb 256 (length h.scope) then refuse 19 else
+    when headed_by subst v then define_function (record { marker = m; name = n; content = function (tail (elements v)) }) else
     inside 2 inner (as_definition m n)
 
 -- "as an element of the top level or of a data form"; else 13
@@ -149,7 +149,7 @@ plan_define inner es h = refuse 13
 
 -- "( concat a b )". 11: "a `rest` form is a wrong kind for [..] concat's operand"
 abbrev pub plan_concat : Nodes → Plan
-plan_concat es = expect_two es λ a b. if headed_by rest a || headed_by rest b then refuse 11 else inside 1 inner as_concat
+plan_concat es = expect_two es λ a b. when headed_by rest a || headed_by rest b then refuse 11 else inside 1 inner as_concat
 
 -- 15: "arg or rest outside code"
 abbrev pub in_code : Arguments → (Exprs → Plan) → Plan
@@ -158,11 +158,11 @@ in_code (passed vs) f = f vs
 
 -- "( arg n ): argument n." 15: "n not below [..] the number of arguments"
 abbrev pub plan_arg : ℕ → Arguments → Plan
-plan_arg n args = in_code args λ vs. if ltb n (size vs) then leave (first 1 (without n vs)) else refuse 15
+plan_arg n args = in_code args λ vs. when ltb n (size vs) then leave (first 1 (without n vs)) else refuse 15
 
 -- "( rest n ): the arguments without the first n, put in place one by one." 15: "n [..] above [..] the number of arguments"
 abbrev pub plan_rest : ℕ → Arguments → Plan
-plan_rest n args = in_code args λ vs. if leb n (size vs) then leave (without n vs) else refuse 15
+plan_rest n args = in_code args λ vs. when leb n (size vs) then leave (without n vs) else refuse 15
 
 -- "Other forms are data forms: every element is evaluated, the head too."
 abbrev pub data_form : Plan
@@ -179,7 +179,7 @@ plan_head nothing = data_form
 abbrev pub plan_other : Nodes → Scope → Plan
 plan_other empty scope = data_form
 plan_other (cons (leaf r a) es) scope = if_ref a (λ m n. plan_head (look_up m n scope)) data_form
-plan_other (cons (branch r fs) es) scope = if is (head_word fs) subst then inside 1 inner (as_call (tail fs) scope) else data_form
+plan_other (cons (branch r fs) es) scope = when is (head_word fs) subst then inside 1 inner (as_call (tail fs) scope) else data_form
 plan_other (cons (bytecode r fs o) es) scope = data_form
 
 -- 12: "`subst` form where a value is wanted"
@@ -202,7 +202,7 @@ plan_reference nothing a = leave (only (atom a))
 -- "An atom that is no reference is its own value."
 unfoldable pub plan_atom : Atom → Scope → Plan
 plan_atom a scope =
-    if_ref a (λ m n. if is (word m n) plain then plan_reference (look_up m n scope) a else refuse 12)
+    if_ref a (λ m n. when is (word m n) plain then plan_reference (look_up m n scope) a else refuse 12)
     (leave (only (atom a)))
 
 -- the rule for an expression, a bytecode form taken as it is written

@@ -1,7 +1,7 @@
 -- Document 01, "Step count": "run these rules [..] with [..] no bound on steps". A run has no bound at all: its events in order, and how
 -- it ends. `hold` holds it to a number of steps and a workspace, and `cut` is how it ends then. Assumes nothing.
 use Rattle.std.specs.Prelude.{ℕ, ◌+◌, ◌-◌, List, [], ◌∷◌, ◌++◌, ltb, eqb}
-use Rattle.spec.specs.Expr.{if◌then◌else◌}
+use Rattle.spec.specs.Expr.{when◌then◌else◌}
 
 -- the expression at a row takes a step; so many bytes are charged for it
 pub data Event : Type 0 where
@@ -52,10 +52,10 @@ hold_events steps work [] (done a) = reached a steps work
 hold_events steps work [] (stopped w r) = ceased w r
 hold_events steps work (step r ∷ es) end =
     let on = hold_events (steps - 1) work es end in
-    if eqb steps 0 then ceased 16 r else on
+    when eqb steps 0 then ceased 16 r else on
 hold_events steps work (charge r n ∷ es) end =
     let on = hold_events steps (work - n) es end in
-    if ltb work n then ceased 17 r else on
+    when ltb work n then ceased 17 r else on
 
 abbrev pub hold : {A : Type 0} → ℕ → ℕ → Run A → Held A
 hold steps work run = hold_events steps work run.events run.end

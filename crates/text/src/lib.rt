@@ -1,98 +1,110 @@
-// Text for standard output, gathered in a buffer so that a call of the system writes much of it; and numbers that were written. `used` is how
-// many of the buffer's bytes are in use, and each function that takes it gives how many are so afterwards. Assumes the contract that the kit states
-// of C's `write`.
-ghost use Rattle.std.specs.Prelude.{◌≤◌, ◌<◌};
+#![tactic(auto)]
+
+// Text for standard output, gathered in a buffer so that a call of the system writes much of it; numbers that were written; and standard input whole.
+// `used` is how many of the buffer's bytes are in use, and each function that takes it gives how many are so afterwards. What a write that fails leaves
+// out is lost, and a read that fails is the input's end. Assumes the contracts that the kit states of C's `read` and `write`.
+ghost use Rattle.std.specs.Prelude.{◌≤◌, ◌<◌, length};
 ghost use Rattle.text.specs.Size.{buffer_size};
 
-use libc::STDOUT_FILENO;
+use std::io::Read;
 
 pub const BUFFER_SIZE: usize = 4096;
 
 pub type Buffer = [u8; BUFFER_SIZE];
 
 // Adds a byte. If the buffer is full, it is written out first.
-pub fn byte(buffer: &mut Buffer, used: usize, b: u8) -> usize
+pub fn byte(rt: &impl Print, buffer: &mut Buffer, used: usize, b: u8) -> usize
     ensures { result ≤ buffer_size }
 {
     if used < BUFFER_SIZE {
         buffer[used] = b;
         return used + 1;
     }
-    io::write_all(STDOUT_FILENO, buffer);
+    let _ = rt.write_all(buffer);
     buffer[0] = b;
     1
 }
 
 // Writes out what the buffer holds.
-pub fn flush(buffer: &Buffer, used: usize)
+pub fn flush(rt: &impl Print, buffer: &Buffer, used: usize)
     requires { used ≤ buffer_size }
 {
-    let whole: &[u8] = buffer;
-    io::write_all(STDOUT_FILENO, &whole[0..used]);
+    let _ = rt.write_all(&buffer[0..used]);
 }
 
-pub fn bytes(buffer: &mut Buffer, used: usize, s: &[u8]) -> usize
+pub fn bytes(rt: &impl Print, buffer: &mut Buffer, used: usize, s: &[u8]) -> usize
     requires { used ≤ buffer_size }
     ensures { result ≤ buffer_size }
 {
     let mut at = used;
     let mut i: usize = 0;
     while i < s.len() {
-        at = byte(buffer, at, s[i]);
+        at = byte(rt, buffer, at, s[i]);
         i += 1;
     }
     at
 }
 
-pub fn decimal(buffer: &mut Buffer, used: usize, n: u64) -> usize
+pub fn decimal(rt: &impl Print, buffer: &mut Buffer, used: usize, n: u64) -> usize
     requires { used ≤ buffer_size }
     ensures { result ≤ buffer_size }
 {
-    let mut digits = [0u8; 20];
-    let k = io::decimal(n, &mut digits);
-    bytes(buffer, used, &digits[..k])
+    let mut digits = itoa::Buffer::new();
+    bytes(rt, buffer, used, digits.format(n).as_bytes())
 }
 
 // The same for a number of 32 bits.
-fn number(buffer: &mut Buffer, used: usize, n: u32) -> usize
+fn number(rt: &impl Print, buffer: &mut Buffer, used: usize, n: u32) -> usize
     requires { used ≤ buffer_size }
     ensures { result ≤ buffer_size }
 {
-    decimal(buffer, used, n as u64)
+    decimal(rt, buffer, used, n as u64)
 }
 
 // Numbers with a space between them, and a line's end behind every `width` of them.
-pub fn numbers(buffer: &mut Buffer, used: usize, numbers: &[u32], width: usize) -> usize
+pub fn numbers(
+    rt: &impl Print,
+    buffer: &mut Buffer,
+    used: usize,
+    numbers: &[u32],
+    width: usize,
+) -> usize
     requires { (used ≤ buffer_size) × (0 < width) }
     ensures { result ≤ buffer_size }
 {
     let mut at = used;
     let mut i: usize = 0;
     while i < numbers.len() {
-        at = number(buffer, at, numbers[i]);
+        at = number(rt, buffer, at, numbers[i]);
         i += 1;
-        at = byte(buffer, at, if i % width == 0 { b'\n' } else { b' ' });
+        at = byte(rt, buffer, at, if i % width == 0 { b'\n' } else { b' ' });
     }
     at
 }
 
 // The line of a refusal.
-pub fn refused(buffer: &mut Buffer, used: usize, number: u32, place: usize) -> usize
+pub fn refused(
+    rt: &impl Print,
+    buffer: &mut Buffer,
+    used: usize,
+    number: u32,
+    place: usize,
+) -> usize
     requires { used ≤ buffer_size }
     ensures { result ≤ buffer_size }
 {
-    let past_word = bytes(buffer, used, b"refused ");
-    let past_number = decimal(buffer, past_word, number as u64);
-    let past_space = byte(buffer, past_number, b' ');
-    let past_place = decimal(buffer, past_space, place as u64);
-    byte(buffer, past_place, b'\n')
+    let past_word = bytes(rt, buffer, used, b"refused ");
+    let past_number = decimal(rt, buffer, past_word, number as u64);
+    let past_space = byte(rt, buffer, past_number, b' ');
+    let past_place = decimal(rt, buffer, past_space, place as u64);
+    byte(rt, buffer, past_place, b'\n')
 }
 
 // Writes out the line of a refusal.
-pub fn print_refusal(number: u32, place: usize) {
+pub fn print_refusal(rt: &impl Print, number: u32, place: usize) {
     let mut buffer = [0u8; BUFFER_SIZE];
-    let used = refused(&mut buffer, 0, number, place);
-    flush(&buffer, used);
+    let used = refused(rt, &mut buffer, 0, number, place);
+    flush(rt, &buffer, used);
 }
 
 // A decimal number that was written, with one digit more; above 64 bits, the largest.
@@ -114,4 +126,18 @@ pub fn within(count: u64, size: usize) -> usize
     } else {
         size
     }
+}
+
+// Reads until the bytes are full, the input ends or a read fails. Gives how many were read.
+pub fn read_full(reader: &mut impl Read, bytes: &mut [u8]) -> usize
+    ensures { result ≤ length bytes.new }
+{
+    let mut done: usize = 0;
+    while done < bytes.len() {
+        match reader.read(&mut bytes[done..]) {
+            Ok(0) | Err(_) => break,
+            Ok(n) => done += n,
+        }
+    }
+    done
 }

@@ -1,6 +1,6 @@
 // Values made complete: charged, and put on top of the finished ones or below the floor. Document 01: "Steps", "Workspace", refusals 16 and 17.
 ghost use Rattle.std.specs.Prelude.{◌≡◌, false, List, ℕ, ◌+◌, ◌-◌, ◌≤◌, length, eqb};
-ghost use Rattle.spec.specs.Expr.{if◌then◌else◌, Atom, array, atom, form, Exprs, only, deepest, atom_bytes};
+ghost use Rattle.spec.specs.Expr.{when◌then◌else◌, Atom, array, atom, form, Exprs, only, deepest, atom_bytes};
 ghost use Rattle.spec.specs.Nodes.{Nodes, unnumbered_all};
 ghost use Rattle.rows.specs.Rows.{cell, LeafAt, NodesAt};
 ghost use Rattle.writer.specs.Bytes.{put_at};
@@ -31,7 +31,7 @@ pub enum Out {
 impl State {
     // One step is taken, for the expression at a row.
     pub fn step(self, row: usize) -> Out
-        ensures { result ≡ (if eqb self.steps 0 then Refused 16 row else Done (stepped self)) }
+        ensures { result ≡ (when eqb self.steps 0 then Refused 16 row else Done (stepped self)) }
     {
         let steps = self.steps;
         if steps == 0 {

@@ -1,7 +1,6 @@
 -- `bulk::evaluate` meets its contract: a stream that can't be read, or what the evaluation of its rows told, and the result put out if there is
 -- room. Assumes nothing.
 use mathlib.Core.Path.{sym, ◌∙◌}
-use native.Mathlib.Omega.{arith}
 use lib.Seq.{length-take-le}
 use Rattle.reader.proofs.Told.{told, can_fill, was_read, WasRead}
 use Rattle.bulk.proofs.Answering.{evaluate_refusal, has_read, rows_refusal, rows_short, rows_result}

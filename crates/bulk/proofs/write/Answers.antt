@@ -1,7 +1,6 @@
 -- `bulk::write` meets its contract: a stream that can't be read, or the canonical stream if there is room, which is the stream itself if both
 -- have one length. Assumes nothing.
 use Prim.Native.Nat.{ℕ}
-use mathlib.Core.Path.{◌∙◌}
 use native.Mathlib.Omega.{arith}
 use Rattle.reader.proofs.Told.{told, can_fill, was_read}
 use Rattle.bulk.proofs.Answering.{write_refusal, write_short, write_acceptance, copied_whole}

@@ -1,6 +1,5 @@
 -- `evaluator::arrange` meets its contract: there is no bytecode, or it is transformed. Assumes nothing.
 use borrow.Author.Rules.{rules}
-use borrow.Author.Tests.{not-true}
 use mathlib.Core.Path.{refl}
 use Rattle.laws.specs.Demands.{Bytes}
 use Rattle.laws.proofs.Basics.{impossible}

@@ -6,9 +6,9 @@ use mathlib.Core.List.{List}
 use mathlib.Core.Bool.{not}
 use lib.ListN.{length, take, length-take}
 use native.Mathlib.Omega.{arith}
-use Rattle.spec.specs.Expr.{same, Exprs}
+use Rattle.spec.specs.Expr.{Exprs}
 use Rattle.spec.specs.Reading.{Row, readable}
-use Rattle.spec.specs.Calls.{reading, version_bytes}
+use Rattle.spec.specs.Calls.{reading}
 use Rattle.laws.proofs.Steps.{all_bytes}
 use Rattle.rows.proofs.Filled.{filled_whole}
 use Rattle.workspace.specs.declared.values.Out.{Out}

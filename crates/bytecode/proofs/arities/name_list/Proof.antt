@@ -1,13 +1,12 @@
 -- `bytecode::arities::name_list` meets its contract: the forms that are left give what all give.
 -- Assumes nothing.
 use borrow.Author.Rules.{rules}
-use borrow.Author.Tests.{not-true, not-false}
 use Prim.Native.Nat.{◌-◌}
 use mathlib.Core.Path.{◌≡◌, sym, ◌∙◌}
 use native.Mathlib.Omega.{arith}
 use Rattle.spec.specs.Nodes.{Node}
 use Rattle.spec.specs.Bytecode.{arities, operators}
-use Rattle.rows.specs.Rows.{kind, next}
+use Rattle.rows.specs.Rows.{next}
 use Rattle.rows.proofs.Nodes.{written_whole}
 use Rattle.bytecode.specs.Numbers.{Changed}
 use Rattle.bytecode.specs.Named.{ListAt}

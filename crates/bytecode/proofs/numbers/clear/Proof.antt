@@ -11,8 +11,6 @@ use Rattle.bytecode.specs.Numbers.{Changed}
 use Rattle.bytecode.proofs.Changing.{changed_cleared, changed_nowhere}
 use Rattle.bytecode.proofs.numbers.clear.Statement.{statement}
 use Rattle.bytecode.proofs.numbers.clear.Tie as tie
-use Rattle.bytecode.proofs.numbers.clear.Reads as reads
-use Rattle.bytecode.proofs.numbers.clear.Lts as lts
 
 abbrev invariant-loop-row : tie.invariant-loop-row
 invariant-loop-row table₀ rows row₀ table row = (row ≤ rows) × (length table ≡ length table₀)

@@ -3,7 +3,6 @@ use borrow.Author.Rules.{rules}
 use Prim.Native.Nat.{◌+◌}
 use mathlib.Core.Path.{◌≡◌, refl, sym, ◌∙◌}
 use native.Mathlib.Omega.{arith}
-use borrow.Author.Tests.{not-true, not-false}
 use Rattle.spec.specs.Nodes.{Nodes}
 use Rattle.rows.specs.Rows.{next}
 use Rattle.bytecode.specs.Scanned.{HeadedAt}

@@ -1,13 +1,11 @@
 -- The functions of `evaluator::run` meet their contracts, by recursion on the steps that are left. Assumes nothing.
-use Prim.Native.Nat.{ℕ, ◌+◌, ◌-◌, ◌*◌, ◌<◌}
-use mathlib.Core.Path.{◌≡◌, refl, ap, ◌∙◌, subst}
+use Prim.Native.Nat.{◌-◌}
+use mathlib.Core.Path.{refl, ap, ◌∙◌, subst}
 use native.Mathlib.Omega.{arith}
 use Rattle.spec.specs.Evaluation.{run_code}
-use Rattle.workspace.specs.declared.values.Out.{Out}
 use Rattle.rules.specs.Scope.{View, view}
 use Rattle.rules.specs.Settings.{showing}
 use Rattle.rules.specs.declared.scope.Scope.{Scope}
-use Rattle.rules.specs.declared.plan.After.{After}
 use Rattle.rows.proofs.Nodes.{more_whole}
 use Rattle.rules.proofs.Latest.{latest_length, view_under}
 use Rattle.evaluator.specs.Listed.{SomeReady, LeftOut, SomeEnding, CanEnd}

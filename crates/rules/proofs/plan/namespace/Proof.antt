@@ -8,7 +8,7 @@ use lib.ListN.{length}
 use lib.Seq.{slice}
 use lib.Dec.{leb}
 use borrow.Author.Tests.{le-leb, lt-leb}
-use Rattle.spec.specs.Expr.{if◌then◌else◌, array}
+use Rattle.spec.specs.Expr.{when◌then◌else◌, array}
 use Rattle.spec.specs.Nodes.{ns, branch, Nodes, head_word}
 use Rattle.spec.specs.Plan.{plan_ns}
 use Rattle.laws.proofs.Steps.{all_bytes}
@@ -74,7 +74,7 @@ clash-requires c κs =
 answered : (c : tie.After-clash) (clashing full : Bool) → c.clash.result ≡ clashing → let i = c.args in
     leb 64 i.here.scope.associated ≡ full → (definitions args : List ℕ) (r : ℕ) (es : Nodes) → NodesAt i.s.now i.table.now false i.form.first i.form.end es → head_word es ≡ ns
     → Answers i.s.now i.table.now args (view i.associations.now definitions i.here.scope) i.here r (branch i.row es) (λ h. plan_ns h.within es h)
-    (if clashing then Refuse 14 else if full then Refuse 19 else Ns i.form (c.key-marker.result / 256) (id stream c.body-from.result (c.end-to.result - c.body-from.result)))
+    (when clashing then Refuse 14 else when full then Refuse 19 else Ns i.form (c.key-marker.result / 256) (id stream c.body-from.result (c.end-to.result - c.body-from.result)))
 answered c clashing full is counted definitions args r es at led =
     let g = right c.before.before.before.before.before.before.before es at in
     let bytes = all_bytes (s c.before.before.before.before.before.before.before) (λ i. (c.shared_slice_known-1.given i).fits) in

@@ -5,7 +5,7 @@ use Prim.Native.Nat.{◌+◌, ◌-◌}
 use mathlib.Core.Path.{sym, ap, ◌∙◌}
 use native.Mathlib.Omega.{arith}
 use lib.ListN.{length, length-set}
-use borrow.Author.Tests.{leb-true, leb-false, not-true, not-false}
+use borrow.Author.Tests.{leb-true, leb-false}
 use Rattle.spec.specs.Expr.{form, Exprs, only, deepest}
 use Rattle.laws.proofs.Fits.{FitsAll}
 use Rattle.workspace.specs.Completed.{Stand}
