@@ -9,6 +9,8 @@ pub struct Instruction {
     pub operands: String,
     /// The functions, variables or sections whose addresses the linker puts in.
     pub symbols: Vec<String>,
+    /// The place in the code that it means, if there is one, as `1f <name+0xf>`.
+    pub place: Option<String>,
 }
 
 /// They stand before an instruction's name, and don't change where a call or a jump leads.
@@ -19,10 +21,7 @@ pub type Functions = BTreeMap<String, Vec<Instruction>>;
 
 /// Fails where a function could be called in a way that does not show.
 pub fn functions(object: &str) -> Result<Functions, String> {
-    let functions = listed(&objdump("-dr", object)?)?;
-    if functions.is_empty() {
-        return Err("no code".to_string());
-    }
+    let functions = read(object)?;
     for (name, instructions) in &functions {
         if let Some(taken) = instructions
             .iter()
@@ -30,6 +29,15 @@ pub fn functions(object: &str) -> Result<Functions, String> {
         {
             return Err(taken.told(name));
         }
+    }
+    Ok(functions)
+}
+
+/// Fails where the data has a function's address.
+pub fn read(object: &str) -> Result<Functions, String> {
+    let functions = listed(&objdump("-dr", object)?)?;
+    if functions.is_empty() {
+        return Err("no code".to_string());
     }
     tables_only(&objdump("-r", object)?, &functions)?;
     Ok(functions)
@@ -66,7 +74,9 @@ fn listed(text: &str) -> Result<Functions, String> {
 fn instruction(line: &str) -> Option<Instruction> {
     let mut parts = line.split('\t');
     let address = parts.next()?.trim().strip_suffix(':')?;
-    let mut code = parts.next()?.split('#').next()?.trim();
+    let whole = parts.next()?;
+    let (code, place) = whole.split_once(" # ").unwrap_or((whole, ""));
+    let mut code = code.trim();
     while let Some((_, rest)) = code
         .split_once(' ')
         .filter(|(word, _)| PREFIXES.contains(word))
@@ -79,6 +89,7 @@ fn instruction(line: &str) -> Option<Instruction> {
         name: name.to_string(),
         operands: operands.trim().to_string(),
         symbols: parts.skip(1).step_by(2).map(str::to_string).collect(),
+        place: (!place.is_empty()).then(|| place.trim().to_string()),
     })
 }
 
@@ -107,7 +118,15 @@ impl Instruction {
 /// by its section.
 fn bare(symbol: &str) -> &str {
     let name = symbol.strip_prefix(".text.").unwrap_or(symbol);
-    name.split(['+', '-']).next().unwrap_or(name)
+    without_offset(name)
+}
+
+/// A name may have these signs too.
+pub fn without_offset(place: &str) -> &str {
+    match place.rfind(['+', '-']) {
+        Some(at) if place[at + 1..].starts_with("0x") => &place[..at],
+        _ => place,
+    }
 }
 
 /// The function that a call or a jump leads to: its symbol stands four bytes before the next
@@ -128,7 +147,8 @@ fn tables_only(text: &str, functions: &Functions) -> Result<(), String> {
         let function = bare(line.split_whitespace().nth(2).unwrap_or(""));
         let table = section.strip_prefix(".rodata.") == Some(function);
         let is_code = function == ".text" || functions.contains_key(function);
-        let elsewhere = !table && !section.starts_with(".text") && section != ".eh_frame";
+        let unwinds = [".eh_frame", ".debug_frame"].contains(&section);
+        let elsewhere = !table && !section.starts_with(".text") && !unwinds;
         if is_code && elsewhere {
             return Err(format!("{section} has the address of {function}"));
         }

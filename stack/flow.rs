@@ -46,13 +46,17 @@ fn target<'a>(name: &str, instruction: &'a Instruction) -> Option<Target<'a>> {
     if let [symbol] = &instruction.symbols[..] {
         return code::named(symbol).map(Target::Function);
     }
-    let (address, label) = instruction.operands.split_once(" <")?;
-    let label = label.strip_suffix('>')?;
-    let function = label
-        .split_once('+')
-        .map_or(label, |(function, _)| function);
+    let (address, label) = place(&instruction.operands)?;
+    let function = code::without_offset(label);
     if function == name && instruction.name != "call" {
-        return u64::from_str_radix(address, 16).ok().map(Target::Here);
+        return Some(Target::Here(address));
     }
     (function == label).then_some(Target::Function(function))
+}
+
+/// The address and the name, with the offset, of a place that `objdump` writes.
+pub fn place(text: &str) -> Option<(u64, &str)> {
+    let (address, label) = text.split_once(" <")?;
+    let address = u64::from_str_radix(address, 16).ok()?;
+    Some((address, label.strip_suffix('>')?))
 }

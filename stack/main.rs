@@ -67,10 +67,9 @@ fn main() -> ExitCode {
     };
     let mut tally = Tally::default();
     for program in programs {
-        seen(program, &format!("target/obj/{program}.o"), &mut tally);
+        seen(&format!("obj/{program}.o"), &mut tally);
     }
-    let archive = format!("target/staticlib/lib{library}.a");
-    if let Some(functions) = seen(library, &archive, &mut tally) {
+    if let Some(functions) = seen(&format!("staticlib/lib{library}.a"), &mut tally) {
         runs::all(&functions, &mut tally);
     }
     tally.count("more than 64 KiB", small::ends());

@@ -30,8 +30,8 @@ fn told(graph: &Graph, recursive: &[&str]) -> String {
 }
 
 /// As written it is the whole run that reaches itself, or none.
-fn written(name: &str) -> Result<(bool, String), String> {
-    let graph = written::calls(name)?;
+fn written(file: &str) -> Result<(bool, String), String> {
+    let graph = written::calls(file)?;
     let recursive = recursion(&graph)?;
     let line = told(&graph, &recursive);
     if recursive.is_empty() || recursive.len() == evaluation::SIZE {
@@ -50,17 +50,19 @@ pub fn functions(file: &str) -> Result<(Functions, String), String> {
 }
 
 /// A crate's code, as it is written and as it is compiled, with what its evaluation takes.
-pub fn seen(name: &str, file: &str, tally: &mut Tally) -> Option<Functions> {
-    let written = written(name);
+pub fn seen(file: &str, tally: &mut Tally) -> Option<Functions> {
+    let as_written = format!("target/written/{file}");
+    let written = written(&as_written);
     let evaluates = written.as_ref().is_ok_and(|(evaluates, _)| *evaluates);
-    tally.count(&format!("{name} as written"), written.map(|(_, line)| line));
-    let (functions, line) = match functions(file) {
+    tally.count(&as_written, written.map(|(_, line)| line));
+    let file = format!("target/{file}");
+    let (functions, line) = match functions(&file) {
         Ok((functions, line)) => (Some(functions), Ok(line)),
         Err(line) => (None, Err(line)),
     };
-    tally.count(file, line);
+    tally.count(&file, line);
     if let Some(functions) = functions.as_ref().filter(|_| evaluates) {
-        tally.count(file, evaluation::deepest(functions));
+        tally.count(&file, evaluation::deepest(functions));
     }
     functions
 }
