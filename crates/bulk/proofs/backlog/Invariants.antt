@@ -1,4 +1,4 @@
--- The turns so far are those of a night's streams; the workspace keeps its length.
+-- The turns so far are those of a night's streams; the workspace keeps its length. Assumes nothing.
 use Prim.Native.Nat.{◌-◌}
 use mathlib.Core.Path.{◌≡◌}
 use lib.ListN.{length}
