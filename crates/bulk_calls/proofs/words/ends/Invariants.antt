@@ -1,4 +1,5 @@
--- `bulk_calls::words::ends`: the measure is how much of the input is left, and a byte that was taken is never given back, so that the count stays small. Assumes nothing.
+-- `bulk_calls::words::ends`: the measure is how much of the input is left, and a byte that was taken is never given back, so that
+-- the count stays small. Assumes nothing.
 use Rattle.std.proofs.Common.{◌+◌, ◌≤◌}
 use Rattle.bulk_calls.proofs.words.ends.Given as goal
 
