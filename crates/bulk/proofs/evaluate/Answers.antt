@@ -1,6 +1,9 @@
 -- `bulk::evaluate` meets its contract: a stream that can't be read, or what the evaluation of its rows told, and the result put out if there is
 -- room. Assumes nothing.
-use mathlib.Core.Path.{sym, ◌∙◌}
+use Prim.Native.Nat.{ℕ}
+use native.Mathlib.Omega.{arith}
+use lib.ListN.{length-take}
+use mathlib.Core.Path.{◌∙◌}
 use lib.Seq.{length-take-le}
 use Rattle.reader.proofs.Told.{told, can_fill, was_read, WasRead}
 use Rattle.bulk.proofs.Answering.{evaluate_refusal, has_read, rows_refusal, rows_short, rows_result}
@@ -33,18 +36,17 @@ returns-then-output-size c =
 pub slice_bounds-copy_from_slice-end-in-Is-2 : goal.slice_bounds-copy_from_slice-end-in-Is-2
 slice_bounds-copy_from_slice-end-in-Is-2 c =
     let read = was_read _ (told c.args.stream.now _ _ (λ i. (c.type_inv.stream i).fits) c.in-Right.ensures) c.fill.ensures in
-    (c.in-Is.ensures.1 _ c.args.output.now _ _ read.right.is read.filled_in).0
+    omega (arith, (c.in-Is.ensures.1 _ c.args.output.now _ _ read.right.is read.filled_in).0)
 
 pub slice_bounds-copy_from_slice-end-in-Is-3 : goal.slice_bounds-copy_from_slice-end-in-Is-3
 slice_bounds-copy_from_slice-end-in-Is-3 c =
     let read = was_read _ (told c.args.stream.now _ _ (λ i. (c.type_inv.stream i).fits) c.in-Right.ensures) c.fill.ensures in
-    sym (length-take-le _ c.evaluate.new.work (c.in-Is.ensures.1 _ c.args.output.now _ _ read.right.is read.filled_in).0)
+    omega (arith, length-take {A = ℕ}, (c.in-Is.ensures.1 _ c.args.output.now _ _ read.right.is read.filled_in).0)
 
 pub copy_from_slice-requires : goal.copy_from_slice-requires
 copy_from_slice-requires c =
     let read = was_read _ (told c.args.stream.now _ _ (λ i. (c.type_inv.stream i).fits) c.in-Right.ensures) c.fill.ensures in
-    let inside = (c.in-Is.ensures.1 _ c.args.output.now _ _ read.right.is read.filled_in).0 in
-    length-take-le _ c.args.output.now c.if-output-size.false ∙ sym (length-take-le _ c.evaluate.new.work inside)
+    omega (arith, length-take {A = ℕ}, c.if-output-size.false, (c.in-Is.ensures.1 _ c.args.output.now _ _ read.right.is read.filled_in).0)
 
 pub returns-else-output-size : goal.returns-else-output-size
 returns-else-output-size c =
