@@ -4,6 +4,7 @@
 use crate::code::{self, without_offset, Functions, Instruction};
 use crate::flow::{flow, place};
 use crate::graph::Graph;
+use std::collections::BTreeSet;
 
 /// C's start of a program. It goes on behind the constants, which stand first, and that calls the
 /// program's `main`. Neither is a function that is written.
@@ -15,6 +16,9 @@ pub fn calls(object: &str) -> Result<Graph, String> {
     let first = |instructions: &Vec<Instruction>| instructions.first().map(|each| each.address);
     let constants = functions.values().filter_map(first).min();
     functions.retain(|name, instructions| name != START && first(instructions) != constants);
+    if functions.is_empty() {
+        return Err("no functions".to_string());
+    }
     let mut graph = Graph::default();
     for (name, instructions) in &functions {
         graph.add(name);
@@ -25,36 +29,40 @@ pub fn calls(object: &str) -> Result<Graph, String> {
                 Some(called) if !functions.contains_key(called) => {
                     return Err(instruction.told(name));
                 }
-                _ => called.into_iter().for_each(|each| graph.add_call(name, each)),
+                _ => called
+                    .into_iter()
+                    .for_each(|each| graph.add_call(name, each)),
             }
         }
     }
     Ok(graph)
 }
 
-/// A function's tables of jumps stand behind its code. Fails where it jumps by an address without
-/// having a table.
+/// A function's tables of jumps stand behind its code. Fails where it has not a table for each jump
+/// by an address.
 fn before_tables<'a>(
     name: &str,
     instructions: &'a [Instruction],
     functions: &Functions,
 ) -> Result<&'a [Instruction], String> {
-    let mut end = None;
-    let mut by_address = None;
+    let mut tables = BTreeSet::new();
+    let mut code = instructions;
     for (i, instruction) in instructions.iter().enumerate() {
-        if end.is_some_and(|end| end <= instruction.address) {
-            return Ok(&instructions[..i]);
+        if tables
+            .first()
+            .is_some_and(|table| *table <= instruction.address)
+        {
+            code = &instructions[..i];
+            break;
         }
-        if instruction.operands.starts_with('*') {
-            by_address = Some(instruction);
-        }
-        if let Some(table) = table(name, instruction, functions)? {
-            end = Some(end.map_or(table, |end: u64| end.min(table)));
-        }
+        tables.extend(table(name, instruction, functions)?);
     }
-    match by_address {
-        Some(instruction) if end.is_none() => Err(instruction.told(name)),
-        _ => Ok(instructions),
+    let by_address = |each: &&Instruction| each.operands.starts_with('*');
+    let jumps: Vec<&Instruction> = code.iter().filter(by_address).collect();
+    match jumps.last() {
+        Some(jump) if jumps.len() != tables.len() => Err(jump.told(name)),
+        None if !tables.is_empty() => Err(format!("{name} has a table and no jump by it")),
+        _ => Ok(code),
     }
 }
 
@@ -68,6 +76,10 @@ fn table(
     let Some((address, label)) = instruction.place.as_deref().and_then(place) else {
         return Ok(None);
     };
+    // The place is not known before the linker puts it in.
+    if !instruction.symbols.is_empty() {
+        return Err(instruction.told(name));
+    }
     let function = without_offset(label);
     if function == name && instruction.address < address {
         return Ok(Some(address));

@@ -3,7 +3,7 @@
 
 usage: tools/own_if.py [FOLDER]     run once, after tools/snake_names.py
 
-Turned are the word `if` in the code of .antt files, in the ghost items and clauses of .rt files, and in must-fail edits of either.
+Turned is the word `if` in the code of .antt files, in the ghost items and clauses of .rt files, and in must-fail edits of either.
 """
 
 import os

@@ -4,7 +4,7 @@
 usage: tools/snake_names.py [FOLDER]     FOLDER is a checkout that port.py has turned; without it, the current folder
 
 A name is the repository's own where a file of specs/ or proofs/ declares it. In a Proof.antt the names of goals stay, since Rattle makes them.
-Changed are .antt files; in .rt files the ghost items and clauses; in must-fail edits the texts; in comments and pages what stands between
+Changed are .antt files; in .rt files the ghost items and clauses; in must-fail edits the texts, of those of .rt files the clauses; in comments and pages what stands between
 backticks; in pages also names that port.py turned, but no sample's folder. Names that fall together are printed, and then nothing is changed.
 """
 
