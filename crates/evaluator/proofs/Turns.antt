@@ -24,6 +24,7 @@ use Rattle.rows.proofs.Nodes.{MoreAt, append_nodes, markers_append, nodes_done, 
 use Rattle.rows.proofs.Parts.{element_is, element_past}
 use Rattle.workspace.specs.Completed.{Stand, with_floor, Untouched}
 use Rattle.workspace.specs.declared.values.State.{State}
+use Rattle.workspace.specs.declared.values.Out.{Out}
 use Rattle.workspace.proofs.Areas.{stand_none, stand_append, untouched_none, untouched_less, untouched_then, stand_below}
 use Rattle.rules.specs.Scope.{View}
 use Rattle.rules.specs.Settings.{showing, Sees, ArgumentsOf, ElementOf, of_top, of_data, of_other}
@@ -32,7 +33,8 @@ use Rattle.rules.specs.declared.here.Within.{Within as Kind}
 use Rattle.rules.specs.declared.here.Here.{Here as Seen}
 use Rattle.rules.proofs.Borne.{some_append}
 use Rattle.rules.proofs.Shown.{arguments_kept}
-use Rattle.evaluator.specs.Listed.{Ready, SomeReady, Over, LeftAt, Evaluating}
+use Rattle.evaluator.specs.declared.element.Left.{Left as Answer}
+use Rattle.evaluator.specs.Listed.{Ready, SomeReady, Over, LeftAt, LeftOut, Evaluating, EvaluatedBy}
 
 -- Where the next expression is evaluated
 
@@ -150,6 +152,11 @@ module _ {s t : List ℕ} {bound codes : ℕ} {args : List ℕ} {flat : Bool} {e
             single = r.single;
             entered = r.entered;
           })
+
+      -- what it leaves, where its answer is this
+      pub leaves_as : {node : Ranged} → node ≡ element_at t flat row → (w' : List ℕ) (see : Scope → View) (left : Answer) {out : Out}
+          → EvaluatedBy s t w w' args v see st at node row left → left.out ≡ out → LeftOut s t w w' see at.scope st held_next left.scope out
+      leaves_as e w' see left by q = subst (LeftOut s t w w' see at.scope st held_next left.scope) q (by _ _ _ _ (going_evaluates e))
 
       -- where it ends
       pub going_past : {node : Ranged} {past : ℕ} → node ≡ element_at t flat row → past ≡ past_of row node → past ≡ behind t flat row

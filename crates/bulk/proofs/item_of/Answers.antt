@@ -1,9 +1,11 @@
 -- `bulk::item_of` meets its contract: the part from start to end, or none. Assumes nothing.
-use Prim.Native.Nat.{ℕ}
+use Prim.Native.Nat.{ℕ, ◌≤◌}
 use mathlib.Core.List.{List}
 use native.Mathlib.Omega.{arith}
 use mathlib.Core.Path.{◌≡◌, refl}
-use lib.ListN.{length, length-take, length-drop}
+use lib.ListN.{length, get_or, length-take, length-drop}
+use mir.Syntax.{w8}
+use mir.Val.{Fits}
 use denote.Ref.{Bor}
 use borrow.Author.Rules.{rules}
 use Rattle.spec.specs.Reading.{read}
@@ -27,27 +29,28 @@ unfolding Item
 told_part buffer k r told b stream result same = rw (← chosen_lent b stream result, same) (told b)
 
 -- it lies in the buffer
+inside : (x : Bor (List ℕ)) (k start end : ℕ) → ((i : ℕ) → Fits w8 (get_or x.now i 0))
+    → ((b : Buffer) → found_part b (At start end) ≡ item_read b k (read x.now (length x.now))) → (start ≤ end) × (end ≤ length x.now)
+inside x k start end bytes told =
+    item_inside of_stream x.now x.now _ _ _ (all_bytes x.now (λ i. (bytes i).fits)) (told_part x k (At start end) told of_stream x x refl)
+
 pub slice_bounds-result-count : goal.slice_bounds-result-count
-slice_bounds-result-count c =
-    let x = c.args.buffer in
-    (item_inside of_stream x.now x.now _ _ _ (all_bytes x.now (λ i. (c.type_inv.buffer i).fits)) (told_part x _ (At c.in-At.start c.in-At.end) c.in-At.ensures of_stream x x refl)).0
+slice_bounds-result-count c = (inside c.args.buffer c.args.k _ _ c.type_inv.buffer c.in-At.ensures).0
 
 pub slice_bounds-result-start : goal.slice_bounds-result-start
 slice_bounds-result-start c =
-    let x = c.args.buffer in
-    let i = item_inside of_stream x.now x.now _ _ _ (all_bytes x.now (λ i. (c.type_inv.buffer i).fits)) (told_part x _ (At c.in-At.start c.in-At.end) c.in-At.ensures of_stream x x refl) in
+    let i = inside c.args.buffer c.args.k _ _ c.type_inv.buffer c.in-At.ensures in
     search rules
 
 pub slice_bounds-result-end : goal.slice_bounds-result-end
 slice_bounds-result-end c =
-    let x = c.args.buffer in
-    let i = item_inside of_stream x.now x.now _ _ _ (all_bytes x.now (λ i. (c.type_inv.buffer i).fits)) (told_part x _ (At c.in-At.start c.in-At.end) c.in-At.ensures of_stream x x refl) in
+    let i = inside c.args.buffer c.args.k _ _ c.type_inv.buffer c.in-At.ensures in
     search rules
 
 pub returns-in-At : goal.returns-in-At
 returns-in-At c =
     let x = c.args.buffer in
-    let i = item_inside of_stream x.now x.now _ _ _ (all_bytes x.now (λ i. (c.type_inv.buffer i).fits)) (told_part x _ (At c.in-At.start c.in-At.end) c.in-At.ensures of_stream x x refl) in
+    let i = inside x c.args.k _ _ c.type_inv.buffer c.in-At.ensures in
     λ b stream res same. rw (← told_part x _ (At c.in-At.start c.in-At.end) c.in-At.ensures b stream res same) (record {
       bytes = rw (← chosen_lent b stream res, same);
       place = rw same (record { block = refl; offset = omega arith; size = simp (length-take, length-drop) (omega arith) });

@@ -1,16 +1,20 @@
 -- The functions of `evaluator::run` meet their contracts, by recursion on the steps that are left. Assumes nothing.
-use Prim.Native.Nat.{◌-◌}
-use mathlib.Core.Path.{refl, ap, ◌∙◌, subst}
+use Prim.Native.Nat.{ℕ, ◌-◌}
+use mathlib.Core.Path.{◌≡◌, refl, ap, ◌∙◌, subst}
+use mathlib.Core.List.{List}
 use native.Mathlib.Omega.{arith}
 use Rattle.spec.specs.Evaluation.{run_code}
+use Rattle.workspace.specs.declared.values.State.{State}
 use Rattle.rules.specs.Scope.{View, view}
 use Rattle.rules.specs.Settings.{showing}
 use Rattle.rules.specs.declared.scope.Scope.{Scope}
+use Rattle.rules.specs.declared.here.Here.{Here}
+use Rattle.rules.specs.declared.plan.After.{After}
 use Rattle.rows.proofs.Nodes.{more_whole}
 use Rattle.rules.proofs.Latest.{latest_length, view_under}
-use Rattle.evaluator.specs.Listed.{SomeReady, LeftOut, SomeEnding, CanEnd}
+use Rattle.evaluator.specs.Listed.{SomeReady, SomeEnding, CanEnd}
 use Rattle.evaluator.proofs.Begins.{extends_none}
-use Rattle.evaluator.proofs.Turns.{going_start, going_over, going_more, held_next, going_evaluates, going_past, going_ceased, going_on}
+use Rattle.evaluator.proofs.Turns.{going_start, going_over, going_more, going_evaluates, leaves_as, going_past, going_ceased, going_on}
 use Rattle.evaluator.proofs.Insides.{steps_of, can_make, making_ends, ends_as, inside_fewer, inside_some, inside_steps, inside_can_end, inside_ends}
 use Rattle.evaluator.proofs.Calling.{call_kept, part_is, call_refused, ran, call_ready, call_stopped, call_returns, can_call, call_ends, function_code, function_found, code_found}
 use Rattle.evaluator.proofs.run.+run.Goals as goal
@@ -103,27 +107,19 @@ entered-returns t c = rw c.entering-at.ensures at c.list.ensures
 
 -- A form whose elements were evaluated
 
+-- what becomes of their values, where this is known
+becomes : {s t w : List ℕ} {v : View} {st : State} {at : Here} {start : ℕ} {after after' : After} → after ≡ after' → SomeEnding s t w v st at start after
+    → SomeEnding s t w v st at start after'
+becomes e x = rw (← e) x
+
 pub finish-finish-requires : goal.finish-finish-requires
-finish-finish-requires t c =
-    let a = c.args in
-    can_make (subst (SomeEnding a.s.now a.table.now a.w.now (view a.associations.now a.definitions.now a.here.scope) a.values.state a.here a.values.start)
-    c.in-Make.is c.requires)
+finish-finish-requires t c = can_make (becomes c.in-Make.is c.requires)
 
 pub finish-function-requires : goal.finish-function-requires
-finish-function-requires t c =
-    let a = c.args in (
-      omega (arith, c.decreases),
-      subst (SomeEnding a.s.now a.table.now a.w.now (view a.associations.now a.definitions.now a.here.scope) a.values.state a.here a.values.start)
-          c.in-Function.is c.requires,
-    )
+finish-function-requires t c = (omega (arith, c.decreases), becomes c.in-Function.is c.requires)
 
 pub finish-code-requires : goal.finish-code-requires
-finish-code-requires t c =
-    let a = c.args in (
-      omega (arith, c.decreases),
-      subst (SomeEnding a.s.now a.table.now a.w.now (view a.associations.now a.definitions.now a.here.scope) a.values.state a.here a.values.start)
-          c.in-Code.is c.requires,
-    )
+finish-code-requires t c = (omega (arith, c.decreases), becomes c.in-Code.is c.requires)
 
 pub finish-returns-in-Make : goal.finish-returns-in-Make
 finish-returns-in-Make t c =
@@ -203,9 +199,7 @@ list-returns-in-Refused t c =
           let y : SomeReady a.s.now a.table.now a.w.now a.args.now (view a.associations.now a.definitions.now a.here.scope) a.state a.here a.form.flat a.form.first a.form.end =
           record { bound = bound; codes = codes; nodes = es; here = h; ready = r } in
           let g = l.invariant.going y in
-          going_ceased g on _ _
-          (subst (LeftOut a.s.now a.table.now l.w left.new.w see l.here.scope l.state (held_next g on) left.result.scope) c.in-Refused.is
-          (left.ensures.0 _ _ _ _ (going_evaluates g on c.element-node.ensures))),
+          going_ceased g on _ _ (leaves_as g on c.element-node.ensures left.new.w see left.result left.ensures.0 c.in-Refused.is),
       view_under _ _ _ _ a.here.scope l.here.scope l.invariant.extends.defined l.invariant.extends.associated left.ensures.1 ∙ l.invariant.kept,
     )
 
@@ -223,17 +217,14 @@ list-loop-row-preserved t c =
     let on = c.loop-row-test.true in
     let left = c.expression-left in
     let see : Scope → View = view left.new.associations left.new.definitions in
-    let Listed : Type 0 =
-    SomeReady a.s.now a.table.now a.w.now a.args.now (view a.associations.now a.definitions.now a.here.scope) a.state a.here a.form.flat a.form.first a.form.end in
-    let left_as = λ (y : Listed).
-    let g = l.invariant.going y in
-    subst (LeftOut a.s.now a.table.now l.w left.new.w see l.here.scope l.state (held_next g on) left.result.scope) c.in-Done.is
-    (left.ensures.0 _ _ _ _ (going_evaluates g on c.element-node.ensures)) in
     let i = l.invariant.extends in
-    let past = going_past (l.invariant.going c.requires) on c.element-node.ensures c.behind-behind.ensures in
-    let more = (left_as c.requires).1 in
+    let some = l.invariant.going c.requires in
+    let past = going_past some on c.element-node.ensures c.behind-behind.ensures in
+    let more = (leaves_as some on c.element-node.ensures left.new.w see left.result left.ensures.0 c.in-Done.is).1 in
     rw c.showing-here.ensures (record {
-      going = λ y. going_on (l.invariant.going y) on _ past (left_as y).0;
+      going = λ y.
+          let g = l.invariant.going y in
+          going_on g on _ past (leaves_as g on c.element-node.ensures left.new.w see left.result left.ensures.0 c.in-Done.is).0;
       kept = view_under _ _ _ _ a.here.scope l.here.scope i.defined i.associated left.ensures.1 ∙ l.invariant.kept;
       extends = record { defined = omega (arith, more.defined, i.defined); associated = omega (arith, more.associated, i.associated) };
     })
