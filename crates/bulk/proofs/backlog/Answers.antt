@@ -18,7 +18,7 @@ loop-i-init c = (turns _ (sym c.is_23.ensures ∙ c.if-is_23.false), refl)
 
 -- a stream is in the buffer
 pub slice_bounds-evaluate-count : goal.slice_bounds-evaluate-count
-slice_bounds-evaluate-count c = (turn_ends _ c.loop-i.invariant.0 c.loop-i-test.true).0
+slice_bounds-evaluate-count c = omega (arith, (turn_ends _ c.loop-i.invariant.0 c.loop-i-test.true).0)
 
 pub slice_bounds-evaluate-start : goal.slice_bounds-evaluate-start
 slice_bounds-evaluate-start c = omega (arith, (turn_ends _ c.loop-i.invariant.0 c.loop-i-test.true).0)
