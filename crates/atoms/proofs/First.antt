@@ -9,25 +9,27 @@ use lib.ListN.{length, drop, get_or, length-drop}
 use lib.Seq.{drop-cons}
 use lib.Dec.{ltb, eqb}
 use borrow.Author.Tests.{lt-ltb, le-ltb, ne_eqb}
+use Rattle.std.specs.Prelude.{Result, Ok, Err}
 use Rattle.spec.specs.Expr.{when◌then◌else◌, int}
 use Rattle.spec.specs.Reading.{taken, and_then, take_bytes, length_expr, marker, name, as_array, read_atom, token}
 use Rattle.atoms.specs.Tokens.{token_at, shown, shown_atom}
+use Rattle.atoms.specs.declared.Kind.TheVariants.{Nil, Array, Int, Reference}
 use Rattle.atoms.specs.declared.Token.{Token}
-use Rattle.atoms.specs.declared.Token.TheVariants.{Opening, Closing, Whole, Bad}
+use Rattle.atoms.specs.declared.Token.TheVariants.{Opening, Closing, Atom as Whole}
 use Rattle.atoms.proofs.Places.{left_at, shown_array, shown_reference}
 
 module _ (s : List ℕ) (p : ℕ) (inside : p < length s) where
   abbrev byte : ℕ
   byte = get_or s p 0
 
-  abbrev told : Token
+  abbrev told : Result Token (ℕ × ℕ)
   told = shown (token_at s p)
 
-  pub first_opening : byte ≡ 0x01 → told ≡ Opening
+  pub first_opening : byte ≡ 0x01 → told ≡ Ok Opening
   unfolding token
   first_opening h = rw h
 
-  pub first_closing : byte ≡ 0x02 → told ≡ Closing
+  pub first_closing : byte ≡ 0x02 → told ≡ Ok Closing
   unfolding token
   first_closing h = rw h
 
@@ -42,7 +44,7 @@ module _ (s : List ℕ) (p : ℕ) (inside : p < length s) where
   one_byte : length s - length (drop (suc p) s) ≡ p + 1
   one_byte = rw (← add-one p) (left_at s (p + 1) (omega arith))
 
-  pub first_nil : byte ≡ 0x00 → told ≡ Whole 0 p (p + 1)
+  pub first_nil : byte ≡ 0x00 → told ≡ Ok (Whole Nil p (p + 1))
   unfolding read_atom
   first_nil h = as_atom (λ e. omega arith) (λ e. omega arith) ∙ rw (h, one_byte)
 
@@ -58,7 +60,7 @@ module _ (s : List ℕ) (p : ℕ) (inside : p < length s) where
   other : (k : ℕ) → k < byte → eqb byte k ≡ false
   other k h = ne_eqb byte k (λ e. omega arith)
 
-  pub first_reserved : 0x04 ≤ byte → byte < 0x10 → told ≡ Bad 4 p
+  pub first_reserved : 0x04 ≤ byte → byte < 0x10 → told ≡ Err (4, p)
   unfolding read_atom
   first_reserved l h =
       let place : length s - suc (length (drop (suc p) s)) ≡ p = omega (arith, length-drop (suc p) s) in
@@ -79,15 +81,18 @@ module _ (s : List ℕ) (p : ℕ) (inside : p < length s) where
       as_atom (λ e. omega arith) (λ e. omega arith)
       ∙ rw (other 0x00 (omega arith), other 0x03 (omega arith), le-ltb byte 0x10 (omega arith), le-ltb byte 0x7F (omega arith), le-ltb byte 0x80 h)
 
-  pub first_int : 0x80 ≤ byte → byte < 0xC0 → told ≡ Whole 3 p (p + 1)
+  pub first_int : 0x80 ≤ byte → byte < 0xC0 → told ≡ Ok (Whole Int p (p + 1))
   first_int h l = from_80 h ∙ rw (lt-ltb byte 0xC0 l, one_byte)
 
   pub first_small : 0xC0 ≤ byte → told ≡ shown_atom p (length s) (and_then (take_bytes (byte - 0xC0) (drop (p + 1) s)) as_array)
   first_small h = from_80 (omega arith) ∙ rw (le-ltb byte 0xC0 h, ← add-one p)
 
   -- a reference and an array that are whole, by their first byte
-  pub short_whole : 0x10 ≤ byte → byte < 0x7F → 1 < length s - p → told ≡ Whole 4 p (p + 2)
-  short_whole h l more = first_short h l ∙ shown_reference s p byte (p + 1) (omega arith) (omega arith) ∙ ap (Whole 4 p) (omega arith)
+  pub short_whole : 0x10 ≤ byte → byte < 0x7F → 1 < length s - p → told ≡ Ok (Whole Reference p (p + 2))
+  short_whole h l more = first_short h l ∙ shown_reference s p byte (p + 1) (omega arith) (omega arith) ∙ ap (λ (e : ℕ). Ok (Whole Reference p e)) (omega arith)
 
-  pub small_whole : 0xC0 ≤ byte → byte - 0xC0 < length s - p → told ≡ Whole 2 (p + 1) (p + 1 + (byte - 0xC0))
+  pub small_whole : 0xC0 ≤ byte → byte - 0xC0 < length s - p → told ≡ Ok (Whole Array (p + 1) (p + 1 + (byte - 0xC0)))
   small_whole h more = first_small h ∙ shown_array s p (p + 1) (byte - 0xC0) (omega arith) (omega arith)
+
+-- the table
+pub ruleset first_bytes = (first_opening, first_closing, first_nil, first_array, first_long, first_reserved, first_short, first_int, first_small, short_whole, small_whole)

@@ -9,46 +9,55 @@ use lib.Seq.{length-take-le}
 use mir.Syntax.{w8}
 use mir.Val.{Fits}
 use borrow.Author.Tests.{lt-ltb, le-ltb}
+use Rattle.std.specs.Prelude.{Ok, Err}
 use Rattle.spec.specs.Expr.{canonical}
 use Rattle.spec.specs.Reading.{row_width, tokens, rows_of, refused, read}
 use Rattle.spec.specs.Calls.{Answer, refusal, over, filled, put_out, reading, Read, Write, Evaluate}
 use Rattle.laws.specs.Demands.{meaning_of}
 use Rattle.laws.proofs.Steps.{all_bytes}
 use Rattle.laws.proofs.Theorems.{canonical_only}
+use Rattle.atoms.specs.Refusals.{number, refused as refusal_of, told}
+use Rattle.atoms.specs.declared.refusal.Reason.TheVariants.{ShortOutput}
+use Rattle.atoms.specs.declared.refusal.Refusal.{Refusal}
+use Rattle.atoms.proofs.Reasons.{number_positive}
 use Rattle.reader.specs.Passes.{checked}
-use Rattle.reader.specs.declared.Checked.TheVariants.{Right}
-use Rattle.reader.proofs.Told.{WasRead, told, was_read}
+use Rattle.reader.specs.declared.Counts.{Counts}
+use Rattle.reader.proofs.Told.{WasRead, check_told, was_read}
 use Rattle.evaluator.specs.Evaluated.{HasRead}
+use Rattle.evaluator.specs.declared.Evaluation.{Evaluation}
 use Rattle.bulk.specs.Answers.{Answered, AnsweredEvaluation}
-use Rattle.bulk.specs.declared.Answer.TheVariants.{Accepted, Refused}
-use Rattle.bulk.specs.declared.Evaluation.TheVariants.{Accepted as Result, Refused as Refusal}
 
--- a stream that can't be read
-module _ (s t : List ℕ) {w p : ℕ} (r : (reading s t ≡ refused w p) × (1 ≤ w)) where
-  pub read_refusal : Answered (Read s t) (Refused w p) t []
+-- a stream that the first pass refused
+module _ (s t : List ℕ) (r : Refusal) (bytes : (i : ℕ) → Fits w8 (get_or s i 0))
+    (told_so : told {A = Counts} (Err r) ≡ checked (read s (length t / row_width))) where
+  wrong : (reading s t ≡ refused (number r.reason) r.place) × (1 ≤ number r.reason)
+  wrong = check_told s _ (Err r) bytes told_so
+
+  pub read_refusal : Answered (Read s t) (Err r) t []
   unfolding Read
-  read_refusal = record { is = rw r.0; numbered = r.1 }
+  read_refusal = record { is = rw wrong.0; numbered = wrong.1 }
 
-  pub write_refusal : (out : List ℕ) → Answered (Write s t out) (Refused w p) t out
+  pub write_refusal : (out : List ℕ) → Answered (Write s t out) (Err r) t out
   unfolding Write
-  write_refusal out = record { is = rw r.0; numbered = r.1 }
+  write_refusal out = record { is = rw wrong.0; numbered = wrong.1 }
 
-  pub evaluate_refusal : (work : ℕ) (out : List ℕ) (steps : ℕ) → AnsweredEvaluation (Evaluate s t work out steps) (Refusal w p) t out
+  pub evaluate_refusal : (work : ℕ) (out : List ℕ) (steps : ℕ) → AnsweredEvaluation (Evaluate s t work out steps) (Err r) t out
   unfolding Evaluate
-  evaluate_refusal work out steps = record { is = rw r.0; numbered = r.1 }
+  evaluate_refusal work out steps = record { is = rw wrong.0; numbered = wrong.1 }
 
 -- a stream that the first pass told is readable, and the second filled in
-pub read_right : (s t : List ℕ) → ((i : ℕ) → Fits w8 (get_or s i 0)) → {t' : List ℕ} {rows size : ℕ} → Right rows size ≡ checked (read s (length t / row_width))
-    → t' ≡ filled (rows_of (tokens 0 0 s)) t → WasRead s t t' rows size
-read_right s t bytes {rows = rows} {size = size} e is = was_read t (told s _ (Right rows size) (λ i. (bytes i).fits) e) is
+pub read_right : (s t : List ℕ) → ((i : ℕ) → Fits w8 (get_or s i 0)) → {t' : List ℕ} {counts : Counts}
+    → told (Ok counts) ≡ checked (read s (length t / row_width))
+    → t' ≡ filled (rows_of (tokens 0 0 s)) t → WasRead s t t' counts.rows counts.length
+read_right s t bytes {counts = counts} e is = was_read t (check_told s _ (Ok counts) bytes e) is
 
 -- a stream that was read
 module _ {s t t' : List ℕ} {rows size : ℕ} (r : WasRead s t t' rows size) where
-  pub read_acceptance : Answered (Read s t) (Accepted rows) t' []
+  pub read_acceptance : Answered (Read s t) (Ok rows) t' []
   unfolding Read
   read_acceptance = record { is = rw (r.right.is, r.filled_in, r.right.counted); numbered = tt }
 
-  pub write_short : (out : List ℕ) → length out < size → Answered (Write s t out) (Refused 18 0) t' out
+  pub write_short : (out : List ℕ) → length out < size → Answered (Write s t out) (Err (refusal_of ShortOutput 0)) t' out
   unfolding Write put_out
   write_short out l = record {
     is = rw (r.right.is, r.filled_in, lt-ltb (length out) (length (canonical (meaning_of s))) (omega (arith, r.right.sized)));
@@ -56,7 +65,7 @@ module _ {s t t' : List ℕ} {rows size : ℕ} (r : WasRead s t t' rows size) wh
   }
 
   pub write_acceptance : (out out' : List ℕ) → size ≤ length out → out' ≡ over (canonical (meaning_of s)) out
-      → Answered (Write s t out) (Accepted size) t' out'
+      → Answered (Write s t out) (Ok size) t' out'
   unfolding Write put_out
   write_acceptance out out' l k = record {
     is = rw (r.right.is, r.filled_in, k, le-ltb (length out) (length (canonical (meaning_of s))) (omega (arith, r.right.sized)), r.right.sized);
@@ -77,20 +86,20 @@ module _ {s t t' : List ℕ} {rows size : ℕ} (r : WasRead s t t' rows size) wh
 
   -- what the evaluation of its rows told: the definition's answer a is a refusal, or some bytes put out
   module _ (a : Answer) (out : List ℕ) where
-    pub rows_refusal : (n p : ℕ) → (1 ≤ n) × (a ≡ refusal n p (filled (rows_of (tokens 0 0 s)) t) out) → AnsweredEvaluation a (Refusal n p) t' out
-    rows_refusal n p h = record { is = rw r.filled_in (sym h.1); numbered = h.0 }
+    pub rows_refusal : (x : Refusal) → a ≡ refusal (number x.reason) x.place (filled (rows_of (tokens 0 0 s)) t) out → AnsweredEvaluation a (Err x) t' out
+    rows_refusal x h = record { is = rw r.filled_in (sym h); numbered = number_positive x.reason }
 
-    module _ (w : List ℕ) (n k : ℕ) (h : (n ≤ length w) × (a ≡ put_out (take n w) k (filled (rows_of (tokens 0 0 s)) t) out)) where
-      long : length (take n w) ≡ n
-      long = length-take-le n w h.0
+    module _ (w : List ℕ) (e : Evaluation) (h : (e.length ≤ length w) × (a ≡ put_out (take e.length w) e.steps (filled (rows_of (tokens 0 0 s)) t) out)) where
+      long : length (take e.length w) ≡ e.length
+      long = length-take-le e.length w h.0
 
-      pub rows_short : length out < n → AnsweredEvaluation a (Refusal 18 0) t' out
+      pub rows_short : length out < e.length → AnsweredEvaluation a (Err (refusal_of ShortOutput 0)) t' out
       unfolding put_out
-      rows_short l = record { is = rw (h.1, r.filled_in, lt-ltb (length out) (length (take n w)) (omega (arith, long))); numbered = omega arith }
+      rows_short l = record { is = rw (h.1, r.filled_in, lt-ltb (length out) (length (take e.length w)) (omega (arith, long))); numbered = omega arith }
 
-      pub rows_result : (out' : List ℕ) → n ≤ length out → out' ≡ over (take n w) out → AnsweredEvaluation a (Result n k) t' out'
+      pub rows_result : (out' : List ℕ) → e.length ≤ length out → out' ≡ over (take e.length w) out → AnsweredEvaluation a (Ok e) t' out'
       unfolding put_out
-      rows_result out' l e = record {
-        is = rw (h.1, r.filled_in, e, le-ltb (length out) (length (take n w)) (omega (arith, long)), long);
+      rows_result out' l is = record {
+        is = rw (h.1, r.filled_in, is, le-ltb (length out) (length (take e.length w)) (omega (arith, long)), long);
         numbered = tt;
       }

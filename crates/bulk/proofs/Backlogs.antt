@@ -6,22 +6,23 @@ use mathlib.Core.Logic.{◌↔◌}
 use mathlib.Core.Bool.{true, false}
 use mathlib.Core.List.{List}
 use lib.ListN.{length, take, drop, get_or}
+use Rattle.std.specs.Prelude.{Result, Ok, Err}
 use Rattle.spec.specs.Calls.{Answer, acceptance}
 use Rattle.spec.specs.Backlog.{is_23, answer_width}
 use Rattle.laws.specs.Demands.{Bytes, Begins, evaluation, result_bytes, NoSmaller, SameSizes, Final, Alike, SameFirst, bytes_of_first, all_steps, Counted}
 use Rattle.laws.specs.Backlogs.{Night, backlog, lengths_before, said, Two}
 use Rattle.laws.proofs.Backlogs as laws
+use Rattle.atoms.specs.Refusals.{told}
+use Rattle.atoms.specs.declared.refusal.Refusal.{Refusal}
+use Rattle.evaluator.specs.declared.Evaluation.{Evaluation}
 use Rattle.bulk.specs.Answers.{stated}
 use Rattle.bulk.specs.Promises.{Call, EvaluateCall, BacklogCall, said_by, InBacklog, stream_of, lent_to, said_in}
-use Rattle.bulk.specs.declared.Answer.{Answer as Given}
-use Rattle.bulk.specs.declared.Answer.TheVariants.{Accepted, Refused}
-use Rattle.bulk.specs.declared.Evaluation.TheVariants.{Accepted as Result}
-use Rattle.bulk.proofs.Demands.{decided, evaluation_by, decided_evaluation, is_accepted, left_bytes}
+use Rattle.bulk.proofs.Demands.{decided, given_as, evaluation_by, decided_evaluation, is_accepted, left_bytes}
 
 -- table and output are those of the definition's answer
-left : (a : Answer) (r : Given) (t o : List ℕ) → stated r t o ≡ a → (t ≡ a.table) × (o ≡ a.output)
-left a (Accepted n) t o h = (ap (λ (x : Answer). x.table) h, ap (λ (x : Answer). x.output) h)
-left a (Refused w p) t o h = (ap (λ (x : Answer). x.table) h, ap (λ (x : Answer). x.output) h)
+left : (a : Answer) (r : Result ℕ Refusal) (t o : List ℕ) → stated r t o ≡ a → (t ≡ a.table) × (o ≡ a.output)
+left a (Ok n) t o h = (ap (λ (x : Answer). x.table) h, ap (λ (x : Answer). x.output) h)
+left a (Err r) t o h = (ap (λ (x : Answer). x.table) h, ap (λ (x : Answer). x.output) h)
 
 module _ {n : Night} (x : BacklogCall n) where
   abbrev own : Call (backlog n).own
@@ -36,20 +37,20 @@ module _ {n : Night} (x : BacklogCall n) where
   -- "Refusals: 23, [..] at 0, before all others, nothing written." A caller whose ends don't fit its buffer, or whose list has too few places, is
   -- told so, and finds table, output and list as they were.
   pub backlog_unfit : is_23 n.buffer n.ends n.answers ≡ true
-      → (x.answer ≡ Refused 23 0) × (x.table ≡ n.lent.table) × (x.output ≡ n.lent.output) × (x.answers ≡ n.answers)
+      → (told x.answer ≡ Err (23, 0)) × (x.table ≡ n.lent.table) × (x.output ≡ n.lent.output) × (x.answers ≡ n.answers)
   backlog_unfit e =
       let is = laws.backlog_refused n e in
       (decided own ∙ rw is, buffers.0 ∙ rw is, buffers.1 ∙ rw is, x.told.list ∙ rw is)
 
   -- Every other caller is given the length of all results.
-  pub backlog_fit : is_23 n.buffer n.ends n.answers ≡ false → x.answer ≡ Accepted (backlog n).own.given
-  backlog_fit e = decided own ∙ rw (laws.backlog_accepted n e)
+  pub backlog_fit : is_23 n.buffer n.ends n.answers ≡ false → x.answer ≡ Ok (backlog n).own.given
+  backlog_fit e = given_as own _ (rw (laws.backlog_accepted n e))
 
-  goes : (total : ℕ) → x.answer ≡ Accepted total → (backlog n).own.number ≡ 0
+  goes : (total : ℕ) → x.answer ≡ Ok total → (backlog n).own.number ≡ 0
   goes total e = let is : acceptance total 0 x.table x.output ≡ (backlog n).own = rw e at x.told.own.is in ap (λ (a : Answer). a.number) (sym is)
 
   -- "Numbers past the last stream's answer are unchanged." So are the bytes past the results, and the length given is that of all results.
-  pub backlog_past : (total : ℕ) → x.answer ≡ Accepted total
+  pub backlog_past : (total : ℕ) → x.answer ≡ Ok total
       → (drop (answer_width * length n.ends) x.answers ≡ drop (answer_width * length n.ends) n.answers)
       × (drop total x.output ≡ drop total n.lent.output) × (total ≡ lengths_before (length n.ends) x.answers)
   backlog_past total e =
@@ -77,11 +78,11 @@ module _ {n : Night} (x : InBacklog n) where
 
   -- So it is what a call of `evaluate` answers.
   pub backlog_evaluate : (y : EvaluateCall (stream_of x) (lent_to x))
-      → (y.answer ≡ evaluation_by (said_in x)) × ((size steps : ℕ) → y.answer ≡ Result size steps → take size y.output ≡ result_bytes (said_in x))
+      → (told y.answer ≡ evaluation_by (said_in x)) × ((e : Evaluation) → y.answer ≡ Ok e → take e.length y.output ≡ result_bytes (said_in x))
   backlog_evaluate y =
       let same = backlog_alone in (
         decided_evaluation y ∙ rw (same.number, same.place, same.given, same.steps),
-        λ size steps e. left_bytes _ _ y size steps e ∙ sym (same.bytes (same.number ∙ is_accepted _ _ y size steps e)),
+        λ e is. left_bytes _ _ y e is ∙ sym (same.bytes (same.number ∙ is_accepted _ _ y e is)),
       )
 
   module _ (stream : Bytes (stream_of x)) where
@@ -118,7 +119,7 @@ module _ {n m : Night} (x : InBacklog n) (y : InBacklog m) where
 
 -- A night given again with steps, workspace and output each no smaller: a stream whose answer, and those of all streams before it, are none of 16,
 -- 17 and 18 gets that answer again, and the same bytes.
-module _ {n m : Night} (x : BacklogCall n) (y : BacklogCall m) (total total' : ℕ) (accepted : x.answer ≡ Accepted total) (accepted' : y.answer ≡ Accepted total') where
+module _ {n m : Night} (x : BacklogCall n) (y : BacklogCall m) (total total' : ℕ) (accepted : x.answer ≡ Ok total) (accepted' : y.answer ≡ Ok total') where
   pub backlog_again : n.buffer ≡ m.buffer → n.ends ≡ m.ends → NoSmaller n.lent m.lent → (i : ℕ) → ((k : ℕ) → k ≤ i → Final (said_by x k)) → i < length n.ends
       → Alike (said_by x i) (said_by y i)
   backlog_again b e l i final h =

@@ -1,48 +1,61 @@
 -- The ends of a backlog's streams, gone through one by one, and what 23 says of them. Document 02, §2: "an end below the one before, a last end other
 -- than the buffer's length". Assumes nothing.
-use Prim.Native.Nat.{ℕ, ◌+◌, ◌/◌, ◌≤◌, ◌<◌}
-use mathlib.Core.Path.{◌≡◌, refl, ◌∙◌}
-use mathlib.Core.Bool.{true, false, not, or-true, or-false}
+use Prim.Native.Nat.{ℕ, zero, suc, ◌+◌, ◌-◌, ◌/◌, ◌≤◌, ◌<◌}
+use mathlib.Core.Path.{◌≡◌, refl}
+use mathlib.Core.Bool.{Bool, true, false, not, or-true, or-false}
 use mathlib.Core.List.{List, [], ◌∷◌}
 use native.Mathlib.Omega.{arith}
 use native.Mathlib.Numerals.{add-one}
 use lib.ListN.{length, drop, get_or}
 use lib.Seq.{drop-cons}
-use lib.Dec.{eqb}
+use lib.Dec.{ltb, eqb}
 use borrow.Author.Tests.{lt-ltb, le-ltb, ltb-false, eqb-true, not-false}
+use Rattle.std.specs.Prelude.{Some, slice_get, unwrap_or}
+use Rattle.std.specs.List.{IsAllAdjacentAnswer}
+use Rattle.std.specs.List.Sorted.{IsNonDecreasing}
+use Rattle.std.specs.Ordering.{is_le, is_some_and, nat_cmp}
+use Rattle.std.proofs.lemmas.List.Sorted.{non_decreasing_from_is_sorted}
 use Rattle.spec.specs.Backlog.{some_below, last_end, misplaced, is_23, answer_width}
 use Rattle.laws.proofs.Basics.{both_false}
-use Rattle.laws.proofs.Steps.{none_left}
 
 -- none is below the one before, and the last is this
 pub record Ordered (before : ℕ) (ends : List ℕ) (last : ℕ) : Type 0 where
   pub rises : some_below before ends ≡ false
   pub ends_at : last_end before ends ≡ last
 
-module _ (ends : List ℕ) where
-  -- what is asked of the ends from i on, after the one before, is what is asked of all
-  pub record Asked (before i : ℕ) : Type 0 where
-    pub below : some_below 0 ends ≡ some_below before (drop i ends)
-    pub last : last_end 0 ends ≡ last_end before (drop i ends)
+-- the ends from i on
+pub here : (ends : List ℕ) (i : ℕ) → i < length ends → drop i ends ≡ get_or ends i 0 ∷ drop (i + 1) ends
+here ends i h = rw (add-one i) (drop-cons ends i 0 h)
 
-  pub asked_first : Asked 0 0
-  asked_first = record { below = refl; last = refl }
+-- "an end below the one before", or none
+falls : (before : ℕ) (ends : List ℕ) (k : ℕ) → suc k < length ends → get_or ends (suc k) 0 < get_or ends k 0 → some_below before ends ≡ true
+unfolding some_below
+falls before [] k more l = absurd (omega arith)
+falls before (end ∷ []) k more l = absurd (omega arith)
+falls before (end ∷ next ∷ ends) zero more l = rw (lt-ltb next end l) (or-true (ltb end before))
+falls before (end ∷ next ∷ ends) (suc k) more l = rw (falls end (next ∷ ends) k (omega arith) l) (or-true (ltb end before))
 
-  pub here : (i : ℕ) → i < length ends → drop i ends ≡ get_or ends i 0 ∷ drop (i + 1) ends
-  here i h = rw (add-one i) (drop-cons ends i 0 h)
+rises : (before : ℕ) (ends : List ℕ) → (0 < length ends → before ≤ get_or ends 0 0) → IsNonDecreasing ends → some_below before ends ≡ false
+unfolding some_below
+rises before [] first h = refl
+rises before (end ∷ ends) first h =
+    rw (le-ltb end before (first (omega arith)), rises end ends (λ some. h 0 1 0 (omega arith) (omega arith)) (λ i j d le more. h (suc i) (suc j) d (omega arith) (omega arith)))
 
-  module _ {before i : ℕ} (h : Asked before i) where
-    pub asked_below : i < length ends → get_or ends i 0 < before → some_below 0 ends ≡ true
-    unfolding some_below
-    asked_below more l = h.below ∙ rw (here i more, lt-ltb (get_or ends i 0) before l)
+-- so says the test whether they are sorted
+pub unsorted : (ends : List ℕ) (r : Bool) → IsAllAdjacentAnswer (λ x y b. is_some_and is_le (Some (nat_cmp x y)) ≡ b) ends r → some_below 0 ends ≡ not r
+unsorted ends true h = rises 0 ends (λ some. omega arith) (non_decreasing_from_is_sorted ends true h)
+unsorted ends false h = let f = non_decreasing_from_is_sorted ends false h in falls 0 ends f.0 (omega (arith, f.1)) (rw (add-one f.0) at (f.2 0))
 
-    pub asked_next : i < length ends → before ≤ get_or ends i 0 → Asked (get_or ends i 0) (i + 1)
-    unfolding some_below last_end
-    asked_next more l = record { below = h.below ∙ rw (here i more, le-ltb (get_or ends i 0) before l); last = h.last ∙ rw (here i more) }
+-- the last of them, 0 if there are none
+last_is : (before end : ℕ) (ends : List ℕ) → slice_get (end ∷ ends) (length ends) ≡ Some (last_end before (end ∷ ends))
+unfolding last_end
+last_is before end [] = refl
+last_is before end (next ∷ ends) = last_is end next ends
 
-    pub asked_all : length ends ≤ i → Ordered 0 ends before
-    unfolding some_below last_end
-    asked_all l = record { rises = h.below ∙ rw (none_left ends i l); ends_at = h.last ∙ rw (none_left ends i l) }
+pub last_or : (ends : List ℕ) → unwrap_or (slice_get ends (length ends - 1)) 0 ≡ last_end 0 ends
+unfolding last_end
+last_or [] = refl
+last_or (end ∷ ends) = let size : length (end ∷ ends) - 1 ≡ length ends = omega arith in rw (size, last_is 0 end ends)
 
 pub ordered_next : (before end : ℕ) (ends : List ℕ) (last : ℕ) → Ordered before (end ∷ ends) last → (before ≤ end) × Ordered end ends last
 unfolding some_below last_end

@@ -1,3 +1,4 @@
+pub mod Telling
 pub mod Answering
 pub mod Ends
 pub mod Turns

@@ -7,43 +7,50 @@ use mathlib.Core.List.{List, ◌++◌}
 use lib.ListN.{length, take, drop}
 use lib.Seq.{length-take-le, take-take, take-add, take_at, drop_at}
 use native.Mathlib.Omega.{arith}
+use Rattle.std.specs.Prelude.{Result, Ok, Err}
 use Rattle.spec.specs.Reading.{row_width}
 use Rattle.spec.specs.Calls.{Answer, Read}
 use Rattle.laws.specs.Demands.{Bytes, row_numbers}
 use Rattle.laws.specs.Parts.{LongestFront, RightSoFar, passed_on, moved, InTwoParts}
 use Rattle.laws.proofs.Theorems.{read_fits, read_keeps}
 use Rattle.laws.proofs.Parts as laws
+use Rattle.atoms.specs.Refusals.{told}
+use Rattle.atoms.specs.declared.refusal.Refusal.{Refusal}
 use Rattle.bulk.specs.Promises.{Call, ReadOrUnfinished, passes_on, ReadInTurn}
-use Rattle.bulk.specs.declared.Answer.TheVariants.{Accepted, Refused}
-use Rattle.bulk.proofs.Demands.{decided, accepted_as, is_zero}
+use Rattle.bulk.proofs.Telling.{told_number, told_place}
+use Rattle.bulk.proofs.Demands.{decided, given_as, accepted_as, refused_as, is_zero}
 
 module _ (s t : List ℕ) (x : Call (Read s t)) where
   -- a call whose definition accepts
-  accepts : (Read s t).number ≡ 0 → x.answer ≡ Accepted (Read s t).given
-  accepts zero = decided x ∙ rw zero
+  accepts : (Read s t).number ≡ 0 → x.answer ≡ Ok (Read s t).given
+  accepts zero = given_as x _ (rw zero)
 
   -- its rows
-  rows_read : (n : ℕ) → x.answer ≡ Accepted n → take (row_width * n) x.table ≡ row_numbers (Read s t)
+  rows_read : (n : ℕ) → x.answer ≡ Ok n → take (row_width * n) x.table ≡ row_numbers (Read s t)
   rows_read n h = ap row_numbers (accepted_as x n h)
 
 -- "if a stream is refused by 2 at p, then its first p bytes alone can be read [..], and they are whole top-level expressions": a caller that is told 2
 -- at p can pass on the bytes before p, and no more of them.
-pub part_held : (s t : List ℕ) → Bytes s → (x : Call (Read s t)) (p : ℕ) → x.answer ≡ Refused 2 p
-    → LongestFront s t p × ((y : Call (Read (take p s) t)) → y.answer ≡ Accepted (Read (take p s) t).given)
+pub part_held : (s t : List ℕ) → Bytes s → (x : Call (Read s t)) (p : ℕ) → told x.answer ≡ Err (2, p)
+    → LongestFront s t p × ((y : Call (Read (take p s) t)) → y.answer ≡ Ok (Read (take p s) t).given)
 part_held s t b x p h =
-    let is = rw h at x.told.is in
+    let is = refused_as x 2 p h in
     let front = rw (← ap (λ (a : Answer). a.place) is) at (laws.part_held s t b (ap (λ (a : Answer). a.number) (sym is))) in
     (front, λ y. accepts (take p s) t y front.accepted)
 
+unfinished : (s : List ℕ) (r : Result ℕ Refusal) (p : ℕ) → told r ≡ Err (2, p) → ReadOrUnfinished r × (passes_on s r ≡ p)
+unfinished s (Ok n) p e = cc
+unfinished s (Err r) p e = (told_number r 2 p e, told_place r 2 p e)
+
 -- an answer by the definition's number
 answered_so : (s : List ℕ) {a : Answer} (y : Call a) → RightSoFar a → ReadOrUnfinished y.answer × (passes_on s y.answer ≡ passed_on s a)
-answered_so s y (inl zero) = rw (decided y, zero) (tt, refl)
-answered_so s y (inr two) = rw (decided y, two) (refl, refl)
+answered_so s {a} y (inl zero) = rw (given_as y a.given (rw zero), zero) (tt, refl)
+answered_so s {a} y (inr two) = rw two (unfinished s y.answer a.place (decided y ∙ rw two))
 
 -- "and for every stream, if it can be read when some bytes are added, then it is refused by 2 at p alone or it can be read, and what is before p is
 -- read as before (the same rows and the same meaning come first)": a caller that has only s is told to wait, by 2, or not; what it may pass on then is
 -- accepted, and fills the table as the first rows of the whole; and the rest, joined with what follows, is accepted too, and has the other rows.
-module _ (s next t : List ℕ) (stream : Bytes (s ++ next)) (x : Call (Read (s ++ next) t)) (n : ℕ) (accepted : x.answer ≡ Accepted n) where
+module _ (s next t : List ℕ) (stream : Bytes (s ++ next)) (x : Call (Read (s ++ next) t)) (n : ℕ) (accepted : x.answer ≡ Ok n) where
   whole : (Read (s ++ next) t).number ≡ 0
   whole = is_zero n 0 x.table x.output (accepted_as x n accepted)
 

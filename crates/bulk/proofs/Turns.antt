@@ -1,16 +1,16 @@
 -- A backlog's streams, evaluated one by one: what was done before a turn, and what is left to do. Document 02, §2: "one evaluation after another".
 -- Assumes nothing.
 use Prim.Native.Nat.{ℕ, ◌+◌, ◌-◌, ◌*◌, ◌≤◌, ◌<◌}
-use mathlib.Core.Path.{◌≡◌, refl, sym, ap, ◌∙◌, subst}
+use mathlib.Core.Path.{◌≡◌, refl, sym, ap, ◌∙◌}
 use mathlib.Core.Bool.{true, false}
-use mathlib.Core.List.{List, [], ◌∷◌, ◌++◌, append_assoc, append-nil}
+use mathlib.Core.List.{List, [], ◌++◌, append_assoc, append-nil}
 use native.Mathlib.Omega.{arith}
-use native.Mathlib.Numerals.{towards_suc}
 use native.Mathlib.Nat.{zero-add, add_assoc, add-zero}
-use lib.ListN.{length, take, drop, get_or, set, length-append, length-drop, take-append-drop}
+use lib.ListN.{length, take, drop, get_or, length-append, length-drop, take-append-drop}
 use borrow.Author.Rules.{part_to_end}
-use borrow.Rule.Slice.PartMut.{mid_of, put_mid, Post-is}
-use lib.Seq.{take-append_seam, take-append-add, drop-append-add, drop-drop, drop-length, length-take-le, sets, sets-eq, length-sets}
+use borrow.Rule.Slice.PartMut.{mid_of, mid_len, put_mid, same_len_mid, Post-is}
+use lib.Seq.{take-append_seam, take-append-add, drop-append-add, drop-drop, drop-length, length-take-le}
+use Rattle.std.specs.Prelude.{Result, Ok, Err}
 use Rattle.spec.specs.Calls.{Answer, over, Evaluate}
 use Rattle.spec.specs.Backlog.{streams, is_23, answer_width, four_numbers, Evaluations, followed, in_turn}
 use Rattle.laws.specs.Demands.{Kept, Lent, evaluation}
@@ -18,10 +18,11 @@ use Rattle.laws.specs.Backlogs.{Night, backlog, evaluations}
 use Rattle.laws.proofs.Steps.{none_left}
 use Rattle.laws.proofs.Theorems.{evaluation_keeps, evaluation_fits}
 use Rattle.laws.proofs.Backlogs.{places, backlog_refused, backlog_accepted}
+use Rattle.atoms.specs.Refusals.{refused}
+use Rattle.atoms.specs.declared.refusal.Reason.TheVariants.{WrongEnds}
+use Rattle.atoms.specs.declared.refusal.Refusal.{Refusal}
+use Rattle.evaluator.specs.declared.Evaluation.{Evaluation}
 use Rattle.bulk.specs.Answers.{AnsweredEvaluation, AnsweredBacklog, told_numbers, told_length}
-use Rattle.bulk.specs.declared.Answer.TheVariants.{Accepted, Refused}
-use Rattle.bulk.specs.declared.Evaluation.{Evaluation}
-use Rattle.bulk.specs.declared.Evaluation.TheVariants.{Accepted as Result, Refused as Refusal}
 use Rattle.bulk.proofs.Ends.{here, Ordered, ordered_next, ordered_last, not_23}
 
 -- Evaluations that gave these numbers and whose results are the first bytes of an output, then others that had the rest of it
@@ -48,12 +49,24 @@ preceded_followed done used output a others h =
         ap (λ (n : ℕ). take (n + a.given) (take used output ++ a.output)) (sym (length-take-le used output h))
         ∙ take-append-add (take used output) a.output a.given
 
--- numbers stored behind those that are there
-stored_on : (done vs list : List ℕ) → length done + length vs ≤ length list → sets (over done list) (length done) vs ≡ over (done ++ vs) list
-stored_on done vs list h =
+-- numbers put behind those that are there
+put_on : (done vs list : List ℕ) (w : ℕ) → length vs ≡ w → length done + w ≤ length list
+    → put_mid (length done) (length done + w - length done) (over done list) vs ≡ over (done ++ vs) list
+put_on done vs list w size h =
     let rest = drop (length done) list in
-    sets-eq vs (over done list) (length done) (rw (length-append done rest, length-drop (length done) list) (omega arith))
-    ∙ rw (take-append_seam done rest, drop-append-add done rest (length vs), length-append done vs, drop-drop (length vs) (length done) list)
+    rw (
+      Post-is (length done) (length done + w) (over done list) (omega arith),
+      take-append_seam done rest,
+      drop-append-add done rest w,
+      length-append done vs,
+      drop-drop w (length done) list,
+      ← size,
+      append_assoc done vs (drop (length done + length vs) list),
+    )
+
+-- a list with the numbers of stream i in their place
+abbrev pub stored : List ℕ → ℕ → List ℕ → List ℕ
+stored answers i = put_mid (answer_width * i) (answer_width * i + answer_width - answer_width * i) answers
 
 -- what a call of `backlog` is given
 abbrev pub night : List ℕ → List ℕ → List ℕ → List ℕ → List ℕ → ℕ → List ℕ → Night
@@ -99,10 +112,6 @@ module _ (n : Night) where
     abbrev lent : Lent
     lent = record { table = table; work = n.lent.work; output = drop used output; steps = n.lent.steps }
 
-    -- the numbers of a turn have their place
-    pub turn_room : i < length n.ends → answer_width * i + answer_width ≤ length answers
-    turn_room more = omega (arith, h.lists, h.room)
-
     -- its stream is in the buffer
     pub turn_ends : i < length n.ends → (start ≤ get_or n.ends i 0) × (get_or n.ends i 0 ≤ length n.buffer)
     turn_ends more =
@@ -110,14 +119,14 @@ module _ (n : Night) where
         (next.0, ordered_last _ _ _ next.1)
 
     turn_by : i < length n.ends → (a : Answer) → a ≡ evaluation stream lent
-        → Turn a.table (take used output ++ a.output) (sets answers (answer_width * i) (four_numbers a)) (get_or n.ends i 0) (used + a.given) (i + 1)
+        → Turn a.table (take used output ++ a.output) (stored answers i (four_numbers a)) (get_or n.ends i 0) (used + a.given) (i + 1)
     unfolding streams in_turn
     turn_by more a e = record {
       done = h.done ++ four_numbers a;
       told = simp length-append (omega (arith, h.told));
-      answers_are = rw (h.answers_are, ← h.told) (stored_on h.done (four_numbers a) n.answers (omega (arith, h.told, h.room)));
+      answers_are = rw (h.answers_are, ← h.told) (put_on h.done (four_numbers a) n.answers answer_width refl (omega (arith, h.told, h.room)));
       room = h.room;
-      lists = length-sets answers (answer_width * i) (four_numbers a) ∙ h.lists;
+      lists = same_len_mid (answer_width * i) _ answers (four_numbers a) (omega (arith, place)) ∙ h.lists;
       inside = omega (arith, long, fits);
       outputs = omega (arith, long, h.outputs);
       tables = rw e keeps.tables ∙ h.tables;
@@ -125,6 +134,9 @@ module _ (n : Night) where
       whole = h.whole ∙ ap (preceded h.done used output) step ∙ preceded_followed h.done used output a _ h.inside ∙ rw left;
     }
       where
+        place : length (mid_of (answer_width * i) (answer_width * i + answer_width - answer_width * i) answers) ≡ answer_width * i + answer_width - answer_width * i
+        place = mid_len (answer_width * i) (answer_width * i + answer_width) answers (omega (arith, h.lists, h.room))
+
         keeps : Kept lent.table lent.output (evaluation stream lent)
         keeps = evaluation_keeps stream lent
 
@@ -143,27 +155,18 @@ module _ (n : Night) where
             ≡ followed a (others a.table (drop a.given a.output) (get_or n.ends i 0) (i + 1))
         step = rw (here n.ends i more, e)
 
-    turn_told : i < length n.ends → (r : Evaluation) (table' left' : List ℕ) → AnsweredEvaluation (evaluation stream lent) r table' left'
-        → Turn table' (take used output ++ left') (sets answers (answer_width * i) (told_numbers r)) (get_or n.ends i 0) (used + told_length r) (i + 1)
-    turn_told more (Result n k) table' left' x = turn_by more _ x.is
-    turn_told more (Refusal w p) table' left' x = turn_by more _ x.is
+    turn_told : i < length n.ends → (r : Result Evaluation Refusal) (table' left' : List ℕ) → AnsweredEvaluation (evaluation stream lent) r table' left'
+        → Turn table' (take used output ++ left') (stored answers i (told_numbers r)) (get_or n.ends i 0) (used + told_length r) (i + 1)
+    turn_told more (Ok e) table' left' x = turn_by more _ x.is
+    turn_told more (Err r) table' left' x = turn_by more _ x.is
 
-    -- The turn of a stream that is answered so; the part of the output that it had has come back
-    pub turn_next : i < length n.ends → (r : Evaluation) (table' left' : List ℕ)
-        → AnsweredEvaluation (Evaluate stream table n.lent.work (mid_of used (length output - used) output) n.lent.steps) r table' left'
-        → Turn table' (put_mid used (length output - used) output left') (sets answers (answer_width * i) (told_numbers r)) (get_or n.ends i 0) (used + told_length r) (i + 1)
-    turn_next more r table' left' x =
-        rw (Post-is used (length output) output h.inside, drop-length output, append-nil left')
+    -- The turn of a stream that is answered so, whose numbers are stored; the part of the output that it had has come back
+    pub turn_next : i < length n.ends → (r : Result Evaluation Refusal) (table' left' numbers : List ℕ)
+        → AnsweredEvaluation (Evaluate stream table n.lent.work (mid_of used (length output - used) output) n.lent.steps) r table' left' → numbers ≡ told_numbers r
+        → Turn table' (put_mid used (length output - used) output left') (stored answers i numbers) (get_or n.ends i 0) (used + told_length r) (i + 1)
+    turn_next more r table' left' numbers x e =
+        rw (Post-is used (length output) output h.inside, drop-length output, append-nil left', e)
         (turn_told more r table' left' (rw (part_to_end output used) at x))
-
-    -- its four numbers as they are stored
-    pub turn_stored : (r : Evaluation) (at : ℕ) {number place size taken : ℕ} → number ∷ place ∷ size ∷ taken ∷ [] ≡ told_numbers r
-        → (table' output' : List ℕ) {start' i' : ℕ} → Turn table' output' (sets answers at (told_numbers r)) start' (used + told_length r) i'
-        → Turn table' output' (set (set (set (set answers at number) (at + 1) place) (at + 2) size) (at + 3) taken) start' (used + size) i'
-    turn_stored r at {number} {place} {size} {taken} e table' output' {start'} {i'} t =
-        let stored : sets answers at (number ∷ place ∷ size ∷ taken ∷ []) ≡ set (set (set (set answers at number) (at + 1) place) (at + 2) size) (at + 3) taken = simp towards_suc in
-        subst (λ (l : List ℕ). Turn table' output' l start' (used + size) i') stored
-        (subst (λ (l : List ℕ). Turn table' output' (sets answers at l) start' (used + get_or l 2 0) i') (sym e) t)
 
     -- after the last turn
     pub turn_last : length n.ends ≤ i → (evaluations n ≡ record { answers = h.done; given = used; table = table; output = output })
@@ -176,7 +179,7 @@ module _ (n : Night) where
 -- What the call answers
 
 module _ (n : Night) where
-  pub answered_23 : is_23 n.buffer n.ends n.answers ≡ true → AnsweredBacklog (backlog n) (Refused 23 0) n.lent.table n.lent.output n.answers
+  pub answered_23 : is_23 n.buffer n.ends n.answers ≡ true → AnsweredBacklog (backlog n) (Err (refused WrongEnds 0)) n.lent.table n.lent.output n.answers
   answered_23 e = let is = backlog_refused n e in record { own = record { is = rw is; numbered = omega arith }; list = rw is }
 
   module _ (fits : is_23 n.buffer n.ends n.answers ≡ false) where
@@ -185,7 +188,7 @@ module _ (n : Night) where
 
     pub turns_answered : {table' output' answers' : List ℕ} {start used i : ℕ}
         → Turn n table' output' answers' start used i → length n.ends ≤ i
-        → AnsweredBacklog (backlog n) (Accepted used) table' output' answers'
+        → AnsweredBacklog (backlog n) (Ok used) table' output' answers'
     turns_answered h l =
         let is = backlog_accepted n fits in
         let all = turn_last n h l in

@@ -1,6 +1,6 @@
 -- The words in which the demands are stated of the public calls. A call stands here as its contract has it: the code's answer, and table and
 -- output afterwards, that have answered as the definition does. Assumes nothing.
-use Rattle.std.specs.Prelude.{ℕ, ◌+◌, ◌*◌, ◌≤◌, ◌<◌, ◌≡◌, List, ◌++◌, length, take, drop}
+use Rattle.std.specs.Prelude.{ℕ, ◌+◌, ◌*◌, ◌≤◌, ◌<◌, ◌≡◌, List, ◌++◌, length, take, drop, Result, Ok, Err}
 use Rattle.std.specs.Borrow.{Bor}
 use Rattle.spec.specs.Expr.{Exprs, append, size}
 use Rattle.spec.specs.Reading.{Row, row_width, refused, readable, read}
@@ -8,30 +8,29 @@ use Rattle.spec.specs.Calls.{Answer, Read, Item}
 use Rattle.laws.specs.Demands.{Begins, Lent, evaluation, meaning_of, bytes_of_first}
 use Rattle.laws.specs.Parts.{moved}
 use Rattle.laws.specs.Backlogs.{Night, backlog, stream_at, left_by_lengths, said_of}
+use Rattle.atoms.specs.Refusals.{number}
+use Rattle.atoms.specs.declared.refusal.Refusal.{Refusal}
+use Rattle.evaluator.specs.declared.Evaluation.{Evaluation}
 use Rattle.bulk.specs.Answers.{Answered, AnsweredEvaluation, AnsweredBacklog, asked, PartItself}
-use Rattle.bulk.specs.declared.Answer.{Answer as Given}
-use Rattle.bulk.specs.declared.Answer.TheVariants.{Accepted, Refused}
 use Rattle.bulk.specs.declared.Buffer.{Buffer as Which}
-use Rattle.bulk.specs.declared.Evaluation.{Evaluation}
-use Rattle.bulk.specs.declared.Evaluation.TheVariants.{Accepted as Result, Refused as Refusal}
 
 -- a call of `read` or of `write`; a is what the definition answers to it, Read s t or Write s t o
 pub record Call (a : Answer) : Type 0 where
-  pub answer : Given
+  pub answer : Result ℕ Refusal
   pub table : List ℕ
   pub output : List ℕ
   pub told : Answered a answer table output
 
 -- a call of `evaluate` with a stream and what it was lent. Of the workspace only the length is in it: what it held before can't count.
 pub record EvaluateCall (s : List ℕ) (l : Lent) : Type 0 where
-  pub answer : Evaluation
+  pub answer : Result Evaluation Refusal
   pub table : List ℕ
   pub output : List ℕ
   pub told : AnsweredEvaluation (evaluation s l) answer table output
 
 -- a call of `backlog` with what it was given
 pub record BacklogCall (n : Night) : Type 0 where
-  pub answer : Given
+  pub answer : Result ℕ Refusal
   pub table : List ℕ
   pub output : List ℕ
   pub answers : List ℕ
@@ -45,7 +44,7 @@ said_by x i = said_of x.answers x.table x.output i
 pub record InBacklog (n : Night) : Type 0 where
   pub call : BacklogCall n
   pub total : ℕ
-  pub accepts : call.answer ≡ Accepted total
+  pub accepts : call.answer ≡ Ok total
   pub i : ℕ
   pub there : i < length n.ends
 
@@ -62,14 +61,14 @@ module _ {n : Night} (x : InBacklog n) where
   said_in = said_by x.call x.i
 
 -- "it is refused by 2 at p alone or it can be read": an answer to a stream that is not wrong so far
-abbrev pub ReadOrUnfinished : Given → Type 0
-ReadOrUnfinished (Accepted given) = Unit {0}
-ReadOrUnfinished (Refused number place) = number ≡ 2
+abbrev pub ReadOrUnfinished : Result ℕ Refusal → Type 0
+ReadOrUnfinished (Ok given) = Unit {0}
+ReadOrUnfinished (Err r) = number r.reason ≡ 2
 
 -- how many bytes of a stream its caller may pass on after that answer
-abbrev pub passes_on : List ℕ → Given → ℕ
-passes_on s (Accepted given) = length s
-passes_on s (Refused number place) = place
+abbrev pub passes_on : List ℕ → Result ℕ Refusal → ℕ
+passes_on s (Ok given) = length s
+passes_on s (Err r) = r.place
 
 -- what was accepted in one call with n rows, read in two: the first p bytes of s; and its others, with the bytes that follow. The rows of the one call are
 -- those of the two, the second's moved
@@ -78,9 +77,9 @@ pub record ReadInTurn (s next table : List ℕ) (x : Call (Read (s ++ next) tabl
   pub others : ℕ
   pub counts : n ≡ first + others
   pub front : (y : Call (Read (take p s) table))
-      → (y.answer ≡ Accepted first) × (take (row_width * first) y.table ≡ take (row_width * first) x.table)
+      → (y.answer ≡ Ok first) × (take (row_width * first) y.table ≡ take (row_width * first) x.table)
   pub back : (z : Call (Read (drop p s ++ next) table))
-      → (z.answer ≡ Accepted others) × (moved p first (take (row_width * others) z.table) ≡ take (row_width * others) (drop (row_width * first) x.table))
+      → (z.answer ≡ Ok others) × (moved p first (take (row_width * others) z.table) ≡ take (row_width * others) (drop (row_width * first) x.table))
   pub means : meaning_of (s ++ next) ≡ append (meaning_of (take p s)) (meaning_of (drop p s ++ next))
 
 -- a call of `item` with two lent buffers, and the part that it gave
@@ -94,25 +93,24 @@ pub data NoSuchItem (s : List ℕ) (k : ℕ) : Type 0 where
   absent : (rs : List Row) (es : Exprs) → read s (length s) ≡ readable rs es → size es ≤ k → NoSuchItem s k
 
 -- "accepts, or refuses for a reason other than steps, workspace or output room"
-abbrev pub FinalAnswer : Evaluation → Type 0
-FinalAnswer (Result size steps) = Unit {0}
-FinalAnswer (Refusal number place) = (number ≡ 16 → ⊥) × (number ≡ 17 → ⊥) × (number ≡ 18 → ⊥)
+abbrev pub FinalAnswer : Result Evaluation Refusal → Type 0
+FinalAnswer (Ok e) = Unit {0}
+FinalAnswer (Err r) = (number r.reason ≡ 16 → ⊥) × (number r.reason ≡ 17 → ⊥) × (number r.reason ≡ 18 → ⊥)
 
 -- "the second gives the same number, place, length and step count, and on acceptance the same result bytes"
 pub record SameStory {s : List ℕ} {l m : Lent} (x : EvaluateCall s l) (y : EvaluateCall s m) : Type 0 where
   pub answers : x.answer ≡ y.answer
-  pub bytes : (size steps : ℕ) → x.answer ≡ Result size steps → take size x.output ≡ take size y.output
+  pub bytes : (e : Evaluation) → x.answer ≡ Ok e → take e.length x.output ≡ take e.length y.output
 
 -- a call of `evaluate` that accepts a stream
 pub record Accepting (s : List ℕ) : Type 0 where
   pub lent : Lent
   pub call : EvaluateCall s lent
-  pub size : ℕ
-  pub steps : ℕ
-  pub accepts : call.answer ≡ Result size steps
+  pub gives : Evaluation
+  pub accepts : call.answer ≡ Ok gives
 
 -- "these give the same bytes in both, and the result bytes of every run that accepts either stream begin with them"
 pub record SameBeginning (q : ℕ) (s s' : List ℕ) : Type 0 where
   pub same : bytes_of_first q s ≡ bytes_of_first q s'
-  pub begins : (x : Accepting s) → Begins (take x.size x.call.output) (bytes_of_first q s)
-  pub begins' : (x : Accepting s') → Begins (take x.size x.call.output) (bytes_of_first q s)
+  pub begins : (x : Accepting s) → Begins (take x.gives.length x.call.output) (bytes_of_first q s)
+  pub begins' : (x : Accepting s') → Begins (take x.gives.length x.call.output) (bytes_of_first q s)

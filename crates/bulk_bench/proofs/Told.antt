@@ -5,13 +5,12 @@ use Prim.Native.Nat.{ℕ}
 use lib.ListN.{length}
 use denote.Ref.{Bor}
 use native.Mathlib.Omega.{arith}
-use Rattle.spec.specs.Calls.{Answer, refusal, acceptance, Part, part, no_part}
+use Rattle.std.specs.Prelude.{Result, Ok, Err}
+use Rattle.spec.specs.Calls.{Answer, Part, part, no_part}
 use Rattle.spec.specs.Backlog.{Backlogged}
-use Rattle.bulk.specs.Answers.{Answered, AnsweredEvaluation, AnsweredBacklog, PartItself}
-use Rattle.bulk.specs.declared.Answer.{Answer as Given}
-use Rattle.bulk.specs.declared.Answer.TheVariants.{Accepted, Refused}
+use Rattle.bulk.specs.declared.Refusal.{Refusal}
 use Rattle.bulk.specs.declared.Evaluation.{Evaluation}
-use Rattle.bulk.specs.declared.Evaluation.TheVariants.{Accepted as Result, Refused as Refusal}
+use Rattle.bulk.specs.Answers.{Answered, AnsweredEvaluation, AnsweredBacklog, PartItself}
 use Rattle.bulk_bench.specs.Given.{given, result, size, Gives, GivesBacklog}
 
 -- an answer's parts, where it is as stated
@@ -22,16 +21,16 @@ parts a b r e h = record {
   bytes = ap (λ (x : Answer). x.output) h;
 }
 
-pub given_is : (a : Answer) (r : Given) (n : ℕ) (t o : List ℕ) → n ≡ given r → Answered a r t o → Gives a n t o
-given_is a (Accepted k) n t o e h = parts a (acceptance k 0 t o) n e h.is
-given_is a (Refused w p) n t o e h = parts a (refusal w p t o) n e h.is
+pub given_is : (a : Answer) (r : Result ℕ Refusal) (n : ℕ) (t o : List ℕ) → n ≡ given r → Answered a r t o → Gives a n t o
+given_is a (Ok k) n t o e h = parts a _ n e h.is
+given_is a (Err r) n t o e h = parts a _ n e h.is
 
-pub result_is : (a : Answer) (r : Evaluation) (n : ℕ) (t o : List ℕ) → n ≡ result r → AnsweredEvaluation a r t o → Gives a n t o
-result_is a (Result size steps) n t o e h = parts a (acceptance size steps t o) n e h.is
-result_is a (Refusal w p) n t o e h = parts a (refusal w p t o) n e h.is
+pub result_is : (a : Answer) (r : Result Evaluation Refusal) (n : ℕ) (t o : List ℕ) → n ≡ result r → AnsweredEvaluation a r t o → Gives a n t o
+result_is a (Ok v) n t o e h = parts a _ n e h.is
+result_is a (Err r) n t o e h = parts a _ n e h.is
 
 pub backlog_is :
-    (a : Backlogged) (r : Given) (n : ℕ) (t o l : List ℕ) → n ≡ given r → AnsweredBacklog a r t o l → GivesBacklog a n t o l
+    (a : Backlogged) (r : Result ℕ Refusal) (n : ℕ) (t o l : List ℕ) → n ≡ given r → AnsweredBacklog a r t o l → GivesBacklog a n t o l
 backlog_is a r n t o l e h = record { own = given_is a.own r n t o e h.own; list = h.list }
 
 pub item_is : (it : Part) (stream result x : Bor (List ℕ)) → PartItself it stream result x → length x.now ≡ size it

@@ -1,20 +1,18 @@
 -- What an answer gives: rows, the length, the result's length, that of all results, or an item's. Document 01: "A refusal gives number and place, counts zero."
 -- Assumes nothing.
-use Rattle.std.specs.Prelude.{ℕ, ◌-◌, ◌≡◌, Bool, true, false, List}
+use Rattle.std.specs.Prelude.{ℕ, ◌-◌, ◌≡◌, Bool, true, false, List, Result, Ok, Err}
 use Rattle.spec.specs.Calls.{Answer as Stated, Buffer, of_stream, of_result, Part, part, no_part}
 use Rattle.spec.specs.Backlog.{Backlogged}
-use Rattle.bulk.specs.declared.Answer.{Answer}
-use Rattle.bulk.specs.declared.Answer.TheVariants.{Accepted, Refused}
+use Rattle.bulk.specs.declared.Refusal.{Refusal}
 use Rattle.bulk.specs.declared.Evaluation.{Evaluation}
-use Rattle.bulk.specs.declared.Evaluation.TheVariants.{Accepted as Result, Refused as Refusal}
 
-abbrev pub given : Answer → ℕ
-given (Accepted n) = n
-given (Refused number place) = 0
+abbrev pub given : Result ℕ Refusal → ℕ
+given (Ok n) = n
+given (Err r) = 0
 
-abbrev pub result : Evaluation → ℕ
-result (Result size steps) = size
-result (Refusal number place) = 0
+abbrev pub result : Result Evaluation Refusal → ℕ
+result (Ok e) = e.length
+result (Err r) = 0
 
 -- the number, the table and the output are those of the definition's answer
 pub record Gives (a : Stated) (r : ℕ) (table output : List ℕ) : Type 0 where

@@ -9,32 +9,20 @@ ghost use Rattle.spec.specs.Backlog.{Backlog};
 ghost use Rattle.bulk.specs.Answers.{asked};
 ghost use Rattle.bulk_bench.specs.Given.{given, result as given_result, size, which, Gives, GivesBacklog};
 
-use bulk::{Answer, Buffer, Evaluation};
+use bulk::{Buffer, Evaluation, Refusal};
 
 // What Read, Write or Backlog gives.
-fn given(answer: Answer) -> usize
+fn given(answer: Result<usize, Refusal>) -> usize
     ensures { result ≡ given answer }
 {
-    match answer {
-        Answer::Accepted { given } => given,
-        Answer::Refused {
-            number: _,
-            place: _,
-        } => 0,
-    }
+    answer.unwrap_or(0)
 }
 
 // What Evaluate gives.
-fn result(answer: Evaluation) -> usize
+fn result(answer: Result<Evaluation, Refusal>) -> usize
     ensures { result ≡ given_result answer }
 {
-    match answer {
-        Evaluation::Accepted { length, steps: _ } => length,
-        Evaluation::Refused {
-            number: _,
-            place: _,
-        } => 0,
-    }
+    given(answer.map(|evaluation| evaluation.length))
 }
 
 #[unsafe(no_mangle)]

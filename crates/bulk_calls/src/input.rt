@@ -1,102 +1,62 @@
 // Standard input, a byte at a time through a buffer. Assumes the contract that the kit states of C's `read`.
-ghost use Rattle.std.specs.Prelude.{◌≡◌, ◌-◌, ◌≤◌};
+ghost use Rattle.std.specs.Prelude.{◌-◌, ◌≤◌};
+ghost use Rattle.bulk_calls.specs.declared.input.TheConstants.{SOURCE_SIZE};
 
 use std::io::Read;
 
-pub const SOURCE_SIZE: usize = 4096;
+const SOURCE_SIZE: usize = 4096;
 
-// What is read from, and the buffer that it is read into.
+// What is read from, the buffer that it is read into, and where the input stands.
 #[derive(Drop)]
 pub struct Source<R: Read> {
-    pub reader: R,
-    pub bytes: [u8; SOURCE_SIZE],
-}
-
-// Where the input stands.
-#[derive(Clone, Copy)]
-pub struct Input {
+    reader: R,
+    bytes: [u8; SOURCE_SIZE],
+    // The byte after the one at hand, and the end of what was read.
+    next: usize,
+    end: usize,
     // The byte at hand; at the input's end a newline.
     pub byte: u8,
-    // Whether what was taken of the line so far can begin a request.
-    pub good: bool,
-    // The place in the buffer of the byte after the one at hand, and how many have been read from there on.
-    pub next: usize,
-    pub ready: usize,
     // How many bytes can still be taken, the one at hand counted: 0 at the input's end. A proved loop has to end, and nothing says that
     // the input does, so this starts at a number that no run uses up.
     pub left: u64,
+    ghost in_order: { next ≤ end },
+    ghost inside: { end ≤ SOURCE_SIZE },
 }
 
-// The input before its first byte.
-pub fn start() -> Input {
-    Input {
-        byte: b'\n',
-        good: true,
-        next: 0,
-        ready: 0,
-        left: u64::MAX,
+impl<R: Read> Source<R> {
+    // The input before its first byte.
+    pub fn new(reader: R) -> Self {
+        Self {
+            reader,
+            bytes: [0u8; SOURCE_SIZE],
+            next: 0,
+            end: 0,
+            byte: b'\n',
+            left: u64::MAX,
+        }
     }
-}
 
-fn ended(good: bool) -> Input
-    ensures { result.left ≡ 0 }
-{
-    Input {
-        byte: b'\n',
-        good,
-        next: 0,
-        ready: 0,
-        left: 0,
+    // Whether what was read is used up.
+    pub fn is_used_up(&self) -> bool {
+        self.next == self.end
     }
-}
 
-// The same place, with another verdict on the line so far.
-pub fn judged(input: Input, good: bool) -> Input
-    ensures { result.left ≡ input.left }
-{
-    Input {
-        byte: input.byte,
-        good,
-        next: input.next,
-        ready: input.ready,
-        left: input.left,
-    }
-}
-
-// Reads into the buffer, and gives how many bytes were read. A read that fails gives none.
-fn refill(source: &mut Source<impl Read>) -> usize
-    ensures { result ≤ SOURCE_SIZE }
-{
-    source.reader.read(&mut source.bytes).unwrap_or(0)
-}
-
-// The byte at hand is taken, and the next is at hand.
-pub fn advance(source: &mut Source<impl Read>, input: Input) -> Input
-    ensures { result.left ≤ input.left - 1 }
-{
-    if input.left <= 1 {
-        return ended(input.good);
-    }
-    if 0 < input.ready {
-        // Taken so, a place is inside the buffer whatever it is.
-        let at = input.next % SOURCE_SIZE;
-        return Input {
-            byte: source.bytes[at],
-            good: input.good,
-            next: at + 1,
-            ready: input.ready - 1,
-            left: input.left - 1,
-        };
-    }
-    let got = refill(source);
-    if got == 0 {
-        return ended(input.good);
-    }
-    Input {
-        byte: source.bytes[0],
-        good: input.good,
-        next: 1,
-        ready: got - 1,
-        left: input.left - 1,
+    // The byte at hand is taken, and the next is at hand. A read that fails is the input's end.
+    pub fn advance(&mut self)
+        ensures { self.new.left ≤ self.old.left - 1 }
+    {
+        if 1 < self.left && self.next == self.end {
+            self.next = 0;
+            self.end = self.reader.read(&mut self.bytes).unwrap_or(0);
+        }
+        if self.left <= 1 || self.next == self.end {
+            self.next = self.end;
+            self.byte = b'\n';
+            self.left = 0;
+        } else {
+            self.byte = self.bytes[self.next];
+            self.next += 1;
+            self.left -= 1;
+        }
     }
 }

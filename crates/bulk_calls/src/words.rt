@@ -1,8 +1,9 @@
-// The words of a request. Each function takes its word and leaves the byte behind it at hand. What can't be taken makes the line no
-// request, and nothing makes it one again. Assumes the contract that the kit states of C's `read`.
-ghost use Rattle.std.specs.Prelude.{◌-◌, ◌≤◌, ◌<◌};
+// The words of a request. Each function takes its word and leaves the byte behind it at hand, or gives none where the word is not there; nothing goes
+// past a line's end. Assumes the contract that the kit states of C's `read`.
+ghost use Rattle.std.specs.Prelude.{◌≤◌, ◌<◌, IfSome};
 
-use crate::input::{Input, Source, advance, judged};
+use crate::input::Source;
+use bulk::Buffer;
 use std::io::Read;
 
 // How many bytes of a word are kept: as many as three of the longest streams have. A stream of which others were dropped is still too long.
@@ -15,219 +16,149 @@ pub const ENDS_SIZE: usize = 2048;
 
 pub type Ends = [u64; ENDS_SIZE];
 
-// What a word says, and the input behind it.
-#[derive(Clone, Copy)]
-pub struct Word {
-    pub value: u64,
-    pub input: Input,
-}
+// A longer name is that of no request.
+pub const NAME_SIZE: usize = 8;
 
-// The letters of a name are the digits of a number to the base 256. More than eight give the number of no name.
-fn with_letter(name: u64, letter: u8) -> u64 {
-    if name < 0x0100_0000_0000_0000 {
-        name * 256 + letter as u64
-    } else {
-        u64::MAX
-    }
-}
-
-// The name at the line's start.
-pub fn name(source: &mut Source<impl Read>, line: Input) -> Word
-    ensures { result.input.left ≤ line.left }
+// The name at the line's start. Gives how many letters it has; the first `NAME_SIZE` are kept.
+pub fn name(source: &mut Source<impl Read>, kept: &mut [u8; NAME_SIZE]) -> u64
+    ensures { source.new.left ≤ source.old.left }
 {
-    let mut input = line;
-    let mut value: u64 = 0;
-    while 0 < input.left {
-        let b = input.byte;
-        if b < b'a' {
-            break;
-        }
-        if b'z' < b {
-            break;
-        }
-        value = with_letter(value, b);
-        input = advance(source, input);
+    let mut count: u64 = 0;
+    while 0 < source.left && source.byte.is_ascii_lowercase() {
+        keep(kept, count, source.byte);
+        count += 1;
+        source.advance();
     }
-    Word { value, input }
+    count
+}
+
+// Keeps element n of a word, if there is a place for it.
+fn keep<T: Copy>(kept: &mut [T], n: u64, element: T) {
+    if n < kept.len() as u64 {
+        kept[n as usize] = element;
+    }
 }
 
 // The space in front of a word.
-fn space(source: &mut Source<impl Read>, input: Input) -> Input
-    ensures { result.left ≤ input.left }
+fn space(source: &mut Source<impl Read>) -> Option<()>
+    ensures { source.new.left ≤ source.old.left }
 {
-    if input.byte == b' ' {
-        return advance(source, input);
+    if source.byte != b' ' {
+        return None;
     }
-    judged(input, false)
+    source.advance();
+    Some(())
 }
 
-// The line's end: the rest of a line that goes on is passed over.
-pub fn line_end(source: &mut Source<impl Read>, from: Input) -> Input
-    ensures { result.left ≤ from.left }
+// Whether the line ends here. The rest of a line that goes on is passed over.
+pub fn line_end(source: &mut Source<impl Read>) -> bool
+    ensures { source.new.left ≤ source.old.left }
 {
-    if from.byte == b'\n' {
-        return from;
+    let ends = source.byte == b'\n';
+    while 0 < source.left && source.byte != b'\n' {
+        source.advance();
     }
-    let mut input = judged(from, false);
-    while 0 < input.left {
-        if input.byte == b'\n' {
-            break;
-        }
-        input = advance(source, input);
-    }
-    input
+    ends
 }
 
 // The digits of a decimal number.
-fn decimal(source: &mut Source<impl Read>, from: Input) -> Word
-    ensures { result.input.left ≤ from.left }
+fn decimal(source: &mut Source<impl Read>) -> Option<u64>
+    ensures { source.new.left ≤ source.old.left }
 {
-    let mut input = from;
-    let mut value: u64 = 0;
-    let mut digits: bool = false;
-    while 0 < input.left {
-        let b = input.byte;
-        if b < b'0' {
-            break;
-        }
-        if b'9' < b {
-            break;
-        }
-        value = text::with_digit(value, b - b'0');
-        digits = true;
-        input = advance(source, input);
+    let mut value: Option<u64> = None;
+    while 0 < source.left && source.byte.is_ascii_digit() {
+        value = Some(text::with_digit(value.unwrap_or(0), source.byte - b'0'));
+        source.advance();
     }
-    if digits {
-        return Word { value, input };
-    }
-    Word {
-        value,
-        input: judged(input, false),
-    }
+    value
 }
 
 // A decimal number.
-pub fn number(source: &mut Source<impl Read>, from: Input) -> Word
-    ensures { result.input.left ≤ from.left }
+pub fn number(source: &mut Source<impl Read>) -> Option<u64>
+    ensures { source.new.left ≤ source.old.left }
 {
-    let input = space(source, from);
-    decimal(source, input)
+    space(source)?;
+    decimal(source)
+}
+
+// The `-` that stands for nothing.
+fn nothing(source: &mut Source<impl Read>) -> bool
+    ensures { source.new.left ≤ source.old.left }
+{
+    if source.byte != b'-' {
+        return false;
+    }
+    source.advance();
+    true
 }
 
 // Decimal numbers parted by commas, or `-` for none. Gives how many there are; the first `ENDS_SIZE` are kept.
-pub fn ends(source: &mut Source<impl Read>, from: Input, kept: &mut Ends) -> Word
-    ensures { result.input.left ≤ from.left }
+pub fn ends(source: &mut Source<impl Read>, kept: &mut Ends) -> Option<u64>
+    ensures { source.new.left ≤ source.old.left }
 {
-    let mut input = space(source, from);
-    if input.byte == b'-' {
-        return Word {
-            value: 0,
-            input: advance(source, input),
-        };
+    space(source)?;
+    if nothing(source) {
+        return Some(0);
     }
-    let mut count: usize = 0;
-    while 0 < input.left {
-        let end = decimal(source, input);
-        if count < ENDS_SIZE {
-            kept[count] = end.value;
-        }
+    let mut count: u64 = 0;
+    while 0 < source.left {
+        let end = decimal(source)?;
+        keep(kept, count, end);
         count += 1;
-        input = end.input;
-        if input.byte != b',' {
+        if source.byte != b',' {
             break;
         }
-        input = advance(source, input);
+        source.advance();
     }
-    Word {
-        value: count as u64,
-        input,
-    }
+    Some(count)
 }
 
-// `0` or `1`.
-pub fn bit(source: &mut Source<impl Read>, from: Input) -> Word
-    ensures { result.input.left ≤ from.left }
+// `0` or `1`: which of Item's two buffers.
+pub fn buffer(source: &mut Source<impl Read>) -> Option<Buffer>
+    ensures { source.new.left ≤ source.old.left }
 {
-    let input = space(source, from);
-    let b = input.byte;
-    if b == b'0' {
-        return Word {
-            value: 0,
-            input: advance(source, input),
-        };
-    }
-    if b == b'1' {
-        return Word {
-            value: 1,
-            input: advance(source, input),
-        };
-    }
-    Word {
-        value: 0,
-        input: judged(input, false),
-    }
+    space(source)?;
+    let which = match source.byte {
+        b'0' => Buffer::Stream,
+        b'1' => Buffer::Result,
+        _ => return None,
+    };
+    source.advance();
+    Some(which)
 }
 
-// A hexadecimal digit's value; 16 for any other byte.
-fn hex_digit(b: u8) -> u8
-    ensures { result ≤ 16 }
+// A hexadecimal digit's value.
+fn hex_digit(b: u8) -> Option<u8>
+    ensures { IfSome result (λ n. n < 16) }
 {
     match b {
-        b'0'..=b'9' => b - b'0',
-        b'a'..=b'f' => b - b'a' + 10,
-        _ => 16,
-    }
-}
-
-// Two hexadecimal digits, which are a byte.
-fn hex_byte(source: &mut Source<impl Read>, from: Input) -> Word
-    ensures { (result.input.left ≤ from.left - 1) × (result.value < 256) }
-{
-    let high = hex_digit(from.byte);
-    let input = advance(source, from);
-    let low = hex_digit(input.byte);
-    if high < 16 {
-        if low < 16 {
-            return Word {
-                value: (high * 16 + low) as u64,
-                input: advance(source, input),
-            };
-        }
-    }
-    Word {
-        value: 0,
-        input: judged(input, false),
+        b'0'..=b'9' => Some(b - b'0'),
+        b'a'..=b'f' => Some(b - b'a' + 10),
+        _ => None,
     }
 }
 
 // Bytes in hexadecimal, or `-` for none. Gives how many there are; the first `KEPT_SIZE` are kept.
-pub fn hex(source: &mut Source<impl Read>, from: Input, kept: &mut Kept) -> Word
-    ensures { result.input.left ≤ from.left }
+pub fn hex(source: &mut Source<impl Read>, kept: &mut Kept) -> Option<u64>
+    ensures { source.new.left ≤ source.old.left }
 {
-    let mut input = space(source, from);
-    if input.byte == b'-' {
-        return Word {
-            value: 0,
-            input: advance(source, input),
-        };
+    space(source)?;
+    if nothing(source) {
+        return Some(0);
     }
-    let mut length: usize = 0;
-    while 0 < input.left {
-        if hex_digit(input.byte) == 16 {
+    let mut count: u64 = 0;
+    while 0 < source.left {
+        let Some(high) = hex_digit(source.byte) else {
             break;
-        }
-        let byte = hex_byte(source, input);
-        if length < KEPT_SIZE {
-            kept[length] = byte.value as u8;
-        }
-        length += 1;
-        input = byte.input;
+        };
+        source.advance();
+        let low = hex_digit(source.byte)?;
+        source.advance();
+        keep(kept, count, high * 16 + low);
+        count += 1;
     }
-    if length == 0 {
-        input = judged(input, false);
+    if count == 0 {
+        return None;
     }
-    Word {
-        value: length as u64,
-        input,
-    }
+    Some(count)
 }

@@ -9,66 +9,49 @@ const STEPS: u64 = 1_000_000;
 const WORD_SIZE: usize = 64;
 
 #[derive(Clone, Copy)]
-pub enum Bounds {
-    Are { steps: u64, workspace: u64 },
-    Malformed,
-}
-
-#[derive(Clone, Copy)]
-enum Word {
-    Number(u64),
-    Other,
+pub struct Bounds {
+    pub steps: u64,
+    pub workspace: u64,
 }
 
 // A decimal number; above 64 bits, the largest.
-fn number(word: &[u8]) -> Word {
-    if word.len() == 0 {
-        return Word::Other;
+fn number(word: &[u8]) -> Option<u64> {
+    if word.is_empty() {
+        return None;
     }
     let mut value: u64 = 0;
-    let mut i: usize = 0;
-    while i < word.len() {
-        let b = word[i];
-        if b < b'0' {
-            return Word::Other;
+    for b in word {
+        if !b.is_ascii_digit() {
+            return None;
         }
-        if b'9' < b {
-            return Word::Other;
-        }
-        value = text::with_digit(value, b - b'0');
-        i += 1;
+        value = text::with_digit(value, *b - b'0');
     }
-    Word::Number(value)
+    Some(value)
 }
 
 // Argument i, or what stands for it if there is none.
-fn argument(rt: &impl Env, i: usize, absent: u64) -> Word {
+fn argument(rt: &impl Env, i: usize, absent: u64) -> Option<u64> {
     let mut word = [0u8; WORD_SIZE];
     match rt.arg(i, &mut word) {
         Ok(length) => number(&word[..length]),
-        Err(FillError::NotPresent) => Word::Number(absent),
-        Err(FillError::TooLong) => Word::Other,
+        Err(FillError::NotPresent) => Some(absent),
+        Err(FillError::TooLong) => None,
     }
 }
 
 // Whether there is an argument i.
 fn is_given(rt: &impl Env, i: usize) -> bool {
     let mut word = [0u8; WORD_SIZE];
-    match rt.arg(i, &mut word) {
-        Err(FillError::NotPresent) => false,
-        _ => true,
-    }
+    !matches!(rt.arg(i, &mut word), Err(FillError::NotPresent))
 }
 
-pub fn read(rt: &impl Env) -> Bounds {
+// None where the arguments are not as they must be.
+pub fn read(rt: &impl Env) -> Option<Bounds> {
     if is_given(rt, 3) {
-        return Bounds::Malformed;
+        return None;
     }
-    match argument(rt, 1, STEPS) {
-        Word::Other => Bounds::Malformed,
-        Word::Number(steps) => match argument(rt, 2, bulk::WORKSPACE_LIMIT as u64) {
-            Word::Other => Bounds::Malformed,
-            Word::Number(workspace) => Bounds::Are { steps, workspace },
-        },
-    }
+    Some(Bounds {
+        steps: argument(rt, 1, STEPS)?,
+        workspace: argument(rt, 2, bulk::WORKSPACE_LIMIT as u64)?,
+    })
 }

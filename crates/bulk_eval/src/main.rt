@@ -5,7 +5,6 @@
 mod arguments;
 
 use crate::arguments::Bounds;
-use bulk::Evaluation;
 
 // With so many steps and bytes of workspace; all of it if it has fewer.
 fn evaluate(
@@ -14,19 +13,17 @@ fn evaluate(
     table: &mut [u32],
     workspace: &mut [u8],
     output: &mut [u8],
-    steps: u64,
-    size: u64,
+    bounds: Bounds,
 ) {
-    let part = text::within(size, workspace.len());
-    match bulk::evaluate(stream, table, &mut workspace[0..part], output, steps) {
-        Evaluation::Refused { number, place } => text::print_refusal(rt, number, place),
-        Evaluation::Accepted { length, steps: _ } => {
-            let _ = rt.write_all(&output[0..length]);
-        }
-    }
+    let size = text::within(bounds.workspace, workspace.len());
+    let answer = bulk::evaluate(stream, table, &mut workspace[..size], output, bounds.steps);
+    let _ = match answer {
+        Err(refusal) => println!(rt; "{refusal}"),
+        Ok(evaluation) => rt.write_all(&output[..evaluation.length]),
+    };
 }
 
-fn run(rt: HostRuntime, steps: u64, size: u64) {
+fn run(rt: HostRuntime, bounds: Bounds) {
     // A byte more than a stream may have, so that one that is too long is seen to be.
     let mut stream = [0u8; bulk::STREAM_LIMIT + 1];
     let mut table = [0u32; bulk::TABLE_LIMIT];
@@ -39,16 +36,15 @@ fn run(rt: HostRuntime, steps: u64, size: u64) {
         &mut table,
         &mut workspace,
         &mut output,
-        steps,
-        size,
+        bounds,
     );
 }
 
 fn main(rt: HostRuntime) {
     match arguments::read(&rt) {
-        Bounds::Are { steps, workspace } => run(rt, steps, workspace),
-        Bounds::Malformed => {
-            let _ = rt.write_all(b"usage: bulk_eval [STEPS [WORKSPACE]]\n");
+        Some(bounds) => run(rt, bounds),
+        None => {
+            let _ = println!(rt; "usage: bulk_eval [STEPS [WORKSPACE]]");
         }
     }
 }

@@ -2,15 +2,11 @@
 
 // Writes the stream on standard input canonically to standard output, or prints its refusal.
 // Assumes the contracts that the kit states of C's `read` and `write`.
-use bulk::Answer;
-
 fn rewrite(rt: &impl Print, stream: &[u8], table: &mut [u32], output: &mut [u8]) {
-    match bulk::write(stream, table, output) {
-        Answer::Refused { number, place } => text::print_refusal(rt, number, place),
-        Answer::Accepted { given } => {
-            let _ = rt.write_all(&output[0..given]);
-        }
-    }
+    let _ = match bulk::write(stream, table, output) {
+        Err(refusal) => println!(rt; "{refusal}"),
+        Ok(length) => rt.write_all(&output[..length]),
+    };
 }
 
 fn main(rt: HostRuntime) {

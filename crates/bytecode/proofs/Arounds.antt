@@ -6,14 +6,14 @@ use lib.Dec.{eqb}
 use borrow.Author.Tests.{eq-eqb, ne_eqb}
 use native.Mathlib.Decide.{ℕ_discrete}
 use native.Mathlib.Omega.{arith}
+use Rattle.std.specs.Prelude.{None}
 use Rattle.spec.specs.Expr.{when◌then◌else◌}
 use Rattle.spec.specs.Bytecode.{Operator, Around, all}
 use Rattle.rows.specs.Rows.{mark, link, next, ReferenceAt}
 use Rattle.bytecode.specs.Numbers.{Changed, Unlisted}
-use Rattle.bytecode.specs.Named.{role_of, role_by, KeyAt, Entered, Nested, outermost, inside, Arounds}
-use Rattle.bytecode.specs.declared.arities.Role.TheVariants.{Operand}
+use Rattle.bytecode.specs.Named.{arity_of, arity_by, KeyAt, Entered, Nested, outermost, inside, Arounds}
 use Rattle.bytecode.proofs.Changing.{leaf_kept, changed_back, same_mark, same_link, same_child}
-use Rattle.bytecode.proofs.Named.{role_at_same, tree_found, tree_kept, key_kept}
+use Rattle.bytecode.proofs.Named.{arity_at_same, tree_found, tree_kept, key_kept}
 
 pub reference_kept : {s t t' : List ℕ} {a b r : ℕ} → Changed t t' a b → ReferenceAt s t r → ReferenceAt s t' r
 reference_kept {s} c x = record { marker = x.marker; name = x.name; leaf_at = leaf_kept s c x.leaf_at }
@@ -33,10 +33,10 @@ module _ {s t t' : List ℕ} {end : ℕ} {node node' : ℕ → ℕ} (c : Steady 
 
   -- what a key is outside, by its own reference
   outside_stays : (outer : List Operator) (r k : ℕ) → ((node k ≡ r → ⊥) → mark t' r ≡ mark t r)
-      → role_of outer k ≡ (when eqb (node k) r then Operand else role_by (mark t r)) → role_of outer k ≡ (when eqb (node k) r then Operand else role_by (mark t' r))
+      → arity_of outer k ≡ (when eqb (node k) r then None else arity_by (mark t r)) → arity_of outer k ≡ (when eqb (node k) r then None else arity_by (mark t' r))
   outside_stays outer r k m e = elim (ℕ_discrete (node k) r) [
     | yes z ↦ e ∙ rw (eq-eqb (node k) r z)
-    | no z ↦ e ∙ rw (ne_eqb (node k) r z) (ap role_by (sym (m z)))
+    | no z ↦ e ∙ rw (ne_eqb (node k) r z) (ap arity_by (sym (m z)))
   ]
 
   pub entered_kept : {list : ℕ} {os outer : List Operator} → next t list ≤ end → Entered s t node list os outer → Entered s t' node' list os outer
@@ -100,7 +100,7 @@ module _ {s t t' : List ℕ} {a b : ℕ} (c : Changed t t' a b) where
     node = h.node;
     tree = tree_kept c to (omega arith) (λ d r i j k. same_child (c.before r (omega arith)) d i) (λ r i j m. rw (same_mark (c.before r (omega arith))) m)
         (same_child (c.before 0 (omega (arith, h.tree.begins))) 1 (omega arith)) h.tree;
-    roles = λ k. h.roles k ∙ sym (role_at_same t t' (h.node k) (λ l. same_mark (c.before (h.node k) (omega (arith, (tree_found h.tree k l).before)))));
+    roles = λ k. h.roles k ∙ sym (arity_at_same t t' (h.node k) (λ l. same_mark (c.before (h.node k) (omega (arith, (tree_found h.tree k l).before)))));
     nested = nested_kept (steady_changed h.node) (λ l. omega (arith, h.ended l)) h.nested;
     ended = λ l. omega (arith, h.ended l, (c.same_rows list).same_next);
   }

@@ -10,7 +10,7 @@ use native.Mathlib.Omega.{arith}
 use Rattle.spec.specs.Expr.{Atom}
 use Rattle.spec.specs.Reading.{row_width}
 use Rattle.spec.specs.Nodes.{Node, Nodes}
-use Rattle.rows.specs.Rows.{cell, kind, start, mark, link, RowAt, LeafAt, WrittenAt, WrittenAll}
+use Rattle.rows.specs.Rows.{RowInside, cell, kind, start, mark, link, RowAt, LeafAt, WrittenAt, WrittenAll}
 use Rattle.rows.proofs.Written as written
 use Rattle.bytecode.specs.Numbers.{child, SameRow, Same, Changed, Unlisted, Aside}
 
@@ -212,7 +212,7 @@ changed_put {t} {t'} {r} p h g = record {
       same_next = p.others (row_width * q + 3) (λ e. omega arith) (λ e. omega arith);
     }
 
-module _ (t : List ℕ) (r v : ℕ) (inside : row_width * r + row_width ≤ length t) where
+module _ (t : List ℕ) (r v : ℕ) (inside : RowInside t r) where
   pub put_first : Put t (set t (row_width * r) v) r v (cell t r 1)
   put_first = record {
     same_length = length-set t (row_width * r) v;
@@ -229,71 +229,10 @@ module _ (t : List ℕ) (r v : ℕ) (inside : row_width * r + row_width ≤ leng
     others = λ i h g. get_or-set_other t (row_width * r + 1) i v 0 g;
   }
 
--- numbers besides, over the kind and the start
-numbers_put : {t t' : List ℕ} {r a b : ℕ} (m l o : ℕ) → Put t t' r a b → m < 128 → a ≡ l * 32768 + m * 256 + kind t r → b ≡ o * 65536 + start t r
-    → Changed t t' r (r + 1) × (mark t' r ≡ m) × (link t' r ≡ l) × (child t' 1 r ≡ o)
-numbers_put m l o p h e g = (
-  changed_put p (omega arith) (omega arith),
-  omega (arith, p.first_is),
-  omega (arith, p.first_is),
-  omega (arith, p.second_is),
-)
-
--- one of them, over the others
-module _ (t : List ℕ) (r : ℕ) (inside : row_width * r + row_width ≤ length t) where
-  abbrev first : ℕ
-  first = get_or t (row_width * r) 0
-
-  abbrev second : ℕ
-  second = get_or t (row_width * r + 1) 0
-
-  first_cell : cell t r 0 ≡ first
-  first_cell = ap (λ (i : ℕ). get_or t i 0) (add-zero (row_width * r))
-
-  pub mark_put : (m : ℕ) → m < 128 → let t' = set t (row_width * r) (first / 32768 * 32768 + m * 256 + first % 256) in
-      Changed t t' r (r + 1) × (mark t' r ≡ m) × (link t' r ≡ link t r) × (child t' 1 r ≡ child t 1 r)
-  mark_put m h =
-      numbers_put {a = first / 32768 * 32768 + m * 256 + first % 256} m (link t r) (child t 1 r) (put_first t r _ inside) h
-      (omega (arith, first_cell)) (omega arith)
-
-  pub link_put : (l : ℕ) → let t' = set t (row_width * r) (l * 32768 + first % 32768) in
-      Changed t t' r (r + 1) × (link t' r ≡ l) × (mark t' r ≡ mark t r) × (child t' 1 r ≡ child t 1 r)
-  link_put l =
-      let all = numbers_put {a = l * 32768 + first % 32768} (mark t r) l (child t 1 r) (put_first t r _ inside) (omega arith)
-      (omega (arith, first_cell)) (omega arith) in
-      (all.0, all.2, all.1, all.3)
-
-  -- in the place of a child, over the lower half
-  abbrev over : ℕ → ℕ → List ℕ
-  over b o = set t (row_width * r + b) (o * 65536 + get_or t (row_width * r + b) 0 % 65536)
-
-  pub child_put : (b o : ℕ) → b < 2
-      → Changed t (over b o) r (r + 1) × (child (over b o) b r ≡ o) × (mark (over b o) r ≡ mark t r)
-      × ((c : ℕ) → c < 2 → (c ≡ b → ⊥) → child (over b o) c r ≡ child t c r) × (b ≡ 1 → link (over b o) r ≡ link t r)
-  child_put zero o h =
-      let at = row_width * r + 0 in
-      let v = o * 65536 + cell t r 0 % 65536 in
-      let p : Put t (set t at v) r v (cell t r 1) = rw (add-zero (row_width * r)) (put_first t r (o * 65536 + first % 65536) inside) in
-      let all = numbers_put (mark t r) (o * 2 + link t r % 2) (child t 1 r) p (omega arith) (omega arith) (omega arith) in
-      (all.0, omega (arith, p.first_is), all.1, (λ c i n. sides c i n all.3), λ e. absurd (omega arith))
-    where
-      sides : (c : ℕ) → c < 2 → (c ≡ 0 → ⊥) → child (over 0 o) 1 r ≡ child t 1 r → child (over 0 o) c r ≡ child t c r
-      sides zero i n e = absurd (n refl)
-      sides (suc zero) i n e = e
-      sides (suc (suc c)) i n e = absurd (omega arith)
-  child_put (suc zero) o h =
-      let v = o * 65536 + second % 65536 in
-      let p = put_second t r v inside in
-      let all = numbers_put {b = v} (mark t r) (link t r) o p (omega arith) (omega arith) (omega arith) in
-      (all.0, all.3, all.1, (λ c i n. sides c i n (ap (λ (c : ℕ). c / 65536) p.first_is)), λ e. all.2)
-    where
-      sides : (c : ℕ) → c < 2 → (c ≡ 1 → ⊥) → child (over 1 o) 0 r ≡ child t 0 r → child (over 1 o) c r ≡ child t c r
-      sides zero i n e = e
-      sides (suc zero) i n e = absurd (n refl)
-      sides (suc (suc c)) i n e = absurd (omega arith)
-  child_put (suc (suc b)) o h = absurd (omega arith)
-
 -- Clearing a row
+
+first_cell : (t : List ℕ) (r : ℕ) → cell t r 0 ≡ get_or t (row_width * r) 0
+first_cell t r = ap (λ (i : ℕ). get_or t i 0) (add-zero (row_width * r))
 
 -- a row of t that has no numbers besides, with those that were put there taken away
 pub changed_cleared : {t t' : List ℕ} {r to : ℕ} → Changed t t' r to → r < to → row_width * to ≤ length t' → cell t r 0 < 256 → cell t r 1 < 65536 →
@@ -303,11 +242,11 @@ changed_cleared {t} {t'} {r} {to} c l fits a b =
     let u = set t' (row_width * r) (get_or t' (row_width * r) 0 % 256) in
     let p = put_first t' r (get_or t' (row_width * r) 0 % 256) (omega arith) in
     let q = put_second u r (get_or u (row_width * r + 1) 0 % 65536) (omega (arith, p.same_length)) in
-    let once = changed_put p (omega (arith, first_cell t' r (omega arith))) (omega arith) in
+    let once = changed_put p (omega (arith, first_cell t' r)) (omega arith) in
     let twice = changed_put q (omega arith) (omega arith) in
     let same = c.same_rows r in
     changed_later (changed_then c (changed_then (changed_wider once r to (omega arith) (omega arith)) (changed_wider twice r to (omega arith) (omega arith))))
     (record {
-      first = omega (arith, q.first_is, p.first_is, first_cell t' r (omega arith), same.same_kind);
+      first = omega (arith, q.first_is, p.first_is, first_cell t' r, same.same_kind);
       second = omega (arith, q.second_is, p.second_is, same.same_start);
     })

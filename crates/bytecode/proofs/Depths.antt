@@ -1,6 +1,6 @@
 -- Laws of heights: the larger of two, and the largest of those written from a row up to another. Document 02, §1: "forms one inside another".
 -- Assumes nothing.
-use Prim.Native.Nat.{ℕ, max, ◌+◌, ◌≤◌, ◌<◌}
+use Prim.Native.Nat.{ℕ, max, ◌+◌, ◌-◌, ◌≤◌, ◌<◌}
 use mathlib.Core.Path.{◌≡◌, refl, sym, ap, ◌∙◌}
 use mathlib.Core.List.{List}
 use native.Mathlib.Decide.{ℕ_discrete, dec_lt}
@@ -10,8 +10,8 @@ use borrow.Author.Tests.{eq-eqb, ne_eqb}
 use Rattle.spec.specs.Nodes.{Node, leaf, branch, bytecode, Nodes, empty, cons}
 use Rattle.spec.specs.Bytecode.{node_depth, nodes_deepest}
 use Rattle.laws.proofs.Basics.{by_test}
-use Rattle.rows.specs.Rows.{kind, mark, link, next, WrittenAt, WrittenAll}
-use Rattle.rows.proofs.Nodes.{no_form, leaf_kind, written_done, written_more}
+use Rattle.rows.specs.Rows.{RowInside, kind, mark, link, next, WrittenAt, WrittenAll}
+use Rattle.rows.proofs.Nodes.{MoreWritten, no_form, leaf_kind, written_done, written_more, written_form, written_whole}
 use Rattle.bytecode.specs.Numbers.{child, Changed}
 use Rattle.bytecode.specs.Gathered.{Measurable, Measured, height, SameLinks, SameOthers}
 use Rattle.bytecode.proofs.Changing.{same_mark, same_elsewhere, changed_none, changed_wider, changed_back, changed_then, written_kept, written_all_kept}
@@ -51,13 +51,13 @@ pub record LeftAt (s t : List ℕ) (first end : ℕ) (es : Nodes) (r so_far : �
   pub highest : Measured s t first end → max so_far (nodes_deepest rest) ≡ nodes_deepest es
 
 module _ {s t : List ℕ} {first end : ℕ} {es : Nodes} where
-  pub left_all : WrittenAll s t first end es → LeftAt s t first end es first 0
-  left_all h = record { rest = es; from = omega arith; written = h; highest = λ m. omega arith }
+  pub left_more : {r n : ℕ} → (a : LeftAt s t first end es r n) → r < end → MoreWritten s t r end a.rest
+  left_more {r} a l = written_more s t r end a.rest a.written l
 
   pub left_next : {r n : ℕ} → LeftAt s t first end es r n → r < end → LeftAt s t first end es (next t r) (max n (height t r))
   unfolding node_depth
   left_next {r} {n} a l =
-      let more = written_more s t r end a.rest a.written l in
+      let more = left_more a l in
       record {
         rest = more.rest;
         from = omega (arith, a.from, more.forward);
@@ -119,6 +119,35 @@ pub marked_at : {t t' : List ℕ} {rows r : ℕ} (m : Measurable t rows) → Mar
 marked_at {t' = t'} {rows} m k q l =
     let w = written_all_kept m.stream k.changed m.nodes 0 rows m.written in
     lower (each_row m.stream t' 0 rows m.nodes w q (omega arith) l) (omega arith) m.shallow
+
+-- a form at a row; what is inside is lower than so many
+pub record FormAt (s t : List ℕ) (r end highest : ℕ) : Type 0 where
+  pub elements : Nodes
+  pub written : WrittenAll s t (r + 1) (next t r) elements
+  pub within : next t r ≤ end
+  pub low : nodes_deepest elements < highest
+
+-- the row before those that are marked
+module _ {t t' : List ℕ} {rows p : ℕ} (m : Measurable t rows) (k : Marked t t' rows p) (some : 0 < p) where
+  at : AtRow m.stream t' (p - 1) rows 64
+  at = marked_at m k (p - 1) (omega (arith, k.low))
+
+  pub marked_inside : RowInside t' (p - 1)
+  marked_inside = (written_whole m.stream t' (p - 1) at.node at.written).0
+
+  module _ (is : kind t' (p - 1) ≡ 1) where
+    pub form_at : FormAt m.stream t' (p - 1) rows 64
+    unfolding node_depth
+    form_at =
+        let e = written_form m.stream t' (p - 1) at.node at.written is in
+        record { elements = e.0; written = e.2; within = at.within; low = omega (arith, ap node_depth e.1, at.low) }
+
+    -- how high its elements are
+    pub form_low : (n : ℕ) → ((s : List ℕ) (es : Nodes) → WrittenAll s t' (p - 1 + 1) (next t' (p - 1)) es → Measured s t' (p - 1 + 1) (next t' (p - 1)) → n ≡ nodes_deepest es)
+        → n < 64
+    form_low n h =
+        let f = form_at in
+        omega (arith, f.low, h m.stream f.elements f.written (measured_within (k.measured m.stream) (omega arith) f.within))
 
 module _ {t t' : List ℕ} {rows r p : ℕ} (k : Marked t t' rows p) (one : p ≡ r + 1) where
   -- the row before is no form's

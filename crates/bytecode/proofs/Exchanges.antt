@@ -6,19 +6,18 @@ use lib.ListN.{length}
 use borrow.Author.Tests.{eq-eqb, ne_eqb}
 use native.Mathlib.Decide.{ℕ_discrete}
 use native.Mathlib.Omega.{arith}
-use Rattle.spec.specs.Reading.{row_width}
-use Rattle.rows.specs.Rows.{cell, kind, mark, link}
+use Rattle.std.specs.Prelude.{Err}
+use Rattle.rows.specs.Rows.{RowInside, cell, kind, mark, link}
 use Rattle.bytecode.specs.Numbers.{child, Changed, Unlisted, Aside}
-use Rattle.bytecode.specs.Named.{role_at, KeyAt, MemberAt, Tree, Sought, vacant, Marked, Exchanged, Joined}
-use Rattle.bytecode.specs.declared.tree.Place.TheVariants.{Vacant}
+use Rattle.bytecode.specs.Named.{arity_at, KeyAt, MemberAt, Tree, Sought, vacant, Marked, Exchanged, Joined}
 use Rattle.bytecode.proofs.Changing.{changed_wider, changed_then, same_elsewhere, same_mark, same_link, same_child}
-use Rattle.bytecode.proofs.Named.{role_at_same, key_same, key_kind, tree_found, tree_kept, sought_vacant, way_last, Hung, adding, hung_before}
+use Rattle.bytecode.proofs.Named.{arity_at_same, key_same, key_kind, tree_found, tree_kept, sought_vacant, way_last, Hung, adding, hung_before}
 use Rattle.bytecode.proofs.Arounds.{Steady}
 
 -- Marked
 
 -- a mark is put at a row
-pub marked_put : {t t' : List ℕ} {r m : ℕ} → row_width * r + row_width ≤ length t
+marked_put : {t t' : List ℕ} {r m : ℕ} → RowInside t r
     → Changed t t' r (r + 1) × (mark t' r ≡ m) × (link t' r ≡ link t r) × (child t' 1 r ≡ child t 1 r) → Marked t t'
 marked_put {t} {t'} {r} inside p = record {
   changed = changed_wider p.0 0 (length t) (omega arith) (omega arith);
@@ -31,7 +30,7 @@ marked_put {t} {t'} {r} inside p = record {
     both (suc zero) i = p.3
     both (suc (suc b)) i = absurd (omega arith)
 
-pub marked_then : {t u t' : List ℕ} → Marked t u → Marked u t' → Marked t t'
+marked_then : {t u t' : List ℕ} → Marked t u → Marked u t' → Marked t t'
 marked_then {t} {u} a b = record {
   changed = changed_then a.changed (changed_wider b.changed 0 (length t) (omega arith) (omega (arith, a.changed.same_length)));
   links = λ q. b.links q ∙ a.links q;
@@ -40,19 +39,11 @@ marked_then {t} {u} a b = record {
 
 -- Exchanged
 
-pub exchanged_one : {t t' : List ℕ} {first row : ℕ} → first ≡ row → row_width * row + row_width ≤ length t
-    → Changed t t' row (row + 1) × (mark t' row ≡ 63) × (link t' row ≡ link t row) × (child t' 1 row ≡ child t 1 row) → Exchanged t t' first row
-exchanged_one {t} {t'} {first} {row} e inside p = record {
-  marked = marked_put inside p;
-  first_is = rw (eq-eqb first row e) (ap (mark t') e ∙ p.1);
-  row_is = rw (eq-eqb first row e) p.1;
-  others = λ r i j. same_mark (same_elsewhere p.0 r (omega arith) j);
-}
-
-pub exchanged_two : {t u t' : List ℕ} {first row : ℕ} → (first ≡ row → ⊥) → row_width * first + row_width ≤ length t → row_width * row + row_width ≤ length t
+-- of two rows
+pub exchanged_marks : {t u t' : List ℕ} {first row : ℕ} → (first ≡ row → ⊥) → RowInside t first → RowInside t row
     → Changed t u first (first + 1) × (mark u first ≡ mark t row) × (link u first ≡ link t first) × (child u 1 first ≡ child t 1 first)
     → Changed u t' row (row + 1) × (mark t' row ≡ mark t first) × (link t' row ≡ link u row) × (child t' 1 row ≡ child u 1 row) → Exchanged t t' first row
-exchanged_two {t} {u} {t'} {first} {row} n f r p q = record {
+exchanged_marks {t} {u} {t'} {first} {row} n f r p q = record {
   marked = marked_then (marked_put f p) (marked_put (omega (arith, p.0.same_length)) q);
   first_is = rw (ne_eqb first row n) (same_mark (same_elsewhere q.0 first (omega arith) n) ∙ p.1);
   row_is = rw (ne_eqb first row n) q.1;
@@ -68,7 +59,7 @@ ChildPut t t' row bit new =
     × (bit ≡ 1 → link t' row ≡ link t row)
 
 -- no children below the row, and the row below the last
-pub joined_put : {s t u v t' : List ℕ} {row last bit : ℕ} → row_width * row + row_width ≤ length t → row_width * last + row_width ≤ length t → bit < 2
+pub joined_put : {s t u v t' : List ℕ} {row last bit : ℕ} → RowInside t row → RowInside t last → bit < 2
     → ChildPut t u row 0 0 → ChildPut u v row 1 0 → ChildPut v t' last bit row → Joined s t t' row last bit
 joined_put {s} {t} {u} {v} {t'} {row} {last} {bit} i j small p q o = record {
   changed = changed_then (changed_wider twice 0 (length t) (omega arith) (omega arith)) (changed_wider o.0 0 (length t) (omega arith) (omega arith));
@@ -165,9 +156,9 @@ module _ {s t t' : List ℕ} {first row to key : ℕ} (x : Exchanged t t' first 
       tree_kept x.marked.changed end l (λ d r i j k. x.marked.children d r i) (λ r i j h. exchange_marked r h) (x.marked.children 1 0 (omega arith)) w
 
   module _ {node : ℕ → ℕ} (is : node key ≡ first) where
-    pub exchange_role : Tree s t 0 to node → (k : ℕ) → (k ≡ key → ⊥) → role_at t' (node k) ≡ role_at t (node k)
-    exchange_role w k n =
-        role_at_same t t' (node k) (λ l. let f = tree_found w k l in
+    pub exchange_arity : Tree s t 0 to node → (k : ℕ) → (k ≡ key → ⊥) → arity_at t' (node k) ≡ arity_at t (node k)
+    exchange_arity w k n =
+        arity_at_same t t' (node k) (λ l. let f = tree_found w k l in
         x.others (node k) (λ e. n (key_same f.key (rw (← e) at m.key))) (λ e. n (key_same f.key (rw (← e) at y))))
 
     pub exchange_steady : (end : ℕ) → end ≤ row → Steady s t t' end node node
@@ -185,7 +176,7 @@ module _ {s t t' : List ℕ} {first row to key : ℕ} (x : Exchanged t t' first 
 
 -- What joining keeps
 
-module _ {s t t' : List ℕ} {row last bit to key : ℕ} {node : ℕ → ℕ} (x : Joined s t t' row last bit) (w : Tree s t 0 to node) (v : Sought s t 0 key (Vacant last bit))
+module _ {s t t' : List ℕ} {row last bit to key : ℕ} {node : ℕ → ℕ} (x : Joined s t t' row last bit) (w : Tree s t 0 to node) (v : Sought s t 0 key (Err (record { row = last; bit = bit })))
     (later : to ≤ row) (y : KeyAt s t row key) (high : 63 ≤ mark t row) where
   pub joined_hung : Hung s t t' 0 row key last bit
   joined_hung = record {
@@ -203,7 +194,7 @@ module _ {s t t' : List ℕ} {row last bit to key : ℕ} {node : ℕ → ℕ} (x
   last_other : (r : ℕ) → Unlisted t r → bit ≡ 0 → r ≡ last → ⊥
   last_other r p e z = go v
     where
-      go : Sought s t 0 key (Vacant last bit) → ⊥
+      go : Sought s t 0 key (Err (record { row = last; bit = bit })) → ⊥
       go (vacant way free) = let m = (way_last w way e).1 in omega (arith, m.marked, p (ap (kind t) z ∙ key_kind m.key), ap (mark t) z)
 
   unlisted_joined : (r : ℕ) → Unlisted t r → (mark t' r ≡ mark t r) × (link t' r ≡ link t r)

@@ -20,7 +20,7 @@ use Rattle.rows.proofs.Parts.{leaf_element, opens_element}
 use Rattle.bytecode.specs.Frames.{operators_in, Frame, Goal, Holds, going_on, inside}
 use Rattle.bytecode.specs.Scanned.{Fresh}
 use Rattle.bytecode.proofs.Changing.{changed_none}
-use Rattle.bytecode.proofs.Flattening.{clash, NoBytecode}
+use Rattle.bytecode.proofs.Flattening.{NoBytecode}
 use Rattle.bytecode.proofs.Goals.{FirstAt, first_at, form_first, goal_form, goal_made}
 use Rattle.bytecode.proofs.Frames.{fresh_next, holds_next, holds_branch, holds_made}
 
@@ -61,14 +61,14 @@ pub data View (s t : List ℕ) (f : Frame) (e : Node) (es : Nodes) : Ranged → 
 led_behind : (s t : List ℕ) (from to : ℕ) (gs : Nodes) (n : ℕ) → Fresh s t from to gs → leads n gs ≡ true
     → ReferenceAt s t from × Fresh s t (from + 1) to (tail gs)
 unfolding WrittenAll
-led_behind s t from to empty n h l = clash l
-led_behind s t from to (cons (leaf q nil) gs) n h l = clash l
-led_behind s t from to (cons (leaf q (array bs)) gs) n h l = clash l
-led_behind s t from to (cons (leaf q (int v)) gs) n h l = clash l
+led_behind s t from to empty n h l = absurd (cc l)
+led_behind s t from to (cons (leaf q nil) gs) n h l = absurd (cc l)
+led_behind s t from to (cons (leaf q (array bs)) gs) n h l = absurd (cc l)
+led_behind s t from to (cons (leaf q (int v)) gs) n h l = absurd (cc l)
 led_behind s t from to (cons (leaf q (ref m k)) gs) n h l =
     let a = h.written.2.1 in (record { marker = m; name = k; leaf_at = a }, rw a.on at (fresh_next s t from to (leaf q (ref m k)) gs h))
-led_behind s t from to (cons (branch q fs) gs) n h l = clash l
-led_behind s t from to (cons (bytecode q fs o) gs) n h l = clash l
+led_behind s t from to (cons (branch q fs) gs) n h l = absurd (cc l)
+led_behind s t from to (cons (bytecode q fs o) gs) n h l = absurd (cc l)
 
 module _ (s t : List ℕ) (f : Frame) (e : Node) (es : Nodes) (h : Holds s t f) (is : f.elements ≡ cons e es) where
   abbrev os : List Operator

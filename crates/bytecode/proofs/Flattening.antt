@@ -1,5 +1,5 @@
 -- Bytecode forms in the table: by their heads, what they become. Document 02, §1. Assumes nothing.
-use Prim.Native.Nat.{ℕ, ◌+◌, ◌*◌, ◌≤◌, ◌<◌}
+use Prim.Native.Nat.{ℕ, suc, ◌+◌, ◌≤◌, ◌<◌}
 use mathlib.Core.Path.{◌≡◌, refl, ap, sym, ◌∙◌}
 use mathlib.Core.List.{List, [], ◌∷◌}
 use mathlib.Core.Bool.{Bool, true, false, not, ◌&&◌, ◌||◌}
@@ -8,24 +8,23 @@ use lib.ListN.{length}
 use lib.Dec.{ltb, leb, eqb}
 use borrow.Author.Tests.{eqb-true, lt-ltb, le-leb, leb-true, le-ltb}
 use Rattle.spec.specs.Expr.{when◌then◌else◌, some, nil, array, int, ref}
-use Rattle.spec.specs.Reading.{row_width}
 use Rattle.spec.specs.Nodes.{core, plain as plain_word, is, among, word, Node, leaf, branch, bytecode, Nodes, empty, cons, becomes, row, elements, head_word}
 use Rattle.spec.specs.Bytecode.{prefix, prefix*, is_name, led_by_name, Operator, listed, operators, Around, all, Part, nodes, transformed_all, gathered, placed, result_of, outcome, linked, transform, parts_of, short, node_depth}
 use Rattle.spec.proofs.Made.{keep, each_row, transform_other, result}
 use Rattle.spec.proofs.Flat.{refusal, Role, operator, operand, role, by_role, by_its_role, foremost, others, first_part, first_part_written, gathered_cons, transform_star, transform_nested, star_listed}
-use Rattle.laws.proofs.Basics.{impossible, both_false}
+use Rattle.laws.proofs.Basics.{both_false}
 use Rattle.laws.proofs.Bytecode.{unled_plain, Turned, same_leaf, same_form, to_bytecode, same_bytecode, transform_turned}
-use Rattle.rows.specs.Rows.{mark, next, WrittenAt, WrittenAll, behind, led_by_reference, NodeAt, NodesAt, OutcomeAt, ResultAt, single}
+use Rattle.atoms.specs.Refusals.{number}
+use Rattle.atoms.specs.declared.refusal.Reason.{Reason}
+use Rattle.atoms.specs.declared.refusal.Reason.TheVariants.{TooDeep, WrongBytecode}
+use Rattle.rows.specs.Rows.{RowInside, mark, next, WrittenAt, WrittenAll, behind, led_by_reference, NodeAt, NodesAt, OutcomeAt, ResultAt, single}
 use Rattle.rows.specs.declared.forms.Form.{Form}
 use Rattle.rows.proofs.Nodes.{written_whole}
 use Rattle.rows.proofs.Outcomes.{written_rows}
 
-pub clash : {A : Type 0} → false ≡ true → A
-clash e = impossible (ap (λ (b : Bool). when b then 1 else 0) e)
-
 both_true : (a b : Bool) → (a && b) ≡ true → (a ≡ true) × (b ≡ true)
 both_true true b q = (refl, q)
-both_true false b q = clash q
+both_true false b q = absurd (cc q)
 
 -- What the transformation keeps of a form's head
 
@@ -67,19 +66,19 @@ LedPlainly es = (led_by_reference es ≡ true) × (is (head_word es) plain_word 
 
 -- a bytecode name is so
 pub named_head : (n : ℕ) → is (word core n) plain_word ≡ true → (h : Node) (gs : Nodes) → is_name n h ≡ true → LedPlainly (cons h gs)
-named_head n d (leaf r nil) gs p = clash p
-named_head n d (leaf r (array bs)) gs p = clash p
-named_head n d (leaf r (int v)) gs p = clash p
+named_head n d (leaf r nil) gs p = absurd (cc p)
+named_head n d (leaf r (array bs)) gs p = absurd (cc p)
+named_head n d (leaf r (int v)) gs p = absurd (cc p)
 named_head n d (leaf r (ref m k)) gs p =
     let same = both_true (eqb m core) (eqb k n) p in
     (refl, rw (eqb-true m core same.0, eqb-true k n same.1) d)
-named_head n d (branch r fs) gs p = clash p
-named_head n d (bytecode r fs o) gs p = clash p
+named_head n d (branch r fs) gs p = absurd (cc p)
+named_head n d (bytecode r fs o) gs p = absurd (cc p)
 
 named_next : (s t : List ℕ) (r n : ℕ) (h : Node) → is_name n h ≡ true → WrittenAt s t r h → next t r ≡ r + 1
 unfolding WrittenAt
 named_next s t r n (leaf q a) p w = w.1.on
-named_next s t r n (branch q es) p w = clash p
+named_next s t r n (branch q es) p w = absurd (cc p)
 named_next s t r n (bytecode q es o) p w = absurd w
 
 -- a bytecode form's head, and what follows it: its mark where it is fine, its operators, what is around its flat list, the flat list
@@ -104,7 +103,7 @@ flattens_to r around h (nested es p q l) = (named_head prefix refl h es q, trans
 -- the flat list's rows
 flattens_written : (s t : List ℕ) (r end : ℕ) (around : Around) (h : Node) {gs : Nodes} {k : ℕ} {os : List Operator} {around' : Around} {es : Nodes}
     → Flattens around h gs k os around' es → WrittenAll s t r end (cons h gs)
-    → (0 < k) × (k ≤ 2) × (k ≡ 2 → row_width * (r + 1) + row_width ≤ length t) × WrittenAll s t (flat_from t r k) end es
+    → (0 < k) × (k ≤ 2) × (k ≡ 2 → RowInside t (r + 1)) × WrittenAll s t (flat_from t r k) end es
 unfolding WrittenAt
 flattens_written s t r end around h (star a es os p l) w =
     let rest = rw (named_next s t r prefix* h p w.2) at w.3 in
@@ -138,7 +137,7 @@ module _ (s t : List ℕ) (r first end : ℕ) (around : Around) where
         refl,
         rw (head_kept around gs).0 (unled_plain gs h),
         (λ y. (n.1, n.3)),
-        λ y. clash (sym y ∙ z),
+        λ y. absurd (cc (sym y ∙ z)),
       )
   one_result (bytecode q gs o) i h l b n = absurd i
 
@@ -209,3 +208,12 @@ refusal_small r os es = go (short os 0 es || led_by_name (elements (result r os 
     go true c = omega arith
     go false true = omega arith
     go false false = omega arith
+
+-- each has a reason
+pub refusal_reason : (r : ℕ) (os : List Operator) (es : Nodes) (w : ℕ) → refusal r os es ≡ suc w → (reason : Reason) × (number reason ≡ suc w)
+refusal_reason r os es w = go (short os 0 es || led_by_name (elements (result r os es))) (ltb 64 (node_depth (result r os es)))
+  where
+    go : (b c : Bool) → (when b then 22 else when c then 6 else 0) ≡ suc w → (reason : Reason) × (number reason ≡ suc w)
+    go true c e = (WrongBytecode, e)
+    go false true e = (TooDeep, e)
+    go false false e = absurd (omega (arith, e))

@@ -1,22 +1,19 @@
 -- The flat list as code goes through it: what is left to be gathered from a row on. Document 02, §1. Assumes nothing.
-use Prim.Native.Nat.{ℕ, ◌+◌, ◌*◌, ◌≤◌, ◌<◌}
+use Prim.Native.Nat.{ℕ, ◌+◌, ◌≤◌, ◌<◌}
 use mathlib.Core.Path.{◌≡◌, refl, sym, ap, ◌∙◌}
 use mathlib.Core.List.{List}
-use mathlib.Core.Bool.{Bool, true, false, not, ◌||◌}
-use lib.ListN.{length}
+use mathlib.Core.Bool.{Bool, true, false, ◌||◌}
 use native.Mathlib.Omega.{arith}
+use Rattle.std.specs.Prelude.{Option, Some, None}
 use Rattle.spec.specs.Expr.{when◌then◌else◌}
-use Rattle.spec.specs.Reading.{row_width}
 use Rattle.spec.specs.Nodes.{Node, Nodes, cons}
 use Rattle.spec.specs.Bytecode.{Operator, if_operator, short}
 use Rattle.spec.proofs.Flat.{operator, operand, role, by_operand, by_operator, without}
-use Rattle.rows.specs.Rows.{next, link, mark, WrittenAt, WrittenAll}
+use Rattle.rows.specs.Rows.{RowInside, next, link, mark, WrittenAt, WrittenAll}
 use Rattle.rows.proofs.Nodes.{MoreWritten, written_order, written_done, written_more, written_whole}
 use Rattle.bytecode.specs.Numbers.{child, Changed, Unlinked}
 use Rattle.bytecode.specs.Gathered.{SameMarks, beyond, lacks, GatheredAt, Tells, FlatAt}
 use Rattle.bytecode.specs.declared.arities.Arities.{Arities}
-use Rattle.bytecode.specs.declared.arities.Role.{Role}
-use Rattle.bytecode.specs.declared.arities.Role.TheVariants.{Operator as As, Operand}
 use Rattle.bytecode.proofs.Changing.{changed_none, changed_wider, changed_then, written_all_kept}
 use Rattle.bytecode.proofs.Links.{at_one, written_few, written_all_few, role_operand, role_operator, short_lacks, beyond_written, beyond_order, gathered_operands, beyond_changed, unlinked_kept, gathered_operand, gathered_operator}
 
@@ -31,17 +28,12 @@ pub record Gathering (s t : List ℕ) (first end : ℕ) (os : List Operator) (es
   pub shorts : short os 0 rest ≡ short os 0 es
   pub gathered : (t' : List ℕ) → Changed t t' r end → GatheredAt t' os 0 r rest → GatheredAt t' os 0 first es
 
-pub gathering_all : {s t : List ℕ} {a : Arities} {first end : ℕ} {os : List Operator} {es : Nodes} → FlatAt s t a first end os es
-    → Gathering s t first end os es first
-gathering_all {es = es} f =
-    record { rest = es; from = omega arith; written = f.written; unlinked = f.unlinked; shorts = refl; gathered = λ t' c g. g }
-
 module _ {s t : List ℕ} {first end : ℕ} {os : List Operator} {es : Nodes} {r : ℕ} (g : Gathering s t first end os es r) where
-  pub gathering_done : end ≤ r → (true ≡ not (short os 0 es)) × GatheredAt t os 0 first es
+  pub gathering_done : end ≤ r → (short os 0 es ≡ false) × GatheredAt t os 0 first es
   unfolding short GatheredAt
   gathering_done l =
       let none = written_done s t r end g.rest g.written l in
-      (ap not (ap (short os 0) (sym none) ∙ g.shorts), g.gathered t (changed_none t r end) (rw none tt))
+      (sym g.shorts ∙ ap (short os 0) none, g.gathered t (changed_none t r end) (rw none tt))
 
   module _ (l : r < end) where
     pub gathering_more : MoreWritten s t r end g.rest
@@ -115,19 +107,20 @@ pub record Held (s t : List ℕ) (a : Arities) (first end : ℕ) (t' : List ℕ)
   pub marks : SameMarks t t'
   pub each : (os : List Operator) (es : Nodes) → FlatAt s t a first end os es → Gathering s t' first end os es r
 
-pub held_all : {s t : List ℕ} {a : Arities} {first end : ℕ} (os : List Operator) (es : Nodes) → FlatAt s t a first end os es → Held s t a first end t first
-held_all {t = t} {first = first} {end} os es f =
-    record { operators = os; nodes = es; flat = f; changed = changed_none t first end; marks = λ r. (refl, refl); each = λ os es f. gathering_all f }
+-- the arity of the expression at a row, by all of them
+abbrev pub ArityAt : List ℕ → List ℕ → Arities → ℕ → Option ℕ → Type 0
+ArityAt s t a r n = (os : List Operator) (e : Node) → Tells s t a os → WrittenAt s t r e → n ≡ if_operator os e (λ n. Some n) None
 
--- the role of the expression at a row, by all of them
-abbrev pub RoleAt : List ℕ → List ℕ → Arities → ℕ → Role → Type 0
-RoleAt s t a r role = (os : List Operator) (e : Node) → Tells s t a os → WrittenAt s t r e → role ≡ if_operator os e (λ n. As n) Operand
-
--- an operator, with the row behind its operands; that is past the end if it is short of them
-pub record Passing (s : List ℕ) (a : Arities) (t : List ℕ) (r end p : ℕ) : Type 0 where
+-- an operator, with the row behind its operands, if it isn't short of them
+pub record Passing (s : List ℕ) (a : Arities) (t : List ℕ) (r end : ℕ) (p : Option ℕ) : Type 0 where
   pub arity : ℕ
-  pub role : RoleAt s t a r (As arity)
-  pub past : (s : List ℕ) (es : Nodes) → WrittenAll s t (next t r) end es → p ≡ (when lacks arity es then end + 1 else beyond t arity (next t r))
+  pub is : ArityAt s t a r (Some arity)
+  pub past : (s : List ℕ) (es : Nodes) → WrittenAll s t (next t r) end es → p ≡ (when lacks arity es then None else Some (beyond t arity (next t r)))
+
+-- as the code has found them
+pub passing : {s t : List ℕ} {a : Arities} {r q end n : ℕ} {found p : Option ℕ} → ArityAt s t a r (Some n) → q ≡ next t r
+    → ((s : List ℕ) (es : Nodes) → WrittenAll s t q end es → found ≡ (when lacks n es then None else Some (beyond t n q))) → found ≡ p → Passing s a t r end p
+passing {n = n} i behind past is = record { arity = n; is = i; past = λ s es w. sym is ∙ (rw behind at past) s es w }
 
 module _ {s t : List ℕ} {a : Arities} {first end : ℕ} {t' : List ℕ} {r : ℕ} (h : Held s t a first end t' r) where
   pub held_one : Gathering s t' first end h.operators h.nodes r
@@ -137,13 +130,13 @@ module _ {s t : List ℕ} {a : Arities} {first end : ℕ} {t' : List ℕ} {r : �
     pub held_more : MoreWritten s t' r end held_one.rest
     held_more = gathering_more held_one l
 
-    pub held_inside : row_width * r + row_width ≤ length t'
+    pub held_inside : RowInside t' r
     held_inside = (written_whole s t' r held_more.head held_more.node).0
 
     pub held_few : end ≤ 65536
     held_few = let m = held_more in written_all_few s t' (next t' r) end m.rest m.nodes (written_few s t' r m.head m.node)
 
-    pub held_operand : RoleAt s t' a r Operand → Held s t a first end t' (next t' r)
+    pub held_operand : ArityAt s t' a r None → Held s t a first end t' (next t' r)
     held_operand found =
         record {
           operators = h.operators;
@@ -155,30 +148,33 @@ module _ {s t : List ℕ} {a : Arities} {first end : ℕ} {t' : List ℕ} {r : �
               gathering_operand g l (role_operand os m.head (found os m.head (f.tells t' h.changed) m.node));
         }
 
-    module _ {p : ℕ} (o : Passing s a t' r end p) where
-      past_end : (es : Nodes) → WrittenAll s t' (next t' r) end es → end < p → lacks o.arity es ≡ true
-      past_end es w k = go (lacks o.arity es) refl (o.past s es w)
+    -- it is short of them
+    module _ (o : Passing s a t' r end None) where
+      lacking : (es : Nodes) → WrittenAll s t' (next t' r) end es → lacks o.arity es ≡ true
+      lacking es w = go (lacks o.arity es) (o.past s es w)
         where
-          go : (b : Bool) → lacks o.arity es ≡ b → p ≡ (when b then end + 1 else beyond t' o.arity (next t' r)) → b ≡ true
-          go true e q = refl
-          go false e q = absurd (omega (arith, k, q, written_order s t' _ end _ (beyond_written s t' o.arity (next t' r) end es w e)))
+          go : (b : Bool) → None ≡ (when b then None else Some (beyond t' o.arity (next t' r))) → b ≡ true
+          go true q = refl
+          go false q = absurd (cc)
 
-      within_end : (es : Nodes) → WrittenAll s t' (next t' r) end es → p ≤ end → (lacks o.arity es ≡ false) × (p ≡ beyond t' o.arity (next t' r))
-      within_end es w k = go (lacks o.arity es) (o.past s es w)
-        where
-          go : (b : Bool) → p ≡ (when b then end + 1 else beyond t' o.arity (next t' r)) → (b ≡ false) × (p ≡ beyond t' o.arity (next t' r))
-          go true q = absurd (omega (arith, k, q))
-          go false q = (refl, q)
-
-      pub held_short : end < p → (os : List Operator) (es : Nodes) → FlatAt s t a first end os es → false ≡ not (short os 0 es)
-      held_short k os es f =
+      pub held_short : (os : List Operator) (es : Nodes) → FlatAt s t a first end os es → short os 0 es ≡ true
+      held_short os es f =
           let g = h.each os es f in
           let m = gathering_more g l in
-          sym (ap not (gathering_short g l o.arity (role_operator os m.head o.arity (o.role os m.head (f.tells t' h.changed) m.node)) (past_end m.rest m.nodes k)))
+          gathering_short g l o.arity (role_operator os m.head o.arity (o.is os m.head (f.tells t' h.changed) m.node)) (lacking m.rest m.nodes)
 
-      pub held_operator : {t'' : List ℕ} → p ≤ end → Changed t' t'' r (r + 1) → link t'' r ≡ p → (mark t'' r ≡ mark t' r) × (child t'' 1 r ≡ child t' 1 r)
+    -- it has them
+    module _ {p : ℕ} (o : Passing s a t' r end (Some p)) where
+      having : (es : Nodes) → WrittenAll s t' (next t' r) end es → (lacks o.arity es ≡ false) × (p ≡ beyond t' o.arity (next t' r))
+      having es w = go (lacks o.arity es) (o.past s es w)
+        where
+          go : (b : Bool) → Some p ≡ (when b then None else Some (beyond t' o.arity (next t' r))) → (b ≡ false) × (p ≡ beyond t' o.arity (next t' r))
+          go true q = absurd (cc)
+          go false q = (refl, cc)
+
+      pub held_operator : {t'' : List ℕ} → Changed t' t'' r (r + 1) → link t'' r ≡ p → (mark t'' r ≡ mark t' r) × (child t'' 1 r ≡ child t' 1 r)
           → Held s t a first end t'' p
-      held_operator {t''} k c is same =
+      held_operator {t''} c is same =
           record {
             operators = h.operators;
             nodes = h.nodes;
@@ -190,14 +186,15 @@ module _ {s t : List ℕ} {a : Arities} {first end : ℕ} {t' : List ℕ} {r : �
             each = λ os es f.
                 let g = h.each os es f in
                 let m = gathering_more g l in
-                let past_is = within_end m.rest m.nodes k in
-                rw past_is.1
-                (gathering_operator g l o.arity (role_operator os m.head o.arity (o.role os m.head (f.tells t' h.changed) m.node)) past_is.0 c (is ∙ past_is.1));
+                let past = having m.rest m.nodes in
+                rw past.1
+                (gathering_operator g l o.arity (role_operator os m.head o.arity (o.is os m.head (f.tells t' h.changed) m.node)) past.0 c (is ∙ past.1));
           }
 
-      -- it is behind the row
-      pub held_forward : p ≤ end → r < p
-      held_forward k =
+      -- the row is behind it, and not behind the list
+      pub held_forward : (r < p) × (p ≤ end)
+      held_forward =
           let m = held_more in
-          let past_is = within_end m.rest m.nodes k in
-          omega (arith, m.forward, past_is.1, beyond_order s t' o.arity (next t' r) end m.rest m.nodes past_is.0)
+          let past = having m.rest m.nodes in
+          let inside = written_order s t' _ end _ (beyond_written s t' o.arity (next t' r) end m.rest m.nodes past.0) in
+          (omega (arith, m.forward, past.1, beyond_order s t' o.arity (next t' r) end m.rest m.nodes past.0), omega (arith, inside, past.1))

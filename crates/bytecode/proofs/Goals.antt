@@ -13,6 +13,7 @@ use Rattle.spec.specs.Bytecode.{prefix*, is_name, Operator, if_operator, ill_for
 use Rattle.spec.proofs.Made.{keep, each_row}
 use Rattle.spec.proofs.Flat.{Role, operator, operand, role, by_operand, by_operator, operator_leaf, none_listed, without, foremost, others, first_part_written, gathered_cons, short_operands, refusal, outcome_refused, outcome_fine, transform_star, arity_list, star_ill_formed}
 use Rattle.laws.proofs.Basics.{both_false}
+use Rattle.atoms.specs.declared.refusal.Reason.TheVariants.{WrongBytecode}
 use Rattle.rows.specs.Rows.{kind, mark, link, next, WrittenAt, WrittenAll, is_made, behind, form_at, Opens, led_by_reference, Unmarked, NodeAt, NodesAt, OutcomeAt}
 use Rattle.rows.proofs.Nodes.{written_order, written_row}
 use Rattle.bytecode.specs.Numbers.{Changed}
@@ -20,13 +21,13 @@ use Rattle.bytecode.specs.Gathered.{beyond, lacks, GatheredAt}
 use Rattle.bytecode.specs.Frames.{Mode, plain, flat, is_flat, operators_in, expressions, Frame, Goal, Holds, going_on, inside}
 use Rattle.bytecode.proofs.Changing.{written_all_kept}
 use Rattle.bytecode.proofs.Links.{short_lacks, beyond_kept, beyond_written, beyond_changed}
-use Rattle.bytecode.proofs.Flattening.{clash, NoBytecode, transform_plain, head_kept, Flattens, flat_from, LedPlainly, named_head, flattens_to, outcome_asked}
+use Rattle.bytecode.proofs.Flattening.{NoBytecode, transform_plain, head_kept, refusal_reason, Flattens, flat_from, LedPlainly, named_head, flattens_to, outcome_asked}
 
 -- An element of a list that is not flat is as it would be in one that is, where it is no operator
 
 module _ (s t : List ℕ) (r : ℕ) where
   opens_in : false ≡ is_made t true r → Opens s t true r → Opens s t false r
-  opens_in p o = record { by_row = λ z. o.by_row (sym p); by_operator = λ z. clash z }
+  opens_in p o = record { by_row = λ z. o.by_row (sym p); by_operator = λ z. absurd (cc z) }
 
   node_in : (b : Bool) → is_made t b r ≡ is_made t true r → (e : Node) → NodeAt s t true r e → NodeAt s t b r e
   unfolding NodeAt
@@ -60,7 +61,7 @@ none_left (flat os) around = refl
 
 pub goal_done : (s t : List ℕ) (f : Frame) → f.elements ≡ empty → f.first ≡ f.end → Goal s t f
 unfolding NodeAt
-goal_done s t f q h = record { unmarked = λ b. rw q (λ l. clash l); nodes = rw (q, none_left f.mode f.around) h }
+goal_done s t f q h = record { unmarked = λ b. rw q (λ l. absurd (cc l)); nodes = rw (q, none_left f.mode f.around) h }
 
 -- The first expression of a list
 
@@ -162,7 +163,7 @@ module _ (s t : List ℕ) (f : Frame) (e : Node) (es : Nodes) (here : FirstAt s 
       let w : WrittenAt s t f.first (branch q gs) = rw i at here.written.2 in
       record {
         row_is = w.0;
-        opens = record { by_row = λ z. w.1; by_operator = λ z. clash (sym o.0 ∙ z) };
+        opens = record { by_row = λ z. w.1; by_operator = λ z. absurd (cc (sym o.0 ∙ z)) };
         written = rw o.0 w.2;
         ends = rw o.0;
         left = rw (o.0, o.2) here.written.3;
@@ -177,7 +178,7 @@ module _ (s t : List ℕ) (f : Frame) (e : Node) (es : Nodes) (here : FirstAt s 
       record {
         row_is = ap row (sym i) ∙ written_row s t f.first e here.written.2;
         opens = record {
-          by_row = λ z. clash (sym z ∙ o.made);
+          by_row = λ z. absurd (cc (sym z ∙ o.made));
           by_operator = λ z. record { marker = l.1; name = l.2; leaf_at = w.1 };
         };
         written = rw (o.made, sym (ap elements i)) o.operands;
@@ -199,8 +200,8 @@ module _ (s t : List ℕ) (f : Frame) (e : Node) (es : Nodes) (here : FirstAt s 
       go : (m : Mode) → foremost (operators_in m) e es ≡ branch q gs → is_flat m ≡ false → Unmarked t f.first (cons e es)
       go plain h b l =
           let i : e ≡ branch q gs = sym (by_operand [] e (λ n. branch (row e) (cons e (keep n es))) e (none_listed e)) ∙ h in
-          clash (rw i at l)
-      go (flat os) h b l = clash (sym b)
+          absurd (cc (rw i at l))
+      go (flat os) h b l = absurd (cc (sym b))
 
   -- Goals
 
@@ -225,9 +226,9 @@ module _ (s t : List ℕ) (f : Frame) (e : Node) (es : Nodes) (here : FirstAt s 
       goal_cons (λ b l. m (reference_kind a w.1.row.kind_is (rw i at l))) (rw (o.1, i) node) (rw (o.0, w.1.on, o.2) rest)
     where
       reference_kind : (a : Atom) → kind t f.first ≡ atom_kind a → led_by_reference (cons (leaf q a) es) ≡ true → kind t f.first ≡ 4
-      reference_kind nil z l = clash l
-      reference_kind (array bs) z l = clash l
-      reference_kind (int v) z l = clash l
+      reference_kind nil z l = absurd (cc l)
+      reference_kind (array bs) z l = absurd (cc l)
+      reference_kind (int v) z l = absurd (cc l)
       reference_kind (ref m n) z l = z
 
   -- a written form that is no bytecode
@@ -273,7 +274,7 @@ module _ (s t : List ℕ) (f : Frame) (e : Node) (es : Nodes) (here : FirstAt s 
     unfolding NodeAt word among
     goal_ill_formed p a m =
         goal_bytecode (fails 22) (named_head prefix* refl h gs p)
-        (transform_star f.first h gs f.around p ∙ ap (bytecode f.first (cons h gs)) (star_ill_formed f.first f.around gs a)) (m, omega arith)
+        (transform_star f.first h gs f.around p ∙ ap (bytecode f.first (cons h gs)) (star_ill_formed f.first f.around gs a)) (m, omega arith, (WrongBytecode, refl))
 
     module _ (k : ℕ) (os' : List Operator) (around : Around) (flats : Nodes) (flattens : Flattens f.around h gs k os' around flats) where
       -- one that is refused
@@ -282,7 +283,8 @@ module _ (s t : List ℕ) (f : Frame) (e : Node) (es : Nodes) (here : FirstAt s 
       goal_refused w z m =
           let to = flattens_to f.first f.around h flattens in
           let refused = outcome_refused f.first os' around flats w z in
-          goal_bytecode (fails (suc w)) to.0 (to.1 ∙ ap (bytecode f.first (cons h gs)) refused.0) (m, omega (arith, refused.1))
+          goal_bytecode (fails (suc w)) to.0 (to.1 ∙ ap (bytecode f.first (cons h gs)) refused.0)
+          (m, omega (arith, refused.1), refusal_reason f.first os' flats w z)
 
       -- one that is fine
       pub goal_fine : (list : ℕ) → refusal f.first os' flats ≡ 0 → mark t (form_at t true f.first).first ≡ k

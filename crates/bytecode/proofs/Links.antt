@@ -1,11 +1,12 @@
 -- Laws of what is linked: the row behind so many expressions, the operands of an operator, and the pieces that a flat list is gathered to.
 -- Document 02, §1: "then as many next expressions as its arity". Assumes nothing.
-use Prim.Native.Nat.{ℕ, zero, suc, ◌+◌, ◌-◌, ◌*◌, ◌≤◌, ◌<◌}
+use Prim.Native.Nat.{ℕ, zero, suc, ◌+◌, ◌*◌, ◌≤◌, ◌<◌}
 use mathlib.Core.Path.{◌≡◌, refl, sym, ap, ◌∙◌}
 use mathlib.Core.List.{List}
 use mathlib.Core.Bool.{true, false, ◌||◌}
 use native.Mathlib.Decide.{ℕ_discrete, dec_lt}
 use native.Mathlib.Omega.{arith}
+use Rattle.std.specs.Prelude.{Some, None}
 use lib.ListN.{length}
 use Rattle.spec.specs.Expr.{when◌then◌else◌}
 use Rattle.spec.specs.Reading.{row_width}
@@ -13,14 +14,12 @@ use Rattle.spec.specs.Nodes.{Node, leaf, branch, bytecode, Nodes, empty, cons}
 use Rattle.spec.specs.Bytecode.{Operator, if_operator, short}
 use Rattle.spec.proofs.Made.{keep}
 use Rattle.spec.proofs.Flat.{Role, operator, operand, role, by_role, by_its_role, by_operand, by_operator, without}
-use Rattle.laws.proofs.Basics.{impossible}
 use Rattle.rows.specs.Rows.{kind, next, link, ReferenceAt, WrittenAt, WrittenAll}
 use Rattle.rows.proofs.Nodes.{MoreWritten, written_done, written_more}
 use Rattle.rows.proofs.Parts.{written_reference}
 use Rattle.rows.proofs.Written.{written_each}
 use Rattle.bytecode.specs.Numbers.{Same, Changed, Unlinked}
 use Rattle.bytecode.specs.Gathered.{beyond, lacks, GatheredAt}
-use Rattle.bytecode.specs.declared.arities.Role.TheVariants.{Operator as As, Operand}
 use Rattle.bytecode.proofs.Changing.{same_elsewhere}
 
 -- Rows
@@ -45,21 +44,6 @@ module _ (s t : List ℕ) where
 
 -- So many expressions
 
-lacks_next : (n : ℕ) (e : Node) (es : Nodes) → 0 < n → lacks (n - 1) es ≡ lacks n (cons e es)
-unfolding lacks
-lacks_next zero e es h = absurd (omega arith)
-lacks_next (suc n) e es h = let one : suc n - 1 ≡ n = omega arith in rw one
-
-lacks_none : (n : ℕ) → 0 < n → lacks n empty ≡ true
-unfolding lacks
-lacks_none zero h = absurd (omega arith)
-lacks_none (suc n) h = refl
-
-beyond_next : (t : List ℕ) (n r : ℕ) → 0 < n → beyond t (n - 1) (next t r) ≡ beyond t n r
-unfolding beyond
-beyond_next t zero r h = absurd (omega arith)
-beyond_next t (suc n) r h = let one : suc n - 1 ≡ n = omega arith in rw one
-
 -- what is left of n expressions, from a row on
 pub record Passed (s t : List ℕ) (first end n : ℕ) (es : Nodes) (r left : ℕ) : Type 0 where
   pub rest : Nodes
@@ -71,46 +55,43 @@ module _ {s t : List ℕ} {first end n : ℕ} {es : Nodes} where
   pub passed_none : WrittenAll s t first end es → Passed s t first end n es first n
   passed_none h = record { rest = es; written = h; lacking = refl; behind = refl }
 
-  module _ {r left : ℕ} (p : Passed s t first end n es r left) where
-    pub passed_all : left ≤ 0 → r ≡ (when lacks n es then end + 1 else beyond t n first)
-    unfolding lacks beyond
-    passed_all l = let z : left ≡ 0 = omega arith in rw (← p.lacking, ← p.behind, z)
+  pub passed_all : {r : ℕ} → Passed s t first end n es r 0 → Some r ≡ (when lacks n es then None else Some (beyond t n first))
+  unfolding lacks beyond
+  passed_all p = rw (← p.lacking, ← p.behind)
 
-    pub passed_few : 0 < left → end ≤ r → end + 1 ≡ (when lacks n es then end + 1 else beyond t n first)
-    passed_few l g =
-        let none : lacks n es ≡ true = sym p.lacking ∙ ap (lacks left) (written_done s t r end p.rest p.written g) ∙ lacks_none left l in
+  module _ {r left : ℕ} (p : Passed s t first end n es r (suc left)) where
+    pub passed_few : end ≤ r → None ≡ (when lacks n es then None else Some (beyond t n first))
+    unfolding lacks
+    passed_few g =
+        let none : lacks n es ≡ true = sym p.lacking ∙ ap (lacks (suc left)) (written_done s t r end p.rest p.written g) in
         rw none
 
     pub passed_more : r < end → MoreWritten s t r end p.rest
     passed_more g = written_more s t r end p.rest p.written g
 
-    pub passed_next : 0 < left → r < end → Passed s t first end n es (next t r) (left - 1)
-    passed_next l g =
+    pub passed_next : r < end → Passed s t first end n es (next t r) left
+    unfolding lacks beyond
+    passed_next g =
         let m = passed_more g in
-        record {
-          rest = m.rest;
-          written = m.nodes;
-          lacking = lacks_next left m.head m.rest l ∙ ap (lacks left) (sym m.is) ∙ p.lacking;
-          behind = beyond_next t left r l ∙ p.behind;
-        }
+        record { rest = m.rest; written = m.nodes; lacking = ap (lacks (suc left)) (sym m.is) ∙ p.lacking; behind = p.behind }
 
 -- Operators
 
--- the role that the code finds
+-- by the arity that the code finds
 module _ (os : List Operator) (e : Node) where
-  pub role_operand : Operand ≡ if_operator os e (λ n. As n) Operand → role os e ≡ operand
-  role_operand h = go (role os e) (h ∙ by_its_role os e (λ n. As n) Operand)
+  pub role_operand : None ≡ if_operator os e (λ n. Some n) None → role os e ≡ operand
+  role_operand h = go (role os e) (h ∙ by_its_role os e (λ n. Some n) None)
     where
-      go : (x : Role) → Operand ≡ by_role (λ n. As n) Operand x → x ≡ operand
-      go (operator n) q = impossible (cc)
+      go : (x : Role) → None ≡ by_role (λ n. Some n) None x → x ≡ operand
+      go (operator n) q = absurd (cc)
       go operand q = refl
 
-  pub role_operator : (n : ℕ) → As n ≡ if_operator os e (λ n. As n) Operand → role os e ≡ operator n
-  role_operator n h = go (role os e) (h ∙ by_its_role os e (λ n. As n) Operand)
+  pub role_operator : (n : ℕ) → Some n ≡ if_operator os e (λ n. Some n) None → role os e ≡ operator n
+  role_operator n h = go (role os e) (h ∙ by_its_role os e (λ n. Some n) None)
     where
-      go : (x : Role) → As n ≡ by_role (λ n. As n) Operand x → x ≡ operator n
+      go : (x : Role) → Some n ≡ by_role (λ n. Some n) None x → x ≡ operator n
       go (operator k) q = let same : n ≡ k = cc in rw same
-      go operand q = impossible (cc)
+      go operand q = absurd (cc)
 
 -- what is short of operands
 pub short_lacks : (os : List Operator) (n : ℕ) (es : Nodes) → short os n es ≡ lacks n es || short os 0 (without n es)
@@ -125,19 +106,19 @@ module _ (s t : List ℕ) where
   pub beyond_written : (n r end : ℕ) (es : Nodes) → WrittenAll s t r end es → lacks n es ≡ false → WrittenAll s t (beyond t n r) end (without n es)
   unfolding beyond lacks without WrittenAt
   beyond_written zero r end es h l = h
-  beyond_written (suc n) r end empty h l = impossible (cc)
+  beyond_written (suc n) r end empty h l = absurd (cc)
   beyond_written (suc n) r end (cons e es) h l = beyond_written n (next t r) end es h.3 l
 
   pub beyond_order : (n r end : ℕ) (es : Nodes) → WrittenAll s t r end es → lacks n es ≡ false → r ≤ beyond t n r
   unfolding beyond lacks WrittenAt
   beyond_order zero r end es h l = omega arith
-  beyond_order (suc n) r end empty h l = impossible (cc)
+  beyond_order (suc n) r end empty h l = absurd (cc)
   beyond_order (suc n) r end (cons e es) h l = omega (arith, h.0, beyond_order n (next t r) end es h.3 l)
 
   pub beyond_kept : (n r end : ℕ) (es : Nodes) → WrittenAll s t r end es → lacks n es ≡ false → WrittenAll s t r (beyond t n r) (keep n es)
   unfolding beyond lacks keep WrittenAt
   beyond_kept zero r end es h l = refl
-  beyond_kept (suc n) r end empty h l = impossible (cc)
+  beyond_kept (suc n) r end empty h l = absurd (cc)
   beyond_kept (suc n) r end (cons e es) h l =
       (h.0, beyond_order n (next t r) end es h.3 l, h.2, beyond_kept n (next t r) end es h.3 l)
 
@@ -146,7 +127,7 @@ module _ (s t : List ℕ) where
       → GatheredAt t os 0 (beyond t n r) (without n es) → GatheredAt t os n r es
   unfolding beyond lacks without GatheredAt WrittenAt
   gathered_operands os zero r end es h l u g = g
-  gathered_operands os (suc n) r end empty h l u g = impossible (cc)
+  gathered_operands os (suc n) r end empty h l u g = absurd (cc)
   gathered_operands os (suc n) r end (cons e es) h l u g =
       let order = beyond_order n (next t r) end es h.3 l in (
         λ q i j. u q i (omega arith),
@@ -157,7 +138,7 @@ module _ (s t : List ℕ) where
       → Unlinked t r (beyond t n r) × GatheredAt t os 0 (beyond t n r) (without n es)
   unfolding beyond lacks without GatheredAt WrittenAt
   operands_gathered os zero r end es h l g = ((λ q i j. absurd (omega arith)), g)
-  operands_gathered os (suc n) r end empty h l g = impossible (cc)
+  operands_gathered os (suc n) r end empty h l g = absurd (cc)
   operands_gathered os (suc n) r end (cons e es) h l g =
       let rest = operands_gathered os n (next t r) end es h.3 l g.1 in
       (λ q i j. elim (dec_lt q (next t r)) [ yes k ↦ g.0 q i k | no k ↦ rest.0 q (omega arith) j ], rest.1)

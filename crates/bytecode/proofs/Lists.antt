@@ -1,13 +1,12 @@
 -- Laws of the arity lists around a row: `AroundAt`, `Descends`, `Nearest`. Assumes nothing.
-use Prim.Native.Nat.{ℕ, ◌+◌, ◌-◌, ◌*◌, ◌≤◌, ◌<◌}
+use Prim.Native.Nat.{ℕ, ◌-◌, ◌≤◌, ◌<◌}
 use mathlib.Core.Path.{◌≡◌, refl, ◌∙◌}
 use mathlib.Core.List.{List, [], ◌∷◌}
 use native.Mathlib.Decide.{dec_lt}
 use native.Mathlib.Omega.{arith}
 use lib.ListN.{length}
-use Rattle.spec.specs.Reading.{row_width}
 use Rattle.spec.specs.Bytecode.{Operator, Around}
-use Rattle.rows.specs.Rows.{link, next}
+use Rattle.rows.specs.Rows.{RowInside, link, next}
 use Rattle.bytecode.specs.Numbers.{Changed, Unlisted, Aside}
 use Rattle.bytecode.specs.Named.{Nested, outermost, inside, Arounds, Switchable, leaving}
 use Rattle.bytecode.specs.Scanned.{Descends, here, up, AroundAt, Nearest}
@@ -134,7 +133,7 @@ module _ {s t t' : List ℕ} {row list on : ℕ} {around : Around} (a : AroundAt
     lists = rw near.2 at r.arounds.arounds
 
     -- its row is in the table
-    pub reached_inside : row_width * on + row_width ≤ length t'
+    pub reached_inside : RowInside t' on
     reached_inside = let e = (nested_inner lists.nested).entered in omega (arith, e.inside, e.begins)
 
     pub reached_switchable : Switchable s t' on

@@ -1,5 +1,5 @@
 -- Laws of the trees of references: what a search finds, one more reference, and what an arity list names. Assumes nothing.
-use Prim.Native.Nat.{ℕ, zero, suc, ◌/◌, ◌%◌, ◌+◌, ◌-◌, ◌*◌, ◌≤◌, ◌<◌}
+use Prim.Native.Nat.{ℕ, zero, suc, ◌/◌, ◌%◌, ◌+◌, ◌-◌, ◌≤◌, ◌<◌}
 use mathlib.Core.Path.{◌≡◌, refl, sym, ap, ap₂, ◌∙◌}
 use mathlib.Core.List.{List, [], ◌∷◌, ◌++◌}
 use lib.ListN.{length}
@@ -7,17 +7,16 @@ use lib.Dec.{eqb}
 use borrow.Author.Tests.{eq-eqb, ne_eqb, le-ltb}
 use native.Mathlib.Decide.{ℕ_discrete, dec_lt}
 use native.Mathlib.Omega.{arith}
+use Rattle.std.specs.Prelude.{Result, Ok, Err, Some, None}
+use Rattle.std.specs.Result.{result_ok, result_unwrap_or}
 use Rattle.spec.specs.Expr.{when◌then◌else◌, ref}
-use Rattle.spec.specs.Reading.{row_width}
 use Rattle.spec.specs.Bytecode.{Operator}
-use Rattle.rows.specs.Rows.{kind, mark, link, next, LeafAt, ReferenceAt, key_of}
+use Rattle.rows.specs.Rows.{RowInside, kind, mark, link, next, LeafAt, ReferenceAt, key_of}
 use Rattle.bytecode.specs.Numbers.{child, Same, Changed}
-use Rattle.bytecode.specs.Named.{role_of, role_by, role_at, KeyAt, MemberAt, Finds, nothing, here, onward, Tree, Lists, Way, begin, pass, Sought, taken, vacant}
-use Rattle.bytecode.specs.declared.tree.Place.{Place}
-use Rattle.bytecode.specs.declared.tree.Place.TheVariants.{Taken, Vacant}
-use Rattle.bytecode.specs.declared.arities.Role.TheVariants.{Operator as As}
+use Rattle.bytecode.specs.Named.{arity_of, arity_by, arity_at, KeyAt, MemberAt, Finds, nothing, here, onward, Tree, Lists, Way, begin, pass, Sought, taken, vacant}
+use Rattle.bytecode.specs.declared.tree.Vacancy.{Vacancy}
 use Rattle.bytecode.proofs.Changing.{leaf_kept, changed_wider, changed_back, changed_then, same_elsewhere, same_mark, same_child}
-use Rattle.bytecode.proofs.Roles.{role_added, role_others}
+use Rattle.bytecode.proofs.Roles.{arity_added, arity_others}
 
 -- KeyAt
 
@@ -37,18 +36,18 @@ key_kept {s} c x = record {
   is = λ m n l. x.is m n (leaf_kept s (changed_back c) l);
 }
 
--- role-at
+-- arity-at
 
-pub role_some : (t : List ℕ) (r : ℕ) → 0 < r → role_at t r ≡ role_by (mark t r)
-role_some t r h = rw (ne_eqb r 0 (λ e. omega arith))
+pub arity_some : (t : List ℕ) (r : ℕ) → 0 < r → arity_at t r ≡ arity_by (mark t r)
+arity_some t r h = rw (ne_eqb r 0 (λ e. omega arith))
 
-pub role_operator : (t : List ℕ) (r : ℕ) → 0 < r → 64 ≤ mark t r → role_at t r ≡ As (mark t r - 64)
-role_operator t r h g = rw (ne_eqb r 0 (λ e. omega arith), le-ltb (mark t r) 64 g)
+pub arity_operator : (t : List ℕ) (r : ℕ) → 0 < r → 64 ≤ mark t r → arity_at t r ≡ Some (mark t r - 64)
+arity_operator t r h g = rw (ne_eqb r 0 (λ e. omega arith), le-ltb (mark t r) 64 g)
 
-pub role_at_same : (t t' : List ℕ) (r : ℕ) → (0 < r → mark t' r ≡ mark t r) → role_at t' r ≡ role_at t r
-role_at_same t t' r h = elim (ℕ_discrete r 0) [
+pub arity_at_same : (t t' : List ℕ) (r : ℕ) → (0 < r → mark t' r ≡ mark t r) → arity_at t' r ≡ arity_at t r
+arity_at_same t t' r h = elim (ℕ_discrete r 0) [
   | yes e ↦ rw (eq-eqb r 0 e)
-  | no n ↦ let some : 0 < r = omega arith in rw (ne_eqb r 0 n) (ap role_by (h some))
+  | no n ↦ let some : 0 < r = omega arith in rw (ne_eqb r 0 n) (ap arity_by (h some))
 ]
 
 -- MemberAt
@@ -101,7 +100,7 @@ module _ {s t : List ℕ} {tree to : ℕ} {node : ℕ → ℕ} (whole : Tree s t
   way_finds begin = whole.finds key
   way_finds (pass w l x d) = finds_onward (way_finds w) l x d
 
-  way_inside : {bits last bit : ℕ} → Way s t tree key bits last bit → (tree ≤ last) × (last < to) × (row_width * last + row_width ≤ length t) × (bit < 2)
+  way_inside : {bits last bit : ℕ} → Way s t tree key bits last bit → (tree ≤ last) × (last < to) × RowInside t last × (bit < 2)
   way_inside begin = (omega arith, whole.begins, whole.inside, omega arith)
   way_inside (pass w l x d) =
       let m = (finds_row (way_finds w) l).1 in
@@ -127,24 +126,29 @@ way_onward w e n x d = rw e at (pass w (omega (arith, e)) (rw (← e) at x) d)
 
 -- Sought
 
--- the row that is found, by the place where the search ends
-abbrev pub found_at : Place → ℕ
-found_at (Taken row) = row
-found_at (Vacant last bit) = 0
-
-pub sought_some : {s t : List ℕ} {tree key row : ℕ} → Sought s t tree key (Taken row) → 0 < row
+pub sought_some : {s t : List ℕ} {tree key row : ℕ} → Sought s t tree key (Ok row) → 0 < row
 sought_some (taken w e l x) = l
 
-pub sought_taken : {s t : List ℕ} {tree key row : ℕ} → Sought s t tree key (Taken row) → KeyAt s t row key
+pub sought_taken : {s t : List ℕ} {tree key row : ℕ} → Sought s t tree key (Ok row) → KeyAt s t row key
 sought_taken (taken w e l x) = x
 
+-- a search that has found a row
+pub sought_ok : {s t : List ℕ} {tree key row : ℕ} {p : Result ℕ Vacancy} → Sought s t tree key p → result_ok p ≡ Some row → Sought s t tree key (Ok row)
+sought_ok {row = row} (taken {row = found} w e l x) h = let same : found ≡ row = cc in rw same at (taken w e l x)
+sought_ok (vacant w e) h = absurd (cc)
+
 module _ {s t : List ℕ} {tree to key : ℕ} {node : ℕ → ℕ} (whole : Tree s t tree to node) where
-  pub sought_found : {p : Place} → Sought s t tree key p → node key ≡ found_at p
+  -- the row that is found, 0 for none
+  pub sought_found : {p : Result ℕ Vacancy} → Sought s t tree key p → node key ≡ result_unwrap_or p 0
   sought_found (taken w e l x) = finds_here (rw e at (way_finds whole w)) l x
   sought_found (vacant w e) = finds_nothing (way_finds whole w) e
 
-  pub sought_vacant : {last bit : ℕ} → Sought s t tree key (Vacant last bit)
-      → (tree ≤ last) × (last < to) × (row_width * last + row_width ≤ length t) × (bit < 2)
+  pub sought_none : {p : Result ℕ Vacancy} → Sought s t tree key p → result_ok p ≡ None → node key ≡ 0
+  sought_none (taken w e l x) h = absurd (cc)
+  sought_none (vacant w e) h = finds_nothing (way_finds whole w) e
+
+  pub sought_vacant : {last bit : ℕ} → Sought s t tree key (Err (record { row = last; bit = bit }))
+      → (tree ≤ last) × (last < to) × RowInside t last × (bit < 2)
   sought_vacant (vacant w e) = way_inside whole w
 
 -- One more reference
@@ -152,7 +156,7 @@ module _ {s t : List ℕ} {tree to key : ℕ} {node : ℕ → ℕ} (whole : Tree
 -- a reference at a row, with its key, is put below the last row of a search
 pub record Hung (s t t' : List ℕ) (tree row key last bit : ℕ) : Type 0 where
   pub new : KeyAt s t row key
-  pub sought : Sought s t tree key (Vacant last bit)
+  pub sought : Sought s t tree key (Err (record { row = last; bit = bit }))
   pub changed : Changed t t' 0 (length t)
   pub joined : child t' bit last ≡ row
   pub alone : (b : ℕ) → b < 2 → child t' b row ≡ 0
@@ -161,7 +165,7 @@ pub record Hung (s t t' : List ℕ) (tree row key last bit : ℕ) : Type 0 where
   pub marks : (q : ℕ) → (q ≡ row → ⊥) → mark t' q ≡ mark t q
 
 -- its mark is put at its row, and its row at the last
-pub hang : {s t u t' : List ℕ} {tree row key m last bit : ℕ} → KeyAt s t row key → (link t row ≡ 0) × (child t 1 row ≡ 0) → Sought s t tree key (Vacant last bit)
+pub hang : {s t u t' : List ℕ} {tree row key m last bit : ℕ} → KeyAt s t row key → (link t row ≡ 0) × (child t 1 row ≡ 0) → Sought s t tree key (Err (record { row = last; bit = bit }))
     → last < row → 63 ≤ m
     → Changed t u row (row + 1) × (mark u row ≡ m) × (link u row ≡ link t row) × (child u 1 row ≡ child t 1 row)
     → Changed u t' last (last + 1) × (child t' bit last ≡ row) × (mark t' last ≡ mark u last)
@@ -216,7 +220,7 @@ module _ {s t t' : List ℕ} {tree to row key last bit : ℕ} {node : ℕ → �
   free : child t bit last ≡ 0
   free = go h.sought
     where
-      go : {b l : ℕ} → Sought s t tree key (Vacant l b) → child t b l ≡ 0
+      go : {b l : ℕ} → Sought s t tree key (Err (record { row = l; bit = b })) → child t b l ≡ 0
       go (vacant w e) = e
 
   -- a row that was there before is still reached
@@ -266,7 +270,7 @@ module _ {s t t' : List ℕ} {tree to row key last bit : ℕ} {node : ℕ → �
       go : (k : ℕ) → Dec (k ≡ key) → Finds s t' (row + 1) k k tree (child t' 1 tree) (adding node key row k)
       go k (yes z) = rw (z, adding_new node key row) (found h.sought)
         where
-          found : Sought s t tree key (Vacant last bit) → Finds s t' (row + 1) key key tree (child t' 1 tree) row
+          found : Sought s t tree key (Err (record { row = last; bit = bit })) → Finds s t' (row + 1) key key tree (child t' 1 tree) row
           found (vacant w e) =
               way_back w (rw h.joined (here (record { key = key_kept h.changed h.new; behind = below; before = omega arith; marked = h.marked })))
       go k (no z) = rw (adding_others node key row k z) (finds_still z (omega (arith, whole.begins)) (whole.finds k) 1 (omega arith) refl)
@@ -303,7 +307,7 @@ pub lists_joined : {s t t' : List ℕ} {list row key last bit : ℕ} {os : List 
 lists_joined {s} {t} {t'} {list} {row} {key} {last} {bit} {os} o h marked lists e small within = record {
   node = adding lists.node key row;
   tree = tree_hung h lists.tree (omega arith);
-  roles = λ k. role k (ℕ_discrete k key);
+  roles = λ k. arity_now k (ℕ_discrete k key);
   own = λ r k i j x. own r k i (ℕ_discrete r row) j x;
   low = lists.low;
   ends = omega (arith, (h.changed.same_rows list).same_next);
@@ -315,13 +319,13 @@ lists_joined {s} {t} {t'} {list} {row} {key} {last} {bit} {os} o h marked lists 
     some : 0 < row
     some = omega (arith, lists.tree.begins)
 
-    role : (k : ℕ) → Dec (k ≡ key) → role_of (os ++ (o ∷ [])) k ≡ role_at t' (adding lists.node key row k)
-    role k (yes z) =
+    arity_now : (k : ℕ) → Dec (k ≡ key) → arity_of (os ++ (o ∷ [])) k ≡ arity_at t' (adding lists.node key row k)
+    arity_now k (yes z) =
         let arity : mark t' row - 64 ≡ o.arity = omega (arith, marked) in
-        rw (z, adding_new lists.node key row, role_added o key small os e (lists.roles key ∙ rw none), role_operator t' row some (omega (arith, marked)), arity)
-    role k (no z) =
-        rw (adding_others lists.node key row k z, role_others o k small os (λ y. z (sym y ∙ e)))
-        (lists.roles k ∙ sym (role_at_same t t' (lists.node k) (λ l. h.marks (lists.node k) (λ g. omega (arith, (tree_found lists.tree k l).before)))))
+        rw (z, adding_new lists.node key row, arity_added o key small os e (lists.roles key ∙ rw none), arity_operator t' row some (omega (arith, marked)), arity)
+    arity_now k (no z) =
+        rw (adding_others lists.node key row k z, arity_others o k small os (λ y. z (sym y ∙ e)))
+        (lists.roles k ∙ sym (arity_at_same t t' (lists.node k) (λ l. h.marks (lists.node k) (λ g. omega (arith, (tree_found lists.tree k l).before)))))
 
     own : (r k : ℕ) → list < r → Dec (r ≡ row) → r < row + 1 → KeyAt s t' r k → (adding lists.node key row k ≡ r) × (64 ≤ mark t' r)
     own r k i (yes z) j x =
@@ -339,7 +343,7 @@ pub lists_kept : {s t t' : List ℕ} {a b list to : ℕ} {os : List Operator} (c
 lists_kept {s} {t} {t'} {list = list} {to = to} c same e l = record {
   node = l.node;
   tree = tree_kept c to (omega arith) (λ d r i j k. same_child (same r j k) d i) (λ r i j m. rw (same_mark (same r i j)) m) e l.tree;
-  roles = λ k. l.roles k ∙ sym (role_at_same t t' (l.node k) (λ i. let m = tree_found l.tree k i in same_mark (same (l.node k) m.behind m.before)));
+  roles = λ k. l.roles k ∙ sym (arity_at_same t t' (l.node k) (λ i. let m = tree_found l.tree k i in same_mark (same (l.node k) m.behind m.before)));
   own = λ r k i j x. let old = l.own r k i j (key_kept (changed_back c) x) in (old.0, rw (same_mark (same r i j)) old.1);
   low = l.low;
   ends = omega (arith, (c.same_rows list).same_next, l.ends);

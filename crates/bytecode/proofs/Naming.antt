@@ -5,22 +5,20 @@ use mathlib.Core.List.{List, [], ◌∷◌, ◌++◌}
 use mathlib.Core.Bool.{Bool, true, false}
 use native.Mathlib.Decide.{ℕ_discrete}
 use native.Mathlib.Omega.{arith}
+use Rattle.std.specs.Prelude.{Ok, Option, Some, None}
+use Rattle.std.specs.Option.{option_map_or}
 use Rattle.spec.specs.Expr.{nil, array, int, ref}
 use Rattle.spec.specs.Nodes.{Node, leaf, branch, bytecode, Nodes, empty, cons}
 use Rattle.spec.specs.Bytecode.{Operator, if_listed, Arities, listed, ill_formed, and_then, series, arities, operators}
-use Rattle.laws.proofs.Basics.{impossible}
 use Rattle.laws.specs.Demands.{Bytes}
-use Rattle.rows.specs.Rows.{kind, mark, next, LeafAt, WrittenAt, WrittenAll}
+use Rattle.rows.specs.Rows.{kind, mark, next, LeafAt, WrittenAt, WrittenAll, key_of}
 use Rattle.rows.proofs.Nodes.{kind_int, written_next, written_whole, leaf_kind, leaf_fits, MoreWritten, written_order, written_done, written_more, written_form, written_leaf}
 use Rattle.rows.proofs.Parts.{ReferenceNode, written_reference}
 use Rattle.bytecode.specs.Numbers.{Changed, Unlinked}
-use Rattle.bytecode.specs.Named.{role_of, KeyAt, nothing, Lists, Sought, Naming, NamedBy, ListAt}
-use Rattle.bytecode.specs.declared.tree.Place.TheVariants.{Taken}
-use Rattle.bytecode.specs.declared.arities.Role.{Role}
-use Rattle.bytecode.specs.declared.arities.Role.TheVariants.{Operator as As, Operand}
+use Rattle.bytecode.specs.Named.{arity_of, KeyAt, nothing, Lists, Sought, Naming, NamedBy, ListAt}
 use Rattle.bytecode.proofs.Changing.{written_all_kept, same_link, same_other}
-use Rattle.bytecode.proofs.Roles.{by_role, listed_role, reference_role}
-use Rattle.bytecode.proofs.Named.{role_operator, tree_found, sought_found, sought_some, Hung, lists_joined, lists_later}
+use Rattle.bytecode.proofs.Roles.{listed_arity, reference_arity}
+use Rattle.bytecode.proofs.Named.{key_read, arity_operator, tree_found, sought_found, sought_some, Hung, lists_joined, lists_later}
 
 -- Expressions that are named one after another
 
@@ -31,9 +29,9 @@ pub record Folds (all : Nodes → List Operator → Arities) : Type 0 where
 -- a reference that is not listed yet is one more
 series_reference : (n q m k : ℕ) (es : Nodes) (os : List Operator)
     → series n (cons (leaf q (ref m k)) es) os
-    ≡ by_role (λ twice. ill_formed) (series n es (os ++ (record { marker = m; name = k; arity = n } ∷ []))) (if_listed os m k (λ a. As a) Operand)
+    ≡ option_map_or (λ twice. ill_formed) (if_listed os m k (λ a. Some a) None) (series n es (os ++ (record { marker = m; name = k; arity = n } ∷ [])))
 unfolding series
-series_reference n q m k es os = listed_role os m k (λ twice. ill_formed) _
+series_reference n q m k es os = listed_arity os m k (λ twice. ill_formed) _
 
 pub series_folds : (n : ℕ) → Folds (series n)
 unfolding series
@@ -43,12 +41,12 @@ series_folds n = record { done = λ os. refl; first = first }
     first (leaf q nil) es os = refl
     first (leaf q (array bs)) es os = refl
     first (leaf q (int v)) es os = refl
-    first (leaf q (ref m k)) es os = rw (series_reference n q m k es os, series_reference n q m k empty os) (go (if_listed os m k (λ a. As a) Operand))
+    first (leaf q (ref m k)) es os = rw (series_reference n q m k es os, series_reference n q m k empty os) (go (if_listed os m k (λ a. Some a) None))
       where
-        go : (r : Role) → by_role (λ twice. ill_formed) (series n es (os ++ (record { marker = m; name = k; arity = n } ∷ []))) r
-            ≡ and_then (by_role (λ twice. ill_formed) (listed (os ++ (record { marker = m; name = k; arity = n } ∷ []))) r) (series n es)
-        go (As a) = refl
-        go Operand = refl
+        go : (r : Option ℕ) → option_map_or (λ twice. ill_formed) r (series n es (os ++ (record { marker = m; name = k; arity = n } ∷ [])))
+            ≡ and_then (option_map_or (λ twice. ill_formed) r (listed (os ++ (record { marker = m; name = k; arity = n } ∷ [])))) (series n es)
+        go (Some a) = refl
+        go None = refl
     first (branch q fs) es os = refl
     first (bytecode q fs o) es os = refl
 
@@ -81,10 +79,10 @@ then_done ill_formed = refl
 module _ (s t : List ℕ) (list to : ℕ) where
   named_true : (x : Arities) → NamedBy s t list to x true → (os : List Operator) × (x ≡ listed os) × Lists s t list to os
   named_true (listed os) n = (os, refl, n.1)
-  named_true ill_formed n = impossible (cc)
+  named_true ill_formed n = absurd (cc)
 
   named_false : (x : Arities) → NamedBy s t list to x false → x ≡ ill_formed
-  named_false (listed os) n = impossible (cc n.0)
+  named_false (listed os) n = absurd (cc n.0)
   named_false ill_formed n = refl
 
   pub ill_named : {x : Arities} → x ≡ ill_formed → NamedBy s t list to x false
@@ -182,34 +180,39 @@ pub one_reference : {s t : List ℕ} {list row : ℕ} {os : List Operator} {e : 
 unfolding WrittenAt
 one_reference {s} {t} {row = row} {e = e} n is = written_reference s t row e n.written.2 is
 
+-- its key as the code reads it
+pub one_key : {s t : List ℕ} {list row k : ℕ} {os : List Operator} {e : Node} → Naming s t list row (next t row) os (cons e empty) → kind t row ≡ 4
+    → ((m n : ℕ) → LeafAt s t row (ref m n) → k ≡ key_of m n) → KeyAt s t row k
+one_key n is read = let x = one_reference n is in key_read (record { marker = x.marker; name = x.name; leaf_at = x.here }) read
+
 module _ {s t : List ℕ} {list row key : ℕ} {os : List Operator} {e : Node} (n : Naming s t list row (next t row) os (cons e empty)) (is : kind t row ≡ 4)
     (bytes : Bytes s) (x : KeyAt s t row key) (arity : ℕ) where
   abbrev added : Operator
   added = let r = one_reference n is in record { marker = r.marker; name = r.name; arity = arity }
 
-  -- what it gives, by its role so far
-  one_gives : {r : Role} → role_of os key ≡ r → series arity (cons e empty) os ≡ by_role (λ twice. ill_formed) (listed (os ++ (added ∷ []))) r
+  -- what it gives, by its arity so far
+  one_gives : {r : Option ℕ} → arity_of os key ≡ r → series arity (cons e empty) os ≡ option_map_or (λ twice. ill_formed) r (listed (os ++ (added ∷ [])))
   unfolding series
   one_gives h =
       let r = one_reference n is in
-      let known = reference_role s t row os bytes r.here (sym (x.is r.marker r.name r.here)) in
+      let known = reference_arity s t row os bytes r.here (sym (x.is r.marker r.name r.here)) in
       ap (λ (e : Node). series arity (cons e empty) os) r.is ∙ series_reference arity row r.marker r.name empty os
-      ∙ ap (λ (y : Role). by_role (λ twice. ill_formed) (listed (os ++ (added ∷ []))) y) (sym known ∙ h)
+      ∙ ap (λ (y : Option ℕ). option_map_or (λ twice. ill_formed) y (listed (os ++ (added ∷ [])))) (sym known ∙ h)
 
-  pub one_twice : {q : ℕ} → Sought s t list key (Taken q) → NamedBy s t list (next t row) (series arity (cons e empty) os) false
+  pub one_twice : {q : ℕ} → Sought s t list key (Ok q) → NamedBy s t list (next t row) (series arity (cons e empty) os) false
   one_twice {q} w =
       let l = n.lists in
       let is : l.node key ≡ q = sought_found l.tree w in
       let some = sought_some w in
       let m = tree_found l.tree key (rw is some) in
       let own = l.own q key (omega (arith, m.behind, is)) (omega (arith, m.before, is)) (rw is at m.key) in
-      rw (one_gives {r = As (mark t q - 64)} (l.roles key ∙ rw is (role_operator t q some own.1))) refl
+      rw (one_gives {r = Some (mark t q - 64)} (l.roles key ∙ rw is (arity_operator t q some own.1))) refl
 
   pub one_named : {t' : List ℕ} {last bit : ℕ} → Hung s t t' list row key last bit → mark t' row ≡ 64 + arity
       → NamedBy s t' list (next t row) (series arity (cons e empty) os) true
   one_named h marked =
       let r = one_reference n is in
-      rw (one_gives {r = Operand} (n.lists.roles key ∙ rw (sought_found n.lists.tree h.sought)), r.here.on)
+      rw (one_gives {r = None} (n.lists.roles key ∙ rw (sought_found n.lists.tree h.sought)), r.here.on)
       (refl, lists_joined added h marked n.lists (x.is r.marker r.name r.here) (leaf_fits bytes r.here).2 (omega (arith, r.here.on, n.within)))
 
 -- what is no reference ends the list

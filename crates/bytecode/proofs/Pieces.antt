@@ -1,23 +1,22 @@
 -- Laws of pieces: the elements of a list, flat or not, as they are written or made, by the rows that code goes through. Document 02, §1.
 -- Assumes nothing.
-use Prim.Native.Nat.{ℕ, max, ◌+◌, ◌*◌, ◌≤◌, ◌<◌}
+use Prim.Native.Nat.{ℕ, max, ◌+◌, ◌≤◌, ◌<◌}
 use mathlib.Core.Path.{◌≡◌, refl, sym, ap, ◌∙◌}
 use mathlib.Core.List.{List}
 use mathlib.Core.Bool.{Bool, true, false}
-use lib.ListN.{length}
 use lib.Dec.{eqb, ltb}
 use borrow.Author.Tests.{eq-eqb, ne_eqb, lt-ltb, le-ltb}
 use native.Mathlib.Omega.{arith}
-use Rattle.spec.specs.Reading.{row_width}
 use Rattle.spec.specs.Nodes.{Node, leaf, branch, bytecode, Nodes, empty, cons, elements}
-use Rattle.spec.specs.Bytecode.{node_depth, nodes_deepest}
-use Rattle.laws.proofs.Basics.{impossible, by_test}
-use Rattle.rows.specs.Rows.{kind, next, link, WrittenAt, WrittenAll, is_made, behind, written}
-use Rattle.rows.specs.Forms.{element_at, HeadAt}
+use Rattle.spec.specs.Bytecode.{led_by_name, node_depth, nodes_deepest}
+use Rattle.laws.specs.Demands.{Bytes}
+use Rattle.laws.proofs.Basics.{by_test}
+use Rattle.rows.specs.Rows.{RowInside, kind, next, link, WrittenAt, WrittenAll, is_made, behind, written}
+use Rattle.rows.specs.Forms.{element_at, HeadAt, head_key, reserved}
 use Rattle.rows.specs.declared.forms.Form.{Form}
 use Rattle.rows.specs.declared.forms.Node.TheVariants.{Leaf, Branch}
 use Rattle.rows.proofs.Nodes.{no_form, leaf_kind, written_whole}
-use Rattle.rows.proofs.Parts.{unnamed_kind}
+use Rattle.rows.proofs.Parts.{unnamed_kind, head_reserved}
 use Rattle.bytecode.specs.Gathered.{Measured, PieceAt, as_written, as_made, PiecesAt, IsPiece, an_atom, a_form, Plain, judged}
 use Rattle.bytecode.proofs.Depths.{measured_within}
 
@@ -33,7 +32,7 @@ module _ (s t : List ℕ) where
 
   piece_written : (r : ℕ) (e : Node) → PieceAt s t false r e → WrittenAt s t r e
   piece_written r e (as_written f m h) = h
-  piece_written r (branch q es) (as_made fs m h w) = impossible (cc)
+  piece_written r (branch q es) (as_made fs m h w) = absurd (cc)
 
   pub pieces_written : (r end : ℕ) (es : Nodes) → PiecesAt s t false r end es → WrittenAll s t r end es
   unfolding WrittenAt PiecesAt
@@ -41,7 +40,7 @@ module _ (s t : List ℕ) where
   pieces_written r end (cons e es) h = (h.0, h.1, piece_written r e h.2, pieces_written (next t r) end es h.3)
 
 module _ {s t : List ℕ} {flat : Bool} {r : ℕ} where
-  pub piece_inside : {e : Node} → PieceAt s t flat r e → (row_width * r + row_width ≤ length t) × (r < 65536)
+  pub piece_inside : {e : Node} → PieceAt s t flat r e → RowInside t r × (r < 65536)
   piece_inside (as_written e m h) = written_whole s t r e h
   piece_inside (as_made es m h w) = (h.leaf_at.row.inside, h.leaf_at.row.few)
 
@@ -79,6 +78,14 @@ module _ {s t : List ℕ} where
   unfolding node_depth
   form_piece (a_form f q es h m) = record { pieces = h; measured = m; depth = omega arith }
 
+  -- a form that is no flat list has its elements written
+  module _ {f : Form} (plain : f.flat ≡ false) {e : Node} (h : IsPiece s t (Branch f) e) where
+    pub plain_written : WrittenAll s t f.first f.end (elements e)
+    plain_written = pieces_written s t f.first f.end (elements e) (rw plain at (form_piece h).pieces)
+
+    pub plain_height : (n : ℕ) → ((s : List ℕ) (es : Nodes) → WrittenAll s t f.first f.end es → Measured s t f.first f.end → n ≡ nodes_deepest es) → n + 1 ≡ node_depth e
+    plain_height n deepest = let p = form_piece h in omega (arith, p.depth, deepest s (elements e) plain_written p.measured)
+
 -- One after the other
 
 -- of pieces of which there is one more: the first, and the others
@@ -90,7 +97,7 @@ pub record MorePieces (s t : List ℕ) (flat : Bool) (r end : ℕ) (es : Nodes) 
   pub pieces : PiecesAt s t flat (behind t flat r) end rest
   pub forward : r < behind t flat r
   pub within : behind t flat r ≤ end
-  pub inside : row_width * r + row_width ≤ length t
+  pub inside : RowInside t r
   pub few : r < 65536
 
 module _ (s t : List ℕ) (flat : Bool) (r end : ℕ) where
@@ -121,6 +128,13 @@ module _ (s t : List ℕ) (f : Form) where
   unfolding PiecesAt HeadAt
   pieces_head empty h = h
   pieces_head (cons e es) h = piece_head e es h.2 (omega (arith, h.0, h.1))
+
+-- whether a function or bytecode name heads it, by the key that the code reads
+pub piece_reserved : {s t : List ℕ} {f : Form} {e : Node} {k : ℕ} → Bytes s → IsPiece s t (Branch f) e → ((es : Nodes) → HeadAt s t f es → k ≡ head_key es)
+    → reserved k ≡ led_by_name (elements e)
+piece_reserved {s} {t} {f} {e} bytes h read =
+    let head = pieces_head s t f (elements e) (form_piece h).pieces in
+    ap reserved (read (elements e) head) ∙ head_reserved s t f bytes (elements e) head
 
 -- the elements of an expression that are left from a row on, where none before is higher than 63
 pub record LeftPieces (s t : List ℕ) (flat : Bool) (first end : ℕ) (e : Node) (r : ℕ) : Type 0 where

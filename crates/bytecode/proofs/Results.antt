@@ -2,14 +2,15 @@
 use Prim.Native.Nat.{ℕ, zero, suc, ◌<◌}
 use mathlib.Core.Path.{◌≡◌, refl, sym, ap, ◌∙◌}
 use mathlib.Core.List.{List, [], ◌∷◌}
-use mathlib.Core.Bool.{true, false, not}
+use mathlib.Core.Bool.{Bool, true, false, not}
 use borrow.Author.Tests.{eq-eqb, ne_eqb, lt-ltb, le-ltb, le-leb, lt-leb}
 use native.Mathlib.Omega.{arith}
+use Rattle.spec.specs.Expr.{when◌then◌else◌}
 use Rattle.spec.specs.Nodes.{Node, branch, Nodes, empty, cons, row}
 use Rattle.spec.specs.Bytecode.{Operator, if_operator, short, Part, nodes, gathered, result_of, linked, transform, parts_of}
 use Rattle.spec.proofs.Made.{keep, result}
 use Rattle.spec.proofs.Flat.{Role, operator, operand, role, by_operand, by_operator, operator_leaf, without, foremost, first_part_written}
-use Rattle.laws.proofs.Basics.{impossible, both_false}
+use Rattle.laws.proofs.Basics.{both_false}
 use Rattle.rows.specs.Rows.{next, link, ReferenceAt, WrittenAt, WrittenAll, is_made, behind, single}
 use Rattle.rows.specs.Forms.{result_at}
 use Rattle.rows.specs.declared.forms.Form.{Form}
@@ -63,7 +64,7 @@ module _ (s t : List ℕ) (os : List Operator) where
       → PiecesAt s t true (beyond t k r) end (nodes (gathered os k (linked (parts_of es))))
   unfolding WrittenAt GatheredAt PiecesAt short beyond nodes gathered linked transform
   gathered_pieces empty zero r end h g q = h
-  gathered_pieces empty (suc k) r end h g q = impossible (cc)
+  gathered_pieces empty (suc k) r end h g q = absurd (cc)
   gathered_pieces (cons e es) zero r end h g q =
       let k : ℕ = if_operator os e (λ n. n) 0 in
       let all = (both_false (lacks k es) _ (sym (short_lacks os k es) ∙ q)).0 in
@@ -95,7 +96,15 @@ module _ (s t : List ℕ) (g : Form) (flat : g.flat ≡ true) (measured : Measur
       whole place (nodes (p ∷ o ∷ ps)) h
       (rw (lt-ltb g.first g.end (omega (arith, h.0, h.1)), lt-leb g.end (behind t true g.first) (omega (arith, h.3.0, h.3.1))))
 
--- of a flat list that is gathered without one short of operands
+-- where none is short of operands
+pub none_short : (os : List Operator) (es : Nodes) → ◌≡◌ {A = ℕ} 0 (when short os 0 es then 22 else 0) → short os 0 es ≡ false
+none_short os es = go (short os 0 es)
+  where
+    go : (b : Bool) → ◌≡◌ {A = ℕ} 0 (when b then 22 else 0) → b ≡ false
+    go true e = absurd (omega (arith, e))
+    go false e = refl
+
+-- of a flat list that is gathered
 pub flat_result : {s t t' : List ℕ} {a : Arities} {os : List Operator} {es : Nodes} (g : Form) → g.flat ≡ true → FlatAt s t a g.first g.end os es
     → Changed t t' g.first g.end → SameMarks t t' → short os 0 es ≡ false → GatheredAt t' os 0 g.first es → (place : ℕ)
     → IsPiece s t' (result_at t' g) (result place os es)

@@ -20,7 +20,7 @@ use Rattle.bytecode.specs.Scanned.{Descends, here, Nearest, AroundAt, Fresh, Fra
 use Rattle.bytecode.specs.declared.scan.Scan.{Scan}
 use Rattle.bytecode.proofs.Changing.{changed_then, aside_none, aside_changed, unlisted_kept, aside_wider, aside_then}
 use Rattle.bytecode.proofs.Lists.{some_around, descends_nested, ends_kept, descends_kept, around_low, around_later, descends_then, nearest_only}
-use Rattle.bytecode.proofs.Flattening.{refusal_small, clash, NoBytecode, Flattens, star, nested}
+use Rattle.bytecode.proofs.Flattening.{refusal_small, NoBytecode, Flattens, star, nested}
 use Rattle.bytecode.proofs.Goals.{FirstAt, first_at, goal_done, goal_leaf, goal_ill_formed, goal_refused, goal_fine}
 use Rattle.bytecode.proofs.Frames.{holds_kept, fresh_holds}
 use Rattle.bytecode.proofs.Firsts.{AtomAt, FormAt}
@@ -173,7 +173,7 @@ module _ (s t : List ℕ) (scan : Scan) (list end : ℕ) (fs : List Frame) (few 
   rest_framed r es l k = record { holds = k; low = λ z. omega arith; lasts = framed.lasts }
 
   inside_framed : (r to : ℕ) (es : Nodes) → to ≤ frame.end → Fresh s t r to es → Framed s t (inside frame r to es)
-  inside_framed r to es l k = record { holds = fresh_holds s t frame r to es k; low = λ z. clash z; lasts = λ z. omega (arith, framed.lasts z) }
+  inside_framed r to es l k = record { holds = fresh_holds s t frame r to es k; low = λ z. absurd (cc z); lasts = λ z. omega (arith, framed.lasts z) }
 
   -- Nothing is changed, and the next row comes next
 
@@ -354,7 +354,7 @@ module _ (s t : List ℕ) (scan : Scan) (list end : ℕ) (fs : List Frame) (few 
 
           go : (es : Nodes) → f.elements ≡ es → leads prefix* es ≡ true
               → Starred s t' form frame.list frame.around (tail es) (arity_list (tail es)) on → Moved s t t' scan on end fs
-          go empty e p k = clash p
+          go empty e p k = absurd (cc p)
           go (cons h empty) e p k = rw k.2 (visited_ill_formed c h empty e p refl k.0 k.1)
           go (cons h (cons a es)) e p k = by h a es e p (operators a) refl k
 
@@ -364,5 +364,5 @@ module _ (s t : List ℕ) (scan : Scan) (list end : ℕ) (fs : List Frame) (few 
         where
           go : (es : Nodes) → f.elements ≡ es → leads prefix* es ≡ false → leads prefix es ≡ true → 0 < frame.list
               → Judged s t' form frame.list 1 (all frame.around) frame.around frame.around (tail es) on → Moved s t t' scan on end fs
-          go empty e p q l k = clash q
+          go empty e p q l k = absurd (cc q)
           go (cons h gs) e p q l k = visited_judged c h gs e (nested gs p q (some_around around.arounds.nested l)) (omega arith) k

@@ -8,36 +8,33 @@ use lib.Dec.{eqb}
 use borrow.Author.Tests.{eq-eqb, ne_eqb}
 use native.Mathlib.Decide.{ℕ_discrete}
 use native.Mathlib.Omega.{arith}
+use Rattle.std.specs.Prelude.{Ok, Err, Option, Some, None}
 use Rattle.spec.specs.Expr.{when◌then◌else◌}
 use Rattle.spec.specs.Reading.{row_width}
 use Rattle.spec.specs.Bytecode.{Operator, Around, all}
-use Rattle.laws.proofs.Basics.{impossible}
 use Rattle.rows.specs.Rows.{kind, mark, link, next, ReferenceAt}
 use Rattle.bytecode.specs.Numbers.{Changed, Aside}
-use Rattle.bytecode.specs.Named.{role_of, role_by, role_at, KeyAt, MemberAt, Tree, Keeps, Entered, Nested, inside, Arounds, Entering, Switchable, entering, leaving, Exchanged, Joined, Sought, Switched, exchanged, joined}
-use Rattle.bytecode.specs.declared.tree.Place.TheVariants.{Taken, Vacant}
-use Rattle.bytecode.specs.declared.arities.Role.{Role}
-use Rattle.bytecode.specs.declared.arities.Role.TheVariants.{Operator as As, Operand}
+use Rattle.bytecode.specs.Named.{arity_of, arity_by, arity_at, KeyAt, MemberAt, Tree, Keeps, Entered, Nested, inside, Arounds, Entering, Switchable, entering, leaving, Exchanged, Joined, Sought, Switched, exchanged, joined}
 use Rattle.bytecode.proofs.Changing.{changed_none, changed_back, aside_none, aside_changed, aside_then, unlisted_kept}
-use Rattle.bytecode.proofs.Roles.{role_append}
-use Rattle.bytecode.proofs.Named.{role_some, role_operator, role_at_same, key_same, key_kind, key_kept, tree_found, tree_kept, sought_some, sought_found, adding, adding_new, adding_others, Hung, tree_hung, hung_before}
+use Rattle.bytecode.proofs.Roles.{arity_append}
+use Rattle.bytecode.proofs.Named.{arity_some, arity_operator, arity_at_same, key_same, key_kind, key_kept, tree_found, tree_kept, sought_some, sought_found, adding, adding_new, adding_others, Hung, tree_hung, hung_before}
 use Rattle.bytecode.proofs.Arounds.{reference_kept, nested_kept, nested_begins, Inner, nested_inner}
-use Rattle.bytecode.proofs.Exchanges.{exchange_aside, exchange_tree, exchange_role, exchange_steady, joined_hung, joined_aside, joined_steady}
+use Rattle.bytecode.proofs.Exchanges.{exchange_aside, exchange_tree, exchange_arity, exchange_steady, joined_hung, joined_aside, joined_steady}
 
--- Roles
+-- Arities
 
 -- inside a list that names a key, and inside one that does not
-role_inner : (os : List Operator) (around : Around) (k n : ℕ) → role_of os k ≡ As n → role_of (all (os ∷ around)) k ≡ As n
+arity_inner : (os : List Operator) (around : Around) (k n : ℕ) → arity_of os k ≡ Some n → arity_of (all (os ∷ around)) k ≡ Some n
 unfolding all
-role_inner os around k n e = role_append os (all around) k ∙ rw e
+arity_inner os around k n e = arity_append os (all around) k ∙ rw e
 
-role_outer : (os : List Operator) (around : Around) (k : ℕ) → role_of os k ≡ Operand → role_of (all (os ∷ around)) k ≡ role_of (all around) k
+arity_outer : (os : List Operator) (around : Around) (k : ℕ) → arity_of os k ≡ None → arity_of (all (os ∷ around)) k ≡ arity_of (all around) k
 unfolding all
-role_outer os around k e = role_append os (all around) k ∙ rw e
+arity_outer os around k e = arity_append os (all around) k ∙ rw e
 
-role_decides : {A : Type 0} (r : Role) → ((n : ℕ) → r ≡ As n → A) → (r ≡ Operand → A) → A
-role_decides (As n) f g = f n refl
-role_decides Operand f g = g refl
+arity_decides : {A : Type 0} (r : Option ℕ) → ((n : ℕ) → r ≡ Some n → A) → (r ≡ None → A) → A
+arity_decides (Some n) f g = f n refl
+arity_decides None f g = g refl
 
 -- Keys that are switched
 
@@ -65,7 +62,7 @@ pub record Entry (s t t' : List ℕ) (list row : ℕ) (os : List Operator) (arou
   pub node : ℕ → ℕ
   pub aside : Aside t t' (next t list) (next t list)
   pub tree : Tree s t' 0 row node
-  pub keys : (k : ℕ) → Turned s t list row k (role_of (all (os ∷ around)) k ≡ role_at t' (node k)) (role_of (all around) k ≡ role_at t' (node k))
+  pub keys : (k : ℕ) → Turned s t list row k (arity_of (all (os ∷ around)) k ≡ arity_at t' (node k)) (arity_of (all around) k ≡ arity_at t' (node k))
   pub keeps : (r k : ℕ) → list < r → r < row → KeyAt s t r k → Keeps t' node (all around) r k
   pub nested : Nested s t' node (link t list) around
   pub ahead : (r : ℕ) → row ≤ r → mark t' r ≡ mark t r
@@ -108,28 +105,28 @@ module _ {s t : List ℕ} {list : ℕ} {os : List Operator} {around : Around} (g
     high : 64 ≤ mark t' row
     high = rw (e.ahead row (omega arith)) own.1
 
-    inner : role_of (all (os ∷ around)) key ≡ role_by (mark t' row)
+    inner : arity_of (all (os ∷ around)) key ≡ arity_by (mark t' row)
     inner =
         let some : 0 < row = omega arith in
-        role_inner os around key (mark t row - 64) (g.lists.roles key ∙ ap (role_at t) own.0 ∙ role_operator t row some own.1)
-        ∙ sym (role_operator t row some own.1) ∙ role_some t row some ∙ ap role_by (sym (e.ahead row (omega arith)))
+        arity_inner os around key (mark t row - 64) (g.lists.roles key ∙ ap (arity_at t) own.0 ∙ arity_operator t row some own.1)
+        ∙ sym (arity_operator t row some own.1) ∙ arity_some t row some ∙ ap arity_by (sym (e.ahead row (omega arith)))
 
     -- no other of its references has this key
     only : (q : ℕ) → list < q → q < row → KeyAt s t q key → ⊥
     only q i j x = omega (arith, own.0, (g.lists.own q key i (omega arith) x).0)
 
-    outer : role_of (all around) key ≡ role_at t' (e.node key)
+    outer : arity_of (all around) key ≡ arity_at t' (e.node key)
     outer = go (e.keys key)
       where
-        go : Turned s t list row key (role_of (all (os ∷ around)) key ≡ role_at t' (e.node key)) (role_of (all around) key ≡ role_at t' (e.node key))
-            → role_of (all around) key ≡ role_at t' (e.node key)
+        go : Turned s t list row key (arity_of (all (os ∷ around)) key ≡ arity_at t' (e.node key)) (arity_of (all around) key ≡ arity_at t' (e.node key))
+            → arity_of (all around) key ≡ arity_at t' (e.node key)
         go (turned q i j x a) = absurd (only q i j x)
         go (still f b) = b
 
     list_ends : 0 < link t list → next t' (link t list) ≤ list
     list_ends h = rw (e.aside.same_rows (link t list)).same_next (outer_ends h)
 
-    pub entry_exchanged : {t'' : List ℕ} {first : ℕ} → Sought s t' 0 key (Taken first) → Exchanged t' t'' first row → Entry s t t'' list (row + 1) os around
+    pub entry_exchanged : {t'' : List ℕ} {first : ℕ} → Sought s t' 0 key (Ok first) → Exchanged t' t'' first row → Entry s t t'' list (row + 1) os around
     entry_exchanged {t''} {first} v x = record {
       node = e.node;
       aside = aside_then e.aside (exchange_aside x m y marked (next t list) (omega (arith, m.before)) within);
@@ -159,13 +156,13 @@ module _ {s t : List ℕ} {list : ℕ} {os : List Operator} {around : Around} (g
         row_now = rw two at x.row_is
 
         key_turned : (k : ℕ) → Dec (k ≡ key)
-            → Turned s t list (row + 1) k (role_of (all (os ∷ around)) k ≡ role_at t'' (e.node k)) (role_of (all around) k ≡ role_at t'' (e.node k))
+            → Turned s t list (row + 1) k (arity_of (all (os ∷ around)) k ≡ arity_at t'' (e.node k)) (arity_of (all around) k ≡ arity_at t'' (e.node k))
         key_turned k (yes z) =
-            let now : role_of (all (os ∷ around)) key ≡ role_at t'' (e.node key) =
-            inner ∙ ap role_by (sym first_now) ∙ sym (role_some t'' first (sought_some v)) ∙ ap (role_at t'') (sym is) in
+            let now : arity_of (all (os ∷ around)) key ≡ arity_at t'' (e.node key) =
+            inner ∙ ap arity_by (sym first_now) ∙ sym (arity_some t'' first (sought_some v)) ∙ ap (arity_at t'') (sym is) in
             rw z (turned row low (omega arith) y₀ now)
         key_turned k (no z) =
-            let same : role_at t' (e.node k) ≡ role_at t'' (e.node k) = sym (exchange_role x m y marked is e.tree k z) in
+            let same : arity_at t' (e.node k) ≡ arity_at t'' (e.node k) = sym (exchange_arity x m y marked is e.tree k z) in
             turned_other y₀ z (λ a. a ∙ same) (λ a. a ∙ same) (e.keys k)
 
         kept : (r k : ℕ) → list < r → r < row + 1 → KeyAt s t r k → Dec (r ≡ row)
@@ -176,7 +173,7 @@ module _ {s t : List ℕ} {list : ℕ} {os : List Operator} {around : Around} (g
               sought_some v,
               omega (arith, m.before),
               rw row_now m.marked,
-              outer ∙ ap (role_at t') is ∙ role_some t' first (sought_some v) ∙ ap role_by (sym row_now),
+              outer ∙ ap (arity_at t') is ∙ arity_some t' first (sought_some v) ∙ ap arity_by (sym row_now),
             )
         kept r k i j z (no w) =
             let old = e.keeps r k i (omega arith) z in
@@ -184,7 +181,7 @@ module _ {s t : List ℕ} {list : ℕ} {os : List Operator} {around : Around} (g
             x.others r (λ h. only r i (omega arith) (rw (key_same (key_kept (aside_changed e.aside) z) (rw (← h) at m.key)) at z)) w in
             rw same old
 
-    pub entry_joined : {t'' : List ℕ} {last bit : ℕ} → Sought s t' 0 key (Vacant last bit) → Joined s t' t'' row last bit → Entry s t t'' list (row + 1) os around
+    pub entry_joined : {t'' : List ℕ} {last bit : ℕ} → Sought s t' 0 key (Err (record { row = last; bit = bit })) → Joined s t' t'' row last bit → Entry s t t'' list (row + 1) os around
     entry_joined {t''} {last} {bit} v x = record {
       node = adding e.node key row;
       aside = aside_then e.aside (joined_aside x e.tree v (omega arith) y marked (next t list) within);
@@ -207,22 +204,22 @@ module _ {s t : List ℕ} {list : ℕ} {os : List Operator} {around : Around} (g
         new : adding e.node key row key ≡ row
         new = adding_new e.node key row
 
-        key_turned : (k : ℕ) → Dec (k ≡ key) → Turned s t list (row + 1) k (role_of (all (os ∷ around)) k ≡ role_at t'' (adding e.node key row k))
-            (role_of (all around) k ≡ role_at t'' (adding e.node key row k))
+        key_turned : (k : ℕ) → Dec (k ≡ key) → Turned s t list (row + 1) k (arity_of (all (os ∷ around)) k ≡ arity_at t'' (adding e.node key row k))
+            (arity_of (all around) k ≡ arity_at t'' (adding e.node key row k))
         key_turned k (yes z) =
-            let now : role_of (all (os ∷ around)) key ≡ role_at t'' (adding e.node key row key) =
-            inner ∙ ap role_by (sym (x.marks row)) ∙ sym (role_some t'' row (omega arith)) ∙ ap (role_at t'') (sym new) in
+            let now : arity_of (all (os ∷ around)) key ≡ arity_at t'' (adding e.node key row key) =
+            inner ∙ ap arity_by (sym (x.marks row)) ∙ sym (arity_some t'' row (omega arith)) ∙ ap (arity_at t'') (sym new) in
             rw z (turned row low (omega arith) y₀ now)
         key_turned k (no z) =
-            let same : role_at t' (e.node k) ≡ role_at t'' (adding e.node key row k) =
-            sym (role_at_same t' t'' (e.node k) (λ h. x.marks (e.node k))) ∙ ap (role_at t'') (sym (adding_others e.node key row k z)) in
+            let same : arity_at t' (e.node k) ≡ arity_at t'' (adding e.node key row k) =
+            sym (arity_at_same t' t'' (e.node k) (λ h. x.marks (e.node k))) ∙ ap (arity_at t'') (sym (adding_others e.node key row k z)) in
             turned_other y₀ z (λ a. a ∙ same) (λ a. a ∙ same) (e.keys k)
 
         kept : (r k : ℕ) → list < r → r < row + 1 → KeyAt s t r k → Dec (r ≡ row)
             → Keeps t'' (adding e.node key row) (all around) r k
         kept r k i j z (yes w) =
             let same : k ≡ key = key_same (rw w at z) y₀ in
-            rw (w, same, new, eq-eqb row row refl) (omega arith, omega arith, rw (x.marks row) marked, outer ∙ ap (role_at t') none)
+            rw (w, same, new, eq-eqb row row refl) (omega arith, omega arith, rw (x.marks row) marked, outer ∙ ap (arity_at t') none)
         kept r k i j z (no w) =
             let old = e.keeps r k i (omega arith) z in
             rw (hung_before hung e.tree (omega arith) k old.0, x.marks r) old
@@ -261,17 +258,17 @@ module _ {s t : List ℕ} {list : ℕ} {os : List Operator} {around : Around} (g
       ]
 
       -- a key that the list names has a reference in it
-      named : (k n : ℕ) → role_of os k ≡ As n → (q : ℕ) × (list < q) × (q < next t list) × KeyAt s t q k
+      named : (k n : ℕ) → arity_of os k ≡ Some n → (q : ℕ) × (list < q) × (q < next t list) × KeyAt s t q k
       named k n h = elim (ℕ_discrete (g.lists.node k) 0) [
-        | yes z ↦ impossible (cc (sym h ∙ g.lists.roles k ∙ ap (role_at t) z))
+        | yes z ↦ absurd (cc (sym h ∙ g.lists.roles k ∙ ap (arity_at t) z))
         | no z ↦ let m = tree_found g.lists.tree k (omega arith) in (g.lists.node k, m.behind, m.before, m.key)
       ]
 
-      roles : (k : ℕ) → Turned s t list row k (role_of (all (os ∷ around)) k ≡ role_at t' (e.node k)) (role_of (all around) k ≡ role_at t' (e.node k))
-          → role_of (all (os ∷ around)) k ≡ role_at t' (e.node k)
+      roles : (k : ℕ) → Turned s t list row k (arity_of (all (os ∷ around)) k ≡ arity_at t' (e.node k)) (arity_of (all around) k ≡ arity_at t' (e.node k))
+          → arity_of (all (os ∷ around)) k ≡ arity_at t' (e.node k)
       roles k (turned q i j x a) = a
       roles k (still f b) =
-          role_decides (role_of os k) (λ n h. let q = named k n h in absurd (f q.0 q.1 (rw ends q.2) q.3)) (λ h. role_outer os around k h ∙ b)
+          arity_decides (arity_of os k) (λ n h. let q = named k n h in absurd (f q.0 q.1 (rw ends q.2) q.3)) (λ h. arity_outer os around k h ∙ b)
 
       entered : Entered s t' e.node list os (all around)
       entered = record {
@@ -291,7 +288,7 @@ module _ {s t : List ℕ} {list : ℕ} {os : List Operator} {around : Around} (g
 pub record Leave (s t t' : List ℕ) (to list row : ℕ) (os : List Operator) (around : Around) (node : ℕ → ℕ) : Type 0 where
   pub aside : Aside t t' (next t list) (next t list)
   pub tree : Tree s t' 0 to node
-  pub keys : (k : ℕ) → Turned s t list row k (role_of (all around) k ≡ role_at t' (node k)) (role_of (all (os ∷ around)) k ≡ role_at t' (node k))
+  pub keys : (k : ℕ) → Turned s t list row k (arity_of (all around) k ≡ arity_at t' (node k)) (arity_of (all (os ∷ around)) k ≡ arity_at t' (node k))
   pub keeps : (r k : ℕ) → list < r → row ≤ r → r < next t list → KeyAt s t r k → Keeps t' node (all around) r k
   pub nested : Nested s t' node (link t list) around
 
@@ -325,7 +322,7 @@ module _ {s t : List ℕ} {to list : ℕ} {os : List Operator} {around : Around}
       kept_row : Keeps t' g.node (all around) row key
       kept_row = e.keeps row key low (omega arith) within own_key
 
-      leave_exchanged : {t'' : List ℕ} {first : ℕ} → Sought s t' 0 key (Taken first) → Exchanged t' t'' first row → Leave s t t'' to list (row + 1) os around g.node
+      leave_exchanged : {t'' : List ℕ} {first : ℕ} → Sought s t' 0 key (Ok first) → Exchanged t' t'' first row → Leave s t t'' to list (row + 1) os around g.node
       leave_exchanged {t''} {first} v x = record {
         aside = aside_then e.aside (exchange_aside x m y marked (next t list) (omega (arith, is, kept_row.1)) within);
         tree = exchange_tree x m y marked to (omega arith) e.tree;
@@ -345,20 +342,20 @@ module _ {s t : List ℕ} {to list : ℕ} {os : List Operator} {around : Around}
           marked = kept_row.2
 
           -- what the key is outside is told by the first now
-          told : (when eqb first row then Operand else role_by (mark t' row)) ≡ role_by (mark t'' first)
+          told : (when eqb first row then None else arity_by (mark t' row)) ≡ arity_by (mark t'' first)
           told = elim (ℕ_discrete first row) [
             | yes z ↦ rw (x.first_is, eq-eqb first row z)
             | no z ↦ rw (x.first_is, ne_eqb first row z)
           ]
 
           key_turned : (k : ℕ) → Dec (k ≡ key)
-              → Turned s t list (row + 1) k (role_of (all around) k ≡ role_at t'' (g.node k)) (role_of (all (os ∷ around)) k ≡ role_at t'' (g.node k))
+              → Turned s t list (row + 1) k (arity_of (all around) k ≡ arity_at t'' (g.node k)) (arity_of (all (os ∷ around)) k ≡ arity_at t'' (g.node k))
           key_turned k (yes z) =
-              let now : role_of (all around) key ≡ role_at t'' (g.node key) =
-              (rw is at kept_row.3) ∙ told ∙ sym (role_some t'' first (sought_some v)) ∙ ap (role_at t'') (sym is) in
+              let now : arity_of (all around) key ≡ arity_at t'' (g.node key) =
+              (rw is at kept_row.3) ∙ told ∙ sym (arity_some t'' first (sought_some v)) ∙ ap (arity_at t'') (sym is) in
               rw z (turned row low (omega arith) own_key now)
           key_turned k (no z) =
-              let same : role_at t' (g.node k) ≡ role_at t'' (g.node k) = sym (exchange_role x m y marked is e.tree k z) in
+              let same : arity_at t' (g.node k) ≡ arity_at t'' (g.node k) = sym (exchange_arity x m y marked is e.tree k z) in
               turned_other own_key z (λ a. a ∙ same) (λ a. a ∙ same) (e.keys k)
 
           kept : (r k : ℕ) → list < r → row + 1 ≤ r → r < next t list → KeyAt s t r k → Dec (r ≡ first)
@@ -366,7 +363,7 @@ module _ {s t : List ℕ} {to list : ℕ} {os : List Operator} {around : Around}
           kept r k i j l z (yes w) = absurd (omega (arith, is, kept_row.1))
           kept r k i j l z (no w) = let old = e.keeps r k i (omega arith) l z in rw (x.others r w (λ h. omega arith)) old
 
-      leave_joined : {last bit : ℕ} → Sought s t' 0 key (Vacant last bit) → ⊥
+      leave_joined : {last bit : ℕ} → Sought s t' 0 key (Err (record { row = last; bit = bit })) → ⊥
       leave_joined v = omega (arith, kept_row.0, sought_found e.tree v)
 
     pub leave_switched : {t'' : List ℕ} → list < row → row < next t list → Switched s t' t'' row → Leave s t t'' to list (row + 1) os around g.node
@@ -383,12 +380,12 @@ module _ {s t : List ℕ} {to list : ℕ} {os : List Operator} {around : Around}
       ended = λ h. omega (arith, near.beyond h, near.entered.begins, g.ended near.entered.low, (e.aside.same_rows (link t list)).same_next);
     }
       where
-        roles : (k : ℕ) → Turned s t list row k (role_of (all around) k ≡ role_at t' (g.node k)) (role_of (all (os ∷ around)) k ≡ role_at t' (g.node k))
-            → role_of (all around) k ≡ role_at t' (g.node k)
+        roles : (k : ℕ) → Turned s t list row k (arity_of (all around) k ≡ arity_at t' (g.node k)) (arity_of (all (os ∷ around)) k ≡ arity_at t' (g.node k))
+            → arity_of (all around) k ≡ arity_at t' (g.node k)
         roles k (turned q i j x a) = a
         roles k (still f b) =
-            role_decides (role_of os k) (λ n h. let q = near.entered.named k n h in absurd (f q.0 q.1 (rw ends q.2) q.3))
-            (λ h. sym (role_outer os around k h) ∙ b)
+            arity_decides (arity_of os k) (λ n h. let q = near.entered.named k n h in absurd (f q.0 q.1 (rw ends q.2) q.3))
+            (λ h. sym (arity_outer os around k h) ∙ b)
 
 -- Either
 

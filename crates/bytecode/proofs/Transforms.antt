@@ -15,7 +15,6 @@ use Rattle.bytecode.specs.Frames.{plain, Frame}
 use Rattle.bytecode.specs.Scanned.{here, AroundAt, Fresh, Stacked, Goals, Standing, Moved, Readable}
 use Rattle.bytecode.specs.declared.scan.Scan.{Scan}
 use Rattle.bytecode.proofs.Changing.{changed_none, changed_then, aside_none, aside_changed, aside_wider, aside_then, written_all_kept}
-use Rattle.bytecode.proofs.Flattening.{clash}
 use Rattle.bytecode.proofs.Goals.{goal_done}
 use Rattle.bytecode.proofs.Frames.{fresh_holds}
 use Rattle.bytecode.proofs.Scanned.{stacked_order}
@@ -82,7 +81,7 @@ transforming_all {s} {t} {t'} {rows} r c links others m = record {
     }
 
     stacked : (es : Nodes) → WrittenAll s t' 0 rows es → Stacked s t' 0 0 [] rows (whole rows es ∷ [])
-    stacked es w = (refl, record { holds = fresh_holds s t' (whole rows es) 0 rows es (fresh es w); low = λ z. clash z; lasts = λ l. absurd (omega arith) }, here, refl)
+    stacked es w = (refl, record { holds = fresh_holds s t' (whole rows es) 0 rows es (fresh es w); low = λ z. absurd (cc z); lasts = λ l. absurd (omega arith) }, here, refl)
 
 -- one visit
 pub transforming_on : {s t t' u : List ℕ} {rows : ℕ} {scan on : Scan} → Transforming s t t' rows scan

@@ -1,23 +1,26 @@
 -- What is done with a bytecode form, table after table: its arity list is named, its flat list is gathered, its head is marked. Document 02,
 -- §1. Assumes nothing.
-use Prim.Native.Nat.{ℕ, zero, suc, ◌+◌, ◌-◌, ◌*◌, ◌≤◌, ◌<◌}
+use Prim.Native.Nat.{ℕ, zero, suc, ◌+◌, ◌-◌, ◌≤◌, ◌<◌}
 use mathlib.Core.Path.{◌≡◌, refl, sym, ◌∙◌}
 use mathlib.Core.List.{List, ◌∷◌}
 use mathlib.Core.Bool.{Bool, true, false}
 use native.Mathlib.Decide.{ℕ_discrete, dec_lt}
 use native.Mathlib.Omega.{arith}
-use lib.ListN.{length}
-use Rattle.spec.specs.Reading.{row_width}
+use lib.Dec.{eqb}
+use borrow.Author.Tests.{eq-eqb}
+use Rattle.std.specs.Prelude.{Result, Ok, Err, is_err}
+use Rattle.spec.specs.Expr.{when◌then◌else◌}
 use Rattle.spec.specs.Nodes.{Node, Nodes, empty, cons, tail}
 use Rattle.spec.specs.Bytecode.{Operator, Arities, listed, ill_formed, operators, Around, all}
 use Rattle.spec.proofs.Flat.{refusal, outcome_fine, arity_list}
-use Rattle.laws.proofs.Basics.{impossible}
-use Rattle.rows.specs.Rows.{kind, mark, link, next, WrittenAll}
+use Rattle.atoms.specs.declared.refusal.Reason.{Reason}
+use Rattle.atoms.proofs.Reasons.{number_positive}
+use Rattle.rows.specs.Rows.{RowInside, kind, mark, link, next, WrittenAll}
 use Rattle.rows.specs.declared.forms.Form.{Form}
 use Rattle.rows.proofs.Nodes.{written_order, written_whole, written_more}
 use Rattle.bytecode.specs.Numbers.{child, Changed, Unlisted, Aside}
 use Rattle.bytecode.specs.Named.{Lists, Arounds, NamedBy, ListAt, Entering}
-use Rattle.bytecode.specs.Gathered.{GatheredAt, SameMarks, FlatAt}
+use Rattle.bytecode.specs.Gathered.{refusal_of, GatheredAt, SameMarks, FlatAt}
 use Rattle.bytecode.specs.Frames.{Holds}
 use Rattle.bytecode.specs.Scanned.{Descends, here, up, AroundAt, Fresh, HeadedAt, Enclosed, flat_frame, Framed, StarLeft, StarRefusal, Judged, refused, fine, Starred, FormChanged}
 use Rattle.bytecode.proofs.Changing.{same_mark, same_link, same_child, changed_wider, changed_then, changed_aside, aside_changed, aside_wider, aside_then, written_kept, written_all_kept}
@@ -25,9 +28,18 @@ use Rattle.bytecode.proofs.Depths.{measured_kept}
 use Rattle.bytecode.proofs.Named.{lists_kept}
 use Rattle.bytecode.proofs.Links.{written_inside, written_references}
 use Rattle.bytecode.proofs.Naming.{list_leaf}
-use Rattle.bytecode.proofs.Flattening.{clash, refusal_small}
 use Rattle.bytecode.proofs.Lists.{around_low, around_before, around_kept}
 use Rattle.bytecode.proofs.Frames.{fresh_next, fresh_kept, holds_kept}
+
+-- Refusals
+
+pub verdict_refused : (v : Result Unit Reason) → is_err v ≡ true → refusal_of v ≡ 0 → ⊥
+verdict_refused (Ok u) e z = absurd (cc)
+verdict_refused (Err reason) e z = omega (arith, z, number_positive reason)
+
+pub verdict_fine : (v : Result Unit Reason) → is_err v ≡ false → refusal_of v ≡ 0
+verdict_fine (Ok u) e = refl
+verdict_fine (Err reason) e = absurd (cc)
 
 -- A flat list
 
@@ -64,7 +76,7 @@ some_list s t form empty h l = absurd (omega (arith, h.fresh.written))
 some_list s t form (cons a es) h l = (a, star_list h)
 
 pub list_within : (s t : List ℕ) (form : Form) (es : Nodes) → HeadedAt s t form es → form.first + 1 < form.end
-    → (row_width * (form.first + 1) + row_width ≤ length t) × (next t (form.first + 1) ≤ form.end)
+    → RowInside t (form.first + 1) × (next t (form.first + 1) ≤ form.end)
 list_within s t form es h l =
     let m = written_more s t (form.first + 1) form.end es h.fresh.written l in
     ((written_whole s t (form.first + 1) m.head m.node).0, m.inside)
@@ -83,16 +95,16 @@ module _ (s t t' : List ℕ) (form : Form) (r : Bool)
   by_arities : (a : Node) (es : Nodes) → r ≡ true → (x : Arities) → operators a ≡ x → NamedBy s t' (form.first + 1) (next t (form.first + 1)) x r
       → StarGiven s t t' form (cons a es)
   by_arities a es e (listed os) q n = record { list = a; rest = es; is = refl; given = os; operators_are = q; lists = n.1 }
-  by_arities a es e ill_formed q n = clash (sym n ∙ e)
+  by_arities a es e ill_formed q n = absurd (cc (sym n ∙ e))
 
-  pub star_given : (es : Nodes) → HeadedAt s t form es → form.first + 1 < form.end → r ≡ true → StarGiven s t t' form es
+  star_given : (es : Nodes) → HeadedAt s t form es → form.first + 1 < form.end → r ≡ true → StarGiven s t t' form es
   unfolding WrittenAll
   star_given empty h l e = absurd (omega (arith, h.fresh.written))
   star_given (cons a es) h l e = by_arities a es e (operators a) refl (f a (star_list h))
 
   by_refusal : (a : Node) (es : Nodes) (around : Around) → r ≡ false → (x : Arities) → NamedBy s t' (form.first + 1) (next t (form.first + 1)) x r
       → StarRefusal s t' form around (cons a es) x 22
-  by_refusal a es around e (listed os) n = clash (sym e ∙ n.0)
+  by_refusal a es around e (listed os) n = absurd (cc (sym e ∙ n.0))
   by_refusal a es around e ill_formed n = refl
 
   pub star_ungiven : (es : Nodes) (around : Around) → HeadedAt s t form es → r ≡ false → StarRefusal s t' form around es (arity_list es) 22
@@ -123,12 +135,21 @@ pub record StarNamed (s t t' : List ℕ) (form : Form) (os : List Operator) (es 
   pub lists : Lists s t' (form.first + 1) (next t (form.first + 1)) os
   pub fresh : Fresh s t' (next t (form.first + 1)) form.end es
 
-pub star_named : {s t t' : List ℕ} (form : Form) (os : List Operator) (a : Node) (es : Nodes) → HeadedAt s t form (cons a es)
+star_named : {s t t' : List ℕ} (form : Form) (os : List Operator) (a : Node) (es : Nodes) → HeadedAt s t form (cons a es)
     → Changed t t' (form.first + 1) (next t (form.first + 1)) → Lists s t' (form.first + 1) (next t (form.first + 1)) os → StarNamed s t t' form os es
 star_named {s} {t} form os a es h c l =
     let at = form.first + 1 in
     let to = next t at in
     record { changed = c; lists = l; fresh = fresh_kept s c to form.end es (λ q i j. c.behind q i) (fresh_next s t at form.end a es h.fresh) }
+
+-- as the code has named it
+pub star_told : {s t t' : List ℕ} {r : Bool} (form : Form)
+    → Changed t t' (form.first + 1) (next t (form.first + 1))
+    × ((e : Node) → ListAt s t (form.first + 1) e → NamedBy s t' (form.first + 1) (next t (form.first + 1)) (operators e) r)
+    → (es : Nodes) → HeadedAt s t form es → form.first + 1 < form.end → r ≡ true → (g : StarGiven s t t' form es) × StarNamed s t t' form g.given g.rest
+star_told {s} {t} {t'} {r} form named es h l e =
+    let g = star_given s t t' form r named.1 es h l e in
+    (g, star_named form g.given g.list g.rest (rw g.is at h) named.0 g.lists)
 
 module _ {s t t' : List ℕ} {form : Form} {os : List Operator} {es : Nodes} (n : StarNamed s t t' form os es) where
   begins : form.first + 1 < next t (form.first + 1)
@@ -136,6 +157,10 @@ module _ {s t t' : List ℕ} {form : Form} {os : List Operator} {es : Nodes} (n 
 
   named_kept : {u : List ℕ} {to : ℕ} → Changed t' u (next t (form.first + 1)) to → Lists s u (form.first + 1) (next t (form.first + 1)) os
   named_kept c = lists_kept c (λ r i j. c.before r j) (same_child (c.before (form.first + 1) begins) 1 (omega arith)) n.lists
+
+  -- the row of the flat list
+  pub star_next : next t' (form.first + 1) ≡ next t (form.first + 1)
+  star_next = (n.changed.same_rows (form.first + 1)).same_next
 
   pub star_flat_at : FlatAt s t' (record { tree = form.first + 1 }) (next t (form.first + 1)) form.end os es
   star_flat_at = record {
@@ -199,14 +224,6 @@ form_marked {s} {t} {form = form} {es} h c d k =
 -- The arities of a `prefix*` form apply
 
 module _ (s t : List ℕ) (form : Form) (around : Around) (es : Nodes) where
-  pub star_small : (x : Arities) (r : ℕ) → StarRefusal s t form around es x r → r < 63
-  star_small (listed os) r h = rw h.0 (refusal_small form.first os (tail es))
-  star_small ill_formed r h = omega arith
-
-  pub star_inside : (x : Arities) (r : ℕ) → StarRefusal s t form around es x r → r ≡ 0 → row_width * (form.first + 1) + row_width ≤ length t
-  star_inside (listed os) r h z = (h.1 z).lists.tree.inside
-  star_inside ill_formed r h z = absurd (omega arith)
-
   pub star_refused : (u : List ℕ) (list : ℕ) (x : Arities) (r : ℕ) → StarRefusal s t form around es x r → (r ≡ 0 → ⊥) → mark u form.first ≡ r
       → AroundAt s u form.end list around → Starred s u form list around es x (record { row = form.end; around = list })
   star_refused u list (listed os) r h n m a = judged_refused s u form list 2 os around (os ∷ around) (tail es) r h.0 n m a
@@ -232,25 +249,29 @@ pub record StarPut (t u : List ℕ) (form : Form) (list : ℕ) : Type 0 where
   pub ends : link u form.first ≡ form.end
   pub outwards : link u (form.first + 1) ≡ list
 
-pub star_put : {t t₁ t₂ u : List ℕ} (form : Form) (list : ℕ) → Changed t t₁ form.first (form.first + 1) → mark t₁ form.first ≡ 2
-    → Changed t₁ t₂ form.first (form.first + 1) → link t₂ form.first ≡ form.end → mark t₂ form.first ≡ mark t₁ form.first
-    → Changed t₂ u (form.first + 1) (form.first + 1 + 1) → link u (form.first + 1) ≡ list → child u 1 (form.first + 1) ≡ child t₂ 1 (form.first + 1) → StarPut t u form list
-star_put form list c m d l k e o p =
+-- as the code has put them, where the verdict is fine
+pub star_put : {t t₁ t₂ u : List ℕ} (form : Form) (list : ℕ) {r : ℕ} → r ≡ 0
+    → Changed t t₁ form.first (form.first + 1) × (mark t₁ form.first ≡ (when eqb r 0 then 2 else r)) × (link t₁ form.first ≡ link t form.first)
+    → Changed t₁ t₂ form.first (form.first + 1) × (link t₂ form.first ≡ form.end) × (mark t₂ form.first ≡ mark t₁ form.first)
+    × (child t₂ 1 form.first ≡ child t₁ 1 form.first)
+    → Changed t₂ u (form.first + 1) (form.first + 1 + 1) × (link u (form.first + 1) ≡ list) × (mark u (form.first + 1) ≡ mark t₂ (form.first + 1))
+    × (child u 1 (form.first + 1) ≡ child t₂ 1 (form.first + 1)) → StarPut t u form list
+star_put form list {r} none verdict head own =
     let at = form.first + 1 in
-    let two = changed_then c d in
-    let before = e.before form.first (omega arith) in
+    let two = changed_then verdict.0 head.0 in
+    let before = own.0.before form.first (omega arith) in
     record {
-      changed = changed_then (changed_wider two form.first (at + 1) (omega arith) (omega arith)) (changed_wider e form.first (at + 1) (omega arith) (omega arith));
-      same = p ∙ same_child (two.behind at (omega arith)) 1 (omega arith);
-      marked = same_mark before ∙ k ∙ m;
-      ends = same_link before ∙ l;
-      outwards = o;
+      changed = changed_then (changed_wider two form.first (at + 1) (omega arith) (omega arith)) (changed_wider own.0 form.first (at + 1) (omega arith) (omega arith));
+      same = own.3 ∙ same_child (two.behind at (omega arith)) 1 (omega arith);
+      marked = same_mark before ∙ head.2 ∙ verdict.1 ∙ rw (eq-eqb r 0 none);
+      ends = same_link before ∙ head.1;
+      outwards = own.1;
     }
 
 -- an arity list that names operators is a form
 list_form : (s t : List ℕ) (form : Form) (es : Nodes) (os : List Operator) → HeadedAt s t form es → arity_list es ≡ listed os → kind t (form.first + 1) ≡ 1
-list_form s t form empty os h e = impossible (cc e)
-list_form s t form (cons a es) os h e = elim (ℕ_discrete (kind t (form.first + 1)) 1) [ yes z ↦ z | no z ↦ impossible (cc (sym (list_leaf (star_list h) z) ∙ e)) ]
+list_form s t form empty os h e = absurd (cc e)
+list_form s t form (cons a es) os h e = elim (ℕ_discrete (kind t (form.first + 1)) 1) [ yes z ↦ z | no z ↦ absurd (cc (sym (list_leaf (star_list h) z) ∙ e)) ]
 
 module _ {s t t' u : List ℕ} {form : Form} {list : ℕ} {around : Around} {es : Nodes} {os : List Operator} (h : HeadedAt s t form es) (r : Enclosed s t form list around)
     (listed_as : arity_list es ≡ listed os) (c : Changed t t' (form.first + 1) form.end) (l : StarLeft s t' form around os (tail es)) (p : StarPut t' u form list) where

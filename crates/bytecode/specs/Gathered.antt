@@ -1,9 +1,11 @@
 -- The flat list in the table: the heights of its forms, which rows are linked, and the expressions that it is gathered to. Document 02, §1.
 -- Assumes nothing.
-use Rattle.std.specs.Prelude.{ℕ, zero, suc, ◌+◌, ◌≤◌, ◌<◌, ◌≡◌, List, Bool, true, false, eqb, ltb}
+use Rattle.std.specs.Prelude.{ℕ, zero, suc, ◌+◌, ◌≤◌, ◌<◌, ◌≡◌, List, Bool, true, false, eqb, ltb, Result, Ok, Err}
 use Rattle.spec.specs.Expr.{when◌then◌else◌, Atom}
 use Rattle.spec.specs.Nodes.{Node, leaf, branch, Nodes, empty, cons, elements}
 use Rattle.spec.specs.Bytecode.{Operator, led_by_name, if_operator, node_depth, nodes_deepest}
+use Rattle.atoms.specs.Refusals.{number}
+use Rattle.atoms.specs.declared.refusal.Reason.{Reason}
 use Rattle.rows.specs.Rows.{kind, mark, link, next, ReferenceAt, WrittenAt, WrittenAll, is_made, behind}
 use Rattle.rows.specs.declared.forms.Form.{Form}
 use Rattle.rows.specs.declared.forms.Node.{Node as Ranged}
@@ -60,6 +62,11 @@ GatheredAt t os zero r (cons e es) =
     (link t r ≡ if_operator os e (λ n. beyond t n (next t r)) 0) × Unlinked t (r + 1) (next t r)
     × GatheredAt t os (if_operator os e (λ n. n) 0) (next t r) es
 GatheredAt t os (suc k) r (cons e es) = Unlinked t r (next t r) × GatheredAt t os k (next t r) es
+
+-- the number of a refusal; 0 for none
+abbrev pub refusal_of : Result Unit Reason → ℕ
+refusal_of (Ok u) = 0
+refusal_of (Err r) = number r
 
 -- the tree that the code goes by tells these operators
 pub record Tells (s t : List ℕ) (arities : Arities) (os : List Operator) : Type 0 where

@@ -1,30 +1,27 @@
 -- Trees of references in the table, by the bits of their keys; the operators that an arity list names, and the lists around a row. Document 02,
 -- §1. Assumes nothing.
-use Rattle.std.specs.Prelude.{ℕ, ◌/◌, ◌%◌, ◌+◌, ◌-◌, ◌*◌, ◌≤◌, ◌<◌, ◌≡◌, List, [], ◌∷◌, Bool, true, false, length, eqb, ltb}
+use Rattle.std.specs.Prelude.{ℕ, ◌/◌, ◌%◌, ◌-◌, ◌*◌, ◌≤◌, ◌<◌, ◌≡◌, List, [], ◌∷◌, Bool, true, false, length, eqb, ltb, Result, Ok, Err, Option, Some, None}
 use Rattle.spec.specs.Expr.{when◌then◌else◌, ref}
 use Rattle.spec.specs.Reading.{row_width}
 use Rattle.spec.specs.Nodes.{Node, Nodes}
 use Rattle.spec.specs.Bytecode.{Operator, if_listed, Arities, listed, ill_formed, Around, all}
-use Rattle.rows.specs.Rows.{kind, mark, link, next, LeafAt, ReferenceAt, WrittenAt, WrittenAll, key_of}
+use Rattle.rows.specs.Rows.{RowInside, kind, mark, link, next, LeafAt, ReferenceAt, WrittenAt, WrittenAll, key_of}
 use Rattle.bytecode.specs.Numbers.{child, Unlisted, Changed, Unlinked}
-use Rattle.bytecode.specs.declared.tree.Place.{Place}
-use Rattle.bytecode.specs.declared.tree.Place.TheVariants.{Taken, Vacant}
-use Rattle.bytecode.specs.declared.arities.Role.{Role}
-use Rattle.bytecode.specs.declared.arities.Role.TheVariants.{Operator as As, Operand}
+use Rattle.bytecode.specs.declared.tree.Vacancy.{Vacancy}
 
--- Roles
+-- Arities: none of an operand
 
--- what a key's reference is among these operators
-abbrev pub role_of : List Operator → ℕ → Role
-role_of os k = if_listed os (k / 256) (k % 256) (λ n. As n) Operand
+-- of a key's reference among these operators
+abbrev pub arity_of : List Operator → ℕ → Option ℕ
+arity_of os k = if_listed os (k / 256) (k % 256) (λ n. Some n) None
 
--- what a mark tells
-abbrev pub role_by : ℕ → Role
-role_by m = when ltb m 64 then Operand else As (m - 64)
+-- by a mark
+abbrev pub arity_by : ℕ → Option ℕ
+arity_by m = when ltb m 64 then None else Some (m - 64)
 
--- what the reference at a row tells, 0 for none
-abbrev pub role_at : List ℕ → ℕ → Role
-role_at t r = when eqb r 0 then Operand else role_by (mark t r)
+-- of the reference at a row, 0 for none
+abbrev pub arity_at : List ℕ → ℕ → Option ℕ
+arity_at t r = when eqb r 0 then None else arity_by (mark t r)
 
 -- Trees
 
@@ -51,12 +48,12 @@ pub data Finds (s t : List ℕ) (to key : ℕ) : ℕ → ℕ → ℕ → ℕ →
 -- the tree of a row, of references before row `to`: where it has each key
 pub record Tree (s t : List ℕ) (tree to : ℕ) (node : ℕ → ℕ) : Type 0 where
   pub finds : (k : ℕ) → Finds s t to k k tree (child t 1 tree) (node k)
-  pub inside : row_width * tree + row_width ≤ length t
+  pub inside : RowInside t tree
   pub begins : tree < to
 
 -- its references tell these operators
 abbrev pub Roles : List ℕ → (ℕ → ℕ) → List Operator → Type 0
-Roles t node os = (k : ℕ) → role_of os k ≡ role_at t (node k)
+Roles t node os = (k : ℕ) → arity_of os k ≡ arity_at t (node k)
 
 -- One arity list
 
@@ -74,12 +71,12 @@ pub record Lists (s t : List ℕ) (list to : ℕ) (os : List Operator) : Type 0 
 -- what a reference of a list inside those that name `outer` keeps: the tree of all has its key, not behind it; where it isn't that one itself,
 -- its mark tells what the key is outside
 abbrev pub Keeps : List ℕ → (ℕ → ℕ) → List Operator → ℕ → ℕ → Type 0
-Keeps t node outer r k = (0 < node k) × (node k ≤ r) × (63 ≤ mark t r) × (role_of outer k ≡ (when eqb (node k) r then Operand else role_by (mark t r)))
+Keeps t node outer r k = (0 < node k) × (node k ≤ r) × (63 ≤ mark t r) × (arity_of outer k ≡ (when eqb (node k) r then None else arity_by (mark t r)))
 
 -- such a list; each of its references keeps that
 pub record Entered (s t : List ℕ) (node : ℕ → ℕ) (list : ℕ) (os outer : List Operator) : Type 0 where
   pub keeps : (r k : ℕ) → list < r → r < next t list → KeyAt s t r k → Keeps t node outer r k
-  pub named : (k n : ℕ) → role_of os k ≡ As n → (r : ℕ) × (list < r) × (r < next t list) × KeyAt s t r k
+  pub named : (k n : ℕ) → arity_of os k ≡ Some n → (r : ℕ) × (list < r) × (r < next t list) × KeyAt s t r k
   pub references : (r : ℕ) → list < r → r < next t list → kind t r ≡ 4 → ReferenceAt s t r
   pub inside : row_width * next t list ≤ length t
   pub low : 0 < list
@@ -111,9 +108,9 @@ pub data Way (s t : List ℕ) (tree key : ℕ) : ℕ → ℕ → ℕ → Type 0 
       → Way s t tree key (bits / 2) (child t bit last) (bits % 2)
 
 -- where it ends
-pub data Sought (s t : List ℕ) (tree key : ℕ) : Place → Type 0 where
-  taken : {bits last bit row : ℕ} → Way s t tree key bits last bit → child t bit last ≡ row → 0 < row → KeyAt s t row key → Sought s t tree key (Taken row)
-  vacant : {bits last bit : ℕ} → Way s t tree key bits last bit → child t bit last ≡ 0 → Sought s t tree key (Vacant last bit)
+pub data Sought (s t : List ℕ) (tree key : ℕ) : Result ℕ Vacancy → Type 0 where
+  taken : {bits last bit row : ℕ} → Way s t tree key bits last bit → child t bit last ≡ row → 0 < row → KeyAt s t row key → Sought s t tree key (Ok row)
+  vacant : {bits last bit : ℕ} → Way s t tree key bits last bit → child t bit last ≡ 0 → Sought s t tree key (Err (record { row = last; bit = bit }))
 
 -- an arity list has named these operators, and goes on with these expressions, up to a row
 pub record Naming (s t : List ℕ) (list row end : ℕ) (os : List Operator) (es : Nodes) : Type 0 where
@@ -173,5 +170,5 @@ pub record Joined (s t t' : List ℕ) (row last bit : ℕ) : Type 0 where
 
 -- what is done for one reference of a list, by where the tree of all has its key
 pub data Switched (s t t' : List ℕ) (row : ℕ) : Type 0 where
-  exchanged : {k first : ℕ} → KeyAt s t row k → Sought s t 0 k (Taken first) → Exchanged t t' first row → Switched s t t' row
-  joined : {k last bit : ℕ} → KeyAt s t row k → Sought s t 0 k (Vacant last bit) → Joined s t t' row last bit → Switched s t t' row
+  exchanged : {k first : ℕ} → KeyAt s t row k → Sought s t 0 k (Ok first) → Exchanged t t' first row → Switched s t t' row
+  joined : {k last bit : ℕ} → KeyAt s t row k → Sought s t 0 k (Err (record { row = last; bit = bit })) → Joined s t t' row last bit → Switched s t t' row

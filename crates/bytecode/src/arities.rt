@@ -1,15 +1,15 @@
 // Arity lists: forms of forms, each a small integer and then references. The tree of a list's row has its references. A reference's mark is 64
 // and its arity.
-ghost use Rattle.std.specs.Prelude.{◌≡◌, List, ℕ, ◌+◌, ◌*◌, ◌≤◌, ◌<◌};
+ghost use Rattle.std.specs.Prelude.{◌≡◌, List, ℕ, ◌+◌, ◌<◌, Some, None};
 ghost use Rattle.spec.specs.Expr.{int};
 ghost use Rattle.spec.specs.Nodes.{Node, Nodes, empty, cons};
 ghost use Rattle.spec.specs.Bytecode.{Operator, if_operator, series, arities, operators};
 ghost use Rattle.rows.specs.Rows.{kind, next, LeafAt, WrittenAt};
 ghost use Rattle.bytecode.specs.Numbers.{Changed};
-ghost use Rattle.bytecode.specs.Named.{role_by, Naming, NamedBy, ListAt};
+ghost use Rattle.bytecode.specs.Named.{arity_by, Naming, NamedBy, ListAt};
 ghost use Rattle.bytecode.specs.Gathered.{Tells};
 
-use crate::tree::Place;
+use crate::tree::Vacancy;
 use crate::{numbers, tree};
 use atoms::Kind;
 use rows::table;
@@ -22,8 +22,8 @@ fn name(s: &[u8], table: &mut [u32], list: usize, row: usize, arity: u32) -> boo
 {
     let key = table::key(s, table, row);
     match tree::seek(s, table, list, key) {
-        Place::Taken { row: _ } => false,
-        Place::Vacant { row: last, bit } => {
+        Ok(_) => false,
+        Err(Vacancy { row: last, bit }) => {
             numbers::put_mark(table, row, 64 + arity);
             numbers::put_child(table, last, bit, row);
             true
@@ -38,15 +38,13 @@ fn name_all(s: &[u8], table: &mut [u32], list: usize, number: usize, end: usize)
         → Naming s.now table.old list (number + 1) end os es → NamedBy s.now table.new list end (series n es os) result) }
 {
     let arity = table::small(s, table, number) as u32;
-    let mut row = number + 1;
-    while row < end {
-        if table::kind(table, row) != Kind::REFERENCE {
+    for row in number + 1..end {
+        if !table::has_kind(table, row, Kind::Reference) {
             return false;
         }
         if !name(s, table, list, row, arity) {
             return false;
         }
-        row += 1;
     }
     true
 }
@@ -57,14 +55,14 @@ fn entry(s: &[u8], table: &mut [u32], list: usize, row: usize) -> bool
     ensures { Changed table.old table.new list (next table.old row) × ((e : Node) (os : List Operator) → Naming s.now table.old list row (next table.old row) os (cons e empty)
         → NamedBy s.now table.new list (next table.old row) (arities (cons e empty) os) result) }
 {
-    if table::kind(table, row) != Kind::FORM {
+    if !table::has_kind(table, row, Kind::Form) {
         return false;
     }
     let end = table::next(table, row);
     if end <= row + 1 {
         return false;
     }
-    if table::kind(table, row + 1) != Kind::INT {
+    if !table::has_kind(table, row + 1, Kind::Int) {
         return false;
     }
     name_all(s, table, list, row + 1, end)
@@ -76,11 +74,12 @@ pub fn name_list(s: &[u8], table: &mut [u32], list: usize) -> bool
     ensures { Changed table.old table.new list (next table.old list) × ((e : Node) → ListAt s.now table.old list e
         → NamedBy s.now table.new list (next table.old list) (operators e) result) }
 {
-    if table::kind(table, list) != Kind::FORM {
+    if !table::has_kind(table, list, Kind::Form) {
         return false;
     }
     let end = table::next(table, list);
     let mut row = list + 1;
+    // Kept: a `while`, since only a form's row tells where the next begins.
     while row < end {
         if !entry(s, table, list, row) {
             return false;
@@ -90,43 +89,32 @@ pub fn name_list(s: &[u8], table: &mut [u32], list: usize) -> bool
     true
 }
 
-// What an expression is in a flat list.
-#[derive(Clone, Copy)]
-pub enum Role {
-    Operator { arity: usize },
-    Operand,
-}
-
 // The arity lists that tell operators: the one at a row, or at row 0 all that are around.
-#[derive(Clone, Copy)]
+#[derive(Clone, Copy, Debug, PartialEq, Eq)]
 pub struct Arities {
     pub tree: usize,
 }
 
-// The role that a mark tells.
-fn role_by(mark: u32) -> Role
-    ensures { result ≡ role_by mark }
+// The arity that a mark tells, if it is an operator's.
+fn arity_by(mark: u32) -> Option<usize>
+    ensures { result ≡ arity_by mark }
 {
     if mark < 64 {
-        return Role::Operand;
+        return None;
     }
-    Role::Operator {
-        arity: (mark - 64) as usize,
-    }
+    Some((mark - 64) as usize)
 }
 
 impl Arities {
-    // The role of the expression at a row.
-    pub fn role(self, s: &[u8], table: &[u32], row: usize) -> Role
+    // The arity of the expression at a row, if it is an operator.
+    pub fn arity(self, s: &[u8], table: &[u32], row: usize) -> Option<usize>
         requires { ((os : List Operator) × Tells s.now table.now self os) × ((e : Node) × WrittenAt s.now table.now row e) }
-        ensures { (os : List Operator) (e : Node) → Tells s.now table.now self os → WrittenAt s.now table.now row e → result ≡ if_operator os e (λ k. Role.Operator k) Role.Operand }
+        ensures { (os : List Operator) (e : Node) → Tells s.now table.now self os → WrittenAt s.now table.now row e → result ≡ if_operator os e (λ k. Some k) None }
     {
-        if table::kind(table, row) != Kind::REFERENCE {
-            return Role::Operand;
+        if !table::has_kind(table, row, Kind::Reference) {
+            return None;
         }
-        match tree::seek(s, table, self.tree, table::key(s, table, row)) {
-            Place::Taken { row: named } => role_by(table::mark(table, named)),
-            Place::Vacant { row: _, bit: _ } => Role::Operand,
-        }
+        let named = tree::seek(s, table, self.tree, table::key(s, table, row)).ok()?;
+        arity_by(table::mark(table, named))
     }
 }

@@ -1,13 +1,12 @@
 // The arity lists around a row. The tree of row 0 has the references of all lists so far, of each key the first. Its mark tells the arity by the
 // nearest list around that names the key, 63 if none does; what it was outside of that list is the mark of the list's own reference.
-ghost use Rattle.std.specs.Prelude.{◌≡◌, List, ◌∷◌, ℕ, ◌+◌, ◌*◌, ◌≤◌, ◌<◌, length};
-ghost use Rattle.spec.specs.Reading.{row_width};
+ghost use Rattle.std.specs.Prelude.{List, ◌∷◌, ℕ};
 ghost use Rattle.spec.specs.Bytecode.{Operator, Around};
-ghost use Rattle.rows.specs.Rows.{link, next, ReferenceAt};
+ghost use Rattle.rows.specs.Rows.{RowInside, link, next, ReferenceAt};
 ghost use Rattle.bytecode.specs.Numbers.{Aside};
 ghost use Rattle.bytecode.specs.Named.{Tree, Arounds, Entering, Exchanged, Switched, Switchable};
 
-use crate::tree::Place;
+use crate::tree::Vacancy;
 use crate::{numbers, tree};
 use atoms::Kind;
 use rows::table;
@@ -17,7 +16,7 @@ pub const ALL: usize = 0;
 
 // The marks of a reference and of the first with its key change places. The first itself had none before.
 fn exchange(table: &mut [u32], first: usize, row: usize)
-    requires { (row_width * first + row_width ≤ length table.old) × (row_width * row + row_width ≤ length table.old) }
+    requires { RowInside table.old first × RowInside table.old row }
     ensures { Exchanged table.old table.new first row }
 {
     if first == row {
@@ -37,8 +36,8 @@ fn switch_one(s: &[u8], table: &mut [u32], row: usize)
 {
     let key = table::key(s, table, row);
     match tree::seek(s, table, ALL, key) {
-        Place::Taken { row: first } => exchange(table, first, row),
-        Place::Vacant { row: last, bit } => {
+        Ok(first) => exchange(table, first, row),
+        Err(Vacancy { row: last, bit }) => {
             numbers::put_child(table, row, 0, 0);
             numbers::put_child(table, row, 1, 0);
             numbers::put_child(table, last, bit, row);
@@ -54,11 +53,9 @@ pub fn switch(s: &[u8], table: &mut [u32], list: usize)
         × ((to : ℕ) (os : List Operator) (around : Around) → Arounds s.now table.old to list (os ∷ around) → Arounds s.now table.new to (link table.old list) around) }
 {
     let end = table::next(table, list);
-    let mut row = list + 1;
-    while row < end {
-        if table::kind(table, row) == Kind::REFERENCE {
+    for row in list + 1..end {
+        if table::has_kind(table, row, Kind::Reference) {
             switch_one(s, table, row);
         }
-        row += 1;
     }
 }

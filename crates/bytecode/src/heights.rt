@@ -1,9 +1,8 @@
 // How many forms are one inside another: of each written form its mark, of a result whether they are over 64.
-ghost use Rattle.std.specs.Prelude.{◌≡◌, List, ℕ, max, ◌+◌, ◌*◌, ◌≤◌, ◌<◌, length, ltb};
-ghost use Rattle.spec.specs.Reading.{row_width};
+ghost use Rattle.std.specs.Prelude.{◌≡◌, List, ℕ, max, ◌<◌, ltb};
 ghost use Rattle.spec.specs.Nodes.{Node as Expression, Nodes};
 ghost use Rattle.spec.specs.Bytecode.{node_depth, nodes_deepest};
-ghost use Rattle.rows.specs.Rows.{WrittenAll};
+ghost use Rattle.rows.specs.Rows.{RowInside, WrittenAll};
 ghost use Rattle.rows.specs.declared.forms.Node.TheVariants.{Branch as AsBranch};
 ghost use Rattle.bytecode.specs.Numbers.{Changed};
 ghost use Rattle.bytecode.specs.Gathered.{height, Measurable, Measured, SameLinks, SameOthers, IsPiece, Plain};
@@ -15,17 +14,13 @@ use rows::{forms, table};
 
 // The larger height of two: known before, and of the expression written at a row.
 fn higher(table: &[u32], row: usize, known: u32) -> u32
-    requires { row_width * row + row_width ≤ length table.now }
+    requires { RowInside table.now row }
     ensures { result ≡ max known (height table.now row) }
 {
-    if table::kind(table, row) != Kind::FORM {
+    if !table::has_kind(table, row, Kind::Form) {
         return known;
     }
-    let height = table::mark(table, row);
-    if height < known {
-        return known;
-    }
-    height
+    known.max(table::mark(table, row))
 }
 
 // The height of the expressions written from a row up to another.
@@ -35,6 +30,7 @@ fn highest(table: &[u32], first: usize, end: usize) -> u32
 {
     let mut row = first;
     let mut height: u32 = 0;
+    // Kept: a `while`, since only an expression's row tells where the next begins.
     while row < end {
         height = higher(table, row, height);
         row = table::next(table, row);
@@ -47,10 +43,8 @@ pub fn measure(table: &mut [u32], rows: usize)
     requires { Measurable table.old rows }
     ensures { Changed table.old table.new 0 rows × SameLinks table.old table.new × SameOthers table.old table.new × ((s : List ℕ) → Measured s table.new 0 rows) }
 {
-    let mut row = rows;
-    while 0 < row {
-        row -= 1;
-        if table::kind(table, row) == Kind::FORM {
+    for row in (0..rows).rev() {
+        if table::has_kind(table, row, Kind::Form) {
             let inside = highest(table, row + 1, table::next(table, row));
             numbers::put_mark(table, row, inside + 1);
         }
@@ -76,6 +70,7 @@ pub fn is_deep(table: &[u32], form: Form) -> bool
     let end = form.end;
     let flat = form.flat;
     let mut row = form.first;
+    // Kept: a `while`, since only an expression's row tells where the next begins.
     while row < end {
         if 63 < height_of(table, forms::element(table, flat, row)) {
             return true;

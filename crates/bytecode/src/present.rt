@@ -14,14 +14,11 @@ fn is_star(s: &[u8], table: &[u32], row: usize) -> bool
     requires { (e : Node) × WrittenAt s.now table.now row e }
     ensures { (e : Node) → WrittenAt s.now table.now row e → result ≡ is_name prefix* e }
 {
-    if table::kind(table, row) != Kind::REFERENCE {
+    if !table::has_kind(table, row, Kind::Reference) {
         return false;
     }
     let at = table::start(table, row);
-    if s[at] != 0x20 {
-        return false;
-    }
-    s[at + 1] == 0x31
+    s[at] == 0x20 && s[at + 1] == 0x31
 }
 
 // Whether `prefix*` is at a row from `first` on, of so many.
@@ -30,12 +27,10 @@ pub fn is_present(s: &[u8], table: &[u32], first: usize, rows: usize) -> bool
     ensures { (result ≡ true → StarAmong s.now table.now first rows)
         × ((es : Nodes) → WrittenAll s.now table.now first rows es → result ≡ false → UnnamedAll es) }
 {
-    let mut row = first;
-    while row < rows {
+    for row in first..rows {
         if is_star(s, table, row) {
             return true;
         }
-        row += 1;
     }
     false
 }

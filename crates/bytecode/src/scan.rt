@@ -1,53 +1,53 @@
 // All bytecode forms of a stream, those outside first.
-ghost use Rattle.std.specs.Prelude.{◌≡◌, List, false, ℕ, ◌+◌, ◌*◌, ◌≤◌, ◌<◌, length, eqb};
+ghost use Rattle.std.specs.Prelude.{◌≡◌, List, false, ℕ, ◌+◌, ◌<◌, eqb};
 ghost use Rattle.spec.specs.Expr.{when◌then◌else◌};
-ghost use Rattle.spec.specs.Reading.{row_width};
 ghost use Rattle.spec.specs.Nodes.{Nodes};
 ghost use Rattle.spec.specs.Bytecode.{Around, all, transform_all};
 ghost use Rattle.spec.proofs.Flat.{arity_list};
-ghost use Rattle.rows.specs.Rows.{mark, link, WrittenAll, NodesAt};
+ghost use Rattle.rows.specs.Rows.{RowInside, mark, link, WrittenAll, NodesAt};
 ghost use Rattle.bytecode.specs.Numbers.{Changed};
+ghost use Rattle.bytecode.specs.Gathered.{refusal_of};
 ghost use Rattle.bytecode.specs.Frames.{Frame};
 ghost use Rattle.bytecode.specs.Scanned.{AroundAt, Nearest, HeadedAt, Enclosed, Standing, Moved, StarRefusal, Judged, Starred, FormChanged, Readable};
 
 use crate::arities::Arities;
 use crate::{arities, around, flat, heights, numbers};
+use atoms::Reason;
 use rows::forms::{Form, Node};
 use rows::words::Core;
 use rows::{forms, table};
 
 // The row that comes next, and the arity list of the nearest `prefix*` form around it; 0 if there is none.
-#[derive(Clone, Copy)]
+// Kept: 0 for none, as the table's links have it: an Option would be made of each link that is read, and 0 of each that is put.
+#[derive(Clone, Copy, Debug, PartialEq, Eq)]
 struct Scan {
     row: usize,
     around: usize,
 }
 
-// The mark of a bytecode form: its refusal, or which of its elements are the flat list.
-fn put_verdict(table: &mut [u32], form: Form, refusal: u32, fine: u32)
-    requires { (row_width * form.first + row_width ≤ length table.old) × (refusal < 128) × (fine < 128) }
-    ensures { Changed table.old table.new form.first (form.first + 1) × (mark table.new form.first ≡ (when eqb refusal 0 then fine else refusal)) × (link table.new form.first ≡ link table.old form.first) }
+// The mark of a bytecode form: its refusal's number, or which of its elements are the flat list.
+// Kept: 1 and 2 are numbers, as `OutcomeAt` has them in the table.
+fn put_verdict(table: &mut [u32], form: Form, verdict: Result<(), Reason>, fine: u32)
+    requires { RowInside table.old form.first × (fine < 128) }
+    ensures { Changed table.old table.new form.first (form.first + 1) × (mark table.new form.first ≡ (when eqb (refusal_of verdict) 0 then fine else refusal_of verdict)) × (link table.new form.first ≡ link table.old form.first) }
 {
-    if refusal == 0 {
-        numbers::put_mark(table, form.first, fine);
-    } else {
-        numbers::put_mark(table, form.first, refusal);
-    }
+    let mark = match verdict {
+        Ok(()) => fine,
+        Err(reason) => u32::from(reason),
+    };
+    numbers::put_mark(table, form.first, mark);
 }
 
-// Transforms a form headed by `prefix*`. Gives its refusal; 0 if none.
-fn star_flat(s: &[u8], table: &mut [u32], form: Form) -> u32
+// Transforms a form headed by `prefix*`, or refuses it.
+fn star_flat(s: &[u8], table: &mut [u32], form: Form) -> Result<(), Reason>
     requires { (es : Nodes) × HeadedAt s.now table.old form es }
     ensures { Changed table.old table.new (form.first + 1) form.end
         × ((es : Nodes) (out : Around) → HeadedAt s.now table.old form es
-        → StarRefusal s.now table.new form out es (arity_list es) result) }
+        → StarRefusal s.now table.new form out es (arity_list es) (refusal_of result)) }
 {
     let list = form.first + 1;
-    if form.end <= list {
-        return 22;
-    }
-    if !arities::name_list(s, table, list) {
-        return 22;
+    if form.end <= list || !arities::name_list(s, table, list) {
+        return Err(Reason::WrongBytecode);
     }
     let own = Arities { tree: list };
     flat::unflatten(s, table, own, form.flat_from(table::next(table, list)))
@@ -60,9 +60,9 @@ fn star(s: &[u8], table: &mut [u32], form: Form, around: usize) -> Scan
         × ((es : Nodes) (out : Around) → HeadedAt s.now table.old form es → Enclosed s.now table.old form around out
         → Starred s.now table.new form around out es (arity_list es) result) }
 {
-    let refusal = star_flat(s, table, form);
-    put_verdict(table, form, refusal, 2);
-    if refusal != 0 {
+    let verdict = star_flat(s, table, form);
+    put_verdict(table, form, verdict, 2);
+    if verdict.is_err() {
         return Scan {
             row: form.end,
             around,
@@ -87,9 +87,9 @@ fn nested(s: &[u8], table: &mut [u32], form: Form, around: usize) -> Scan
 {
     let first = form.first + 1;
     let all = Arities { tree: around::ALL };
-    let refusal = flat::unflatten(s, table, all, form.flat_from(first));
-    put_verdict(table, form, refusal, 1);
-    if refusal != 0 {
+    let verdict = flat::unflatten(s, table, all, form.flat_from(first));
+    put_verdict(table, form, verdict, 1);
+    if verdict.is_err() {
         return Scan {
             row: form.end,
             around,
@@ -104,6 +104,7 @@ fn nearest(s: &[u8], table: &mut [u32], around: usize, row: usize) -> usize
     ensures { (out : Around) → AroundAt s.now table.old row around out → Nearest s.now table.old table.new row around out result }
 {
     let mut list = around;
+    // Kept: a `while`, since only a list's link tells the list around it.
     while list != 0 {
         if row < table::link(table, list - 1) {
             return list;
@@ -126,21 +127,13 @@ fn visit(s: &[u8], table: &mut [u32], scan: Scan) -> Scan
         row: row + 1,
         around,
     };
-    match forms::element(table, true, row) {
-        Node::Leaf => inside,
-        Node::Branch(form) => {
-            let key = form.head_key(s, table);
-            if key == Core::PREFIX_STAR {
-                return star(s, table, form, around);
-            }
-            if key != Core::PREFIX {
-                return inside;
-            }
-            if around == 0 {
-                return inside;
-            }
-            nested(s, table, form, around)
-        }
+    let Node::Branch(form) = forms::element(table, true, row) else {
+        return inside;
+    };
+    match form.head_key(s, table) {
+        Core::PREFIX_STAR => star(s, table, form, around),
+        Core::PREFIX if around != 0 => nested(s, table, form, around),
+        _ => inside,
     }
 }
 
@@ -152,6 +145,7 @@ pub fn transform(s: &[u8], table: &mut [u32], rows: usize)
 {
     heights::measure(table, rows);
     let mut scan = Scan { row: 0, around: 0 };
+    // Kept: a `while`, since only a visit tells what comes next.
     while scan.row < rows {
         scan = visit(s, table, scan);
     }

@@ -6,29 +6,32 @@ ghost use Rattle.bytecode.specs.Named.{Tree, Sought};
 use crate::numbers;
 use rows::table;
 
-// Where a search by key ends: at the reference with that key, or where it would be put.
-#[derive(Clone, Copy)]
-pub enum Place {
-    Taken { row: usize },
-    Vacant { row: usize, bit: usize },
+// Where a reference would be put: as which child of which row.
+#[derive(Clone, Copy, Debug, PartialEq, Eq)]
+pub struct Vacancy {
+    pub row: usize,
+    pub bit: usize,
 }
 
-pub fn seek(s: &[u8], table: &[u32], tree: usize, key: u32) -> Place
+// Searches by key: the row of the reference with that key, or else where it would be put.
+pub fn seek(s: &[u8], table: &[u32], tree: usize, key: u32) -> Result<usize, Vacancy>
     requires { (to : ℕ) × (node : ℕ → ℕ) × Tree s.now table.now tree to node }
     ensures { Sought s.now table.now tree key result }
 {
     let mut bits = key;
-    let mut last = tree;
-    let mut bit: usize = 1;
-    let mut row = numbers::child(table, last, bit);
-    while row != 0 {
-        if table::key(s, table, row) == key {
-            return Place::Taken { row };
+    let mut at = Vacancy { row: tree, bit: 1 };
+    loop {
+        let row = numbers::child(table, at.row, at.bit);
+        if row == 0 {
+            return Err(at);
         }
-        last = row;
-        bit = (bits % 2) as usize;
-        bits = bits / 2;
-        row = numbers::child(table, row, bit);
+        if table::key(s, table, row) == key {
+            return Ok(row);
+        }
+        at = Vacancy {
+            row,
+            bit: (bits % 2) as usize,
+        };
+        bits /= 2;
     }
-    Place::Vacant { row: last, bit }
 }

@@ -7,6 +7,7 @@ use mathlib.Core.Bool.{false}
 use native.Mathlib.Omega.{arith}
 use lib.ListN.{length, take, drop}
 use lib.Seq.{slice}
+use Rattle.std.specs.Prelude.{Result, Ok, Err}
 use Rattle.spec.specs.Expr.{when◌then◌else◌, form, Exprs, only, size, deepest, canonical}
 use Rattle.spec.specs.Nodes.{Nodes}
 use Rattle.spec.specs.Runs.{Held, ceased, hold}
@@ -19,10 +20,9 @@ use Rattle.laws.proofs.Holding.{hold_reached, hold_code_none, hold_code}
 use Rattle.rows.specs.Rows.{NodesAt}
 use Rattle.rows.specs.declared.forms.Form.{Form}
 use Rattle.rows.proofs.Slices.{slice_take}
+use Rattle.atoms.specs.declared.refusal.Refusal.{Refusal}
 use Rattle.workspace.specs.Completed.{with_top, Completed, ArgumentsAt}
 use Rattle.workspace.specs.declared.values.State.{State}
-use Rattle.workspace.specs.declared.values.Out.{Out}
-use Rattle.workspace.specs.declared.values.Out.TheVariants.{Done, Refused}
 use Rattle.workspace.proofs.Areas.{stand_size, stand_part, untouched_less}
 use Rattle.rules.specs.Scope.{latest, View, view}
 use Rattle.rules.specs.Settings.{in_code_of, CodeAt, Shows, in_code, of_other}
@@ -33,7 +33,7 @@ use Rattle.rules.specs.declared.plan.After.{After}
 use Rattle.rules.specs.declared.plan.After.TheVariants.{Make, Function, Code}
 use Rattle.rules.proofs.Latest.{latest_length, latest_fewer}
 use Rattle.rules.proofs.Shown.{sees_kept}
-use Rattle.evaluator.specs.Listed.{Ready, Over, LeftOut, as_left, Finishing, Ran, in_body, Calling, SomeCalling, CalledBy, EndsBy, by_making, by_calling, Ending, SomeEnding, EndedBy}
+use Rattle.evaluator.specs.Listed.{Ready, Over, LeftBy, left_as, Finishing, Ran, in_body, Calling, SomeCalling, CalledBy, EndsBy, by_making, by_calling, Ending, SomeEnding, EndedBy}
 use Rattle.evaluator.proofs.Begins.{completed_left, extends_none}
 use Rattle.evaluator.proofs.Insides.{left_from}
 
@@ -118,12 +118,12 @@ module _ {s t : List ℕ} {bound codes : ℕ} {w : List ℕ} {u v : View} {st : 
       pub call_stopped : (n r : ℕ) → body_held ≡ ceased n r → call_held row ≡ ceased n r
       call_stopped n r e = call_held_is ∙ rw e
 
-      pub call_returns : {w₁ : List ℕ} {st₁ : State} (o : Over w w₁ st body_held st₁) (w₂ : List ℕ) (sc : Scope) (out : Out)
+      pub call_returns : {w₁ : List ℕ} {st₁ : State} (o : Over w w₁ st body_held st₁) (w₂ : List ℕ) (sc : Scope) (out : Result State Refusal)
           → Completed w₁ w₂ st₁ start row (when one_value body then o.left.values else only (form o.left.values)) out
-          → LeftOut s t w w₂ (λ (x : Scope). u) sc (with_top st st.room start) (call_held row) sc out
+          → LeftBy s t w w₂ (λ (x : Scope). u) sc (with_top st st.room start) (call_held row) (left_as sc out)
       call_returns {w₁} {st₁} o w₂ sc out done =
           let us : Exprs = o.left.values in
-          left_from s t w w₁ w₂ (λ (x : Scope). u) sc sc (with_top st st.room start) st₁ out
+          left_from s t w w₁ w₂ (λ (x : Scope). u) sc (with_top st st.room start) st₁ (left_as sc out)
           (untouched_less start st.floor k.finishing.stand.order (omega arith) o.others) o.floor (call_held_is ∙ rw o.is)
           (completed_left s t w₁ w₂ (λ (x : Scope). u) sc sc (with_top st₁ st₁.room start) st₁ row (when one_value body then us else only (form us)) h out
           refl (ran o).fitting (omega (arith, k.finishing.stand.order, o.stand.order)) (extends_none sc) (rw o.floor (sees_kept k.sees o.others)) done)
@@ -177,15 +177,15 @@ module _ {s t w : List ℕ} {u v : View} {st : State} {at at' : Seen} {f : Form}
       let c = calling x.ends in
       record { bound = x.bound; codes = x.codes; around = u; body = c.0; behind = c.1; here = x.here; values = x.values; calls = c.3 }
 
-  pub call_ends : (w' : List ℕ) (see : Scope → View) (row : ℕ) (out : Out) → see at.scope ≡ u → CalledBy s t w w' v st at' f start row out
-      → EndedBy s t w w' u see at start row after (Done st) (as_left at.scope out)
+  pub call_ends : (w' : List ℕ) (see : Scope → View) (row : ℕ) (out : Result State Refusal) → see at.scope ≡ u → CalledBy s t w w' v st at' f start row out
+      → EndedBy s t w w' u see at st start row after (left_as at.scope out)
   call_ends w' see row out kept called bound codes h vs g x =
       let c = calling x in rw c.2 (go _ out (called bound codes u c.0 c.1 h vs c.3))
     where
-      go : (held : Held Left) (o : Out) → LeftOut s t w w' (λ (sc : Scope). u) at'.scope (with_top st st.room start) held at'.scope o
-          → LeftOut s t w w' see at.scope (with_top st st.room start) held at.scope o
-      go held (Done st') (l, _) = (rw kept l, extends_none _)
-      go held (Refused n r) e = e
+      go : (held : Held Left) (o : Result State Refusal) → LeftBy s t w w' (λ (sc : Scope). u) at'.scope (with_top st st.room start) held (left_as at'.scope o)
+          → LeftBy s t w w' see at.scope (with_top st st.room start) held (left_as at.scope o)
+      go held (Ok st') (l, _) = (rw kept l, extends_none _)
+      go held (Err r) e = e
 
 -- the code of a function
 pub function_code : {s t w : List ℕ} {v : View} {st : State} {at : Seen} {start code visible : ℕ} → SomeEnding s t w v st at start (Function code visible)

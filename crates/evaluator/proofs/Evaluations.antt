@@ -9,13 +9,14 @@ use lib.Seq.{take-append-le}
 use borrow.Author.Tests.{not-false}
 use native.Mathlib.Decide.{dec_lt}
 use native.Mathlib.Omega.{arith}
+use Rattle.std.specs.Prelude.{Result, Ok, Err}
 use Rattle.spec.specs.Expr.{when◌then◌else◌, same, int, ref, Expr, atom, form, Exprs, none, more, rows, rows_all, depth, deepest, marker_bytes, canonical}
 use Rattle.spec.specs.Reading.{Row, row_width, readable}
 use Rattle.spec.specs.Nodes.{core, version, Node, Nodes, empty, number, number_all, elements, markers_all}
 use Rattle.spec.specs.Bytecode.{node_depth, nodes_deepest, transform_all}
-use Rattle.spec.specs.Runs.{End, stopped, give, Held, reached, ceased, hold_events, hold, forget, cut, steps_in}
+use Rattle.spec.specs.Runs.{End, give, Held, reached, ceased, hold_events, hold, forget, cut, steps_in}
 use Rattle.spec.specs.Evaluation.{Left, run_code, start, run, result}
-use Rattle.spec.specs.Calls.{filled, reading, is_versioned, version_bytes, end_answer, Evaluate}
+use Rattle.spec.specs.Calls.{filled, reading, is_versioned, version_bytes, refusal, end_answer, Evaluate}
 use Rattle.spec.proofs.Unchanged.{UnnamedAll, transform_all_unnamed}
 use Rattle.laws.specs.Demands.{Bytes, Lent}
 use Rattle.laws.specs.Holding.{and_hold, in_list}
@@ -24,7 +25,10 @@ use Rattle.laws.proofs.Basics.{impossible}
 use Rattle.laws.proofs.Reading.{read_readable, read_first, Meant, meant}
 use Rattle.laws.proofs.Values.{stream_fits, run_proper}
 use Rattle.laws.proofs.Holding.{hold_bind, hold_reached, hold_ceased_row, hold_run}
-use Rattle.laws.proofs.Calls.{unversioned, wrong_version, runs, evaluation_answered, cut_refused, not_accepted, rows_fit, filled_length}
+use Rattle.laws.proofs.Calls.{unversioned, wrong_version, runs, evaluation_answered, rows_fit, filled_length}
+use Rattle.atoms.specs.Refusals.{number as number_of, refused}
+use Rattle.atoms.specs.declared.refusal.Reason.{Reason}
+use Rattle.atoms.specs.declared.refusal.Refusal.{Refusal}
 use Rattle.rows.specs.Rows.{cell, start as start_of, next, WrittenAt, WrittenAll, NodeAt, NodesAt}
 use Rattle.rows.specs.Forms.{leads, IsElement, an_atom}
 use Rattle.rows.specs.declared.forms.Node.TheVariants.{Leaf}
@@ -33,8 +37,6 @@ use Rattle.rows.proofs.Written.{written_each}
 use Rattle.rows.proofs.Filled.{filled_starts, filled_written, filled_plain, filled_nodes}
 use Rattle.rows.proofs.Same.{same_equal}
 use Rattle.workspace.specs.declared.values.State.{State}
-use Rattle.workspace.specs.declared.values.Out.{Out}
-use Rattle.workspace.specs.declared.values.Out.TheVariants.{Done, Refused as Stopped}
 use Rattle.bytecode.specs.Scanned.{Readable}
 use Rattle.rules.specs.Scope.{latest, view}
 use Rattle.rules.specs.Associations.{Linked}
@@ -42,7 +44,6 @@ use Rattle.rules.specs.Settings.{at_top_level, Shows, no_code, of_top}
 use Rattle.rules.specs.declared.here.Here.{Here as Seen}
 use Rattle.evaluator.specs.Listed.{Ready, Met}
 use Rattle.evaluator.specs.Evaluated.{HasRead, Arranged, ResultStands, Ended, Evaluated}
-use Rattle.evaluator.specs.declared.Result.TheVariants.{Is, Refused}
 
 -- The first expression
 
@@ -59,7 +60,7 @@ module _ (s u : List ℕ) (n : ℕ) where
   versioned_none none at h = refl
   versioned_none (more e es) at h = absurd (omega (arith, (nodes_first s u false 0 n (number 0 e) (number_all (0 + rows e) es) at).0))
 
-  pub versioned_first : (es : Exprs) → NodesAt s u false 0 n (number_all 0 es) → 0 < n
+  versioned_first : (es : Exprs) → NodesAt s u false 0 n (number_all 0 es) → 0 < n
       → (head : Node) × NodeAt s u false 0 head × (leads version (elements head) ≡ is_versioned es)
   unfolding number NodeAt
   versioned_first none at h = absurd (omega (arith, at))
@@ -155,6 +156,10 @@ module _ (s u : List ℕ) (n : ℕ) (b : Bytes s) (has : HasRead s u n) where
   pub stream_nodes : NodesAt s u false 0 n (number_all 0 es)
   stream_nodes = rw (← has.counted, ← has.filled_in) at (filled_nodes s has.before (length has.before / row_width) has.rows es b has.is)
 
+  -- its first expression
+  pub stream_first : 0 < n → (head : Node) × NodeAt s u false 0 head × (leads version (elements head) ≡ is_versioned es)
+  stream_first h = versioned_first s u n es stream_nodes h
+
   pub stream_plain : (r : ℕ) → r < n → (cell u r 0 < 256) × (cell u r 1 < 65536)
   stream_plain = rw (← has.counted, ← has.filled_in) at (filled_plain s has.before (length has.before / row_width) has.rows es b has.is)
 
@@ -237,12 +242,12 @@ module _ (s u : List ℕ) (n : ℕ) (es : Exprs) (at : Arranged s u n es) where
         ∙ hold_run es steps (length w)
         ∙ ap (λ (y : Held Left). and_hold y (λ left a c. reached left.values a c)) q
 
-    pub stream_ended : (out : Out) → Met w w' (first_state steps w) held out → Ended steps w w' n es out
+    pub stream_ended : (out : Result State Refusal) → Met w w' (first_state steps w) held out → Ended steps w w' n es out
     stream_ended = go (hold steps (length w) (run es)) refl
       where
-        go : (x : Held (List Exprs)) → hold steps (length w) (run es) ≡ x → (out : Out) → Met w w' (first_state steps w) held out
+        go : (x : Held (List Exprs)) → hold steps (length w) (run es) ≡ x → (out : Result State Refusal) → Met w w' (first_state steps w) held out
             → Ended steps w w' n es out
-        go (reached ls a c) e (Done st) over =
+        go (reached ls a c) e (Ok st) over =
             let q : reached (result ls) a c ≡ reached over.left.values st.steps st.room = rw e at (run_held over.is) in
             let values : result ls ≡ over.left.values = cc in
             let left : a ≡ st.steps = cc in
@@ -255,13 +260,12 @@ module _ (s u : List ℕ) (n : ℕ) (es : Exprs) (at : Arranged s u n es) where
               fewer = omega (arith, k.1, left);
               taken = omega (arith, k.1, left);
             }
-        go (ceased x y) e (Done st) over = impossible (cc (run_held over.is))
-        go (reached ls a c) e (Stopped v r) is = impossible (cc (run_held is))
-        go (ceased x y) e (Stopped v r) is =
-            let stops : hold steps (length w) (run es) ≡ ceased v r = cc (run_held is) in
-            let cuts : cut steps (length w) (run es).events (run es).end ≡ stopped v r = ap forget stops in
-            let low = hold_ceased_row (rows_all es) steps (length w) (run es) v r (run_proper es at.fits) stops in
-            (omega (arith, not_accepted v (cut_refused es at.fits steps (length w) v r cuts)), omega (arith, low, at.counted), cuts)
+        go (ceased x y) e (Ok st) over = impossible (cc (run_held over.is))
+        go (reached ls a c) e (Err r) is = impossible (cc (run_held is))
+        go (ceased x y) e (Err r) is =
+            let stops : hold steps (length w) (run es) ≡ ceased (number_of r.reason) r.place = cc (run_held is) in
+            let low = hold_ceased_row (rows_all es) steps (length w) (run es) (number_of r.reason) r.place (run_proper es at.fits) stops in
+            (omega (arith, low, at.counted), ap forget stops)
 
 -- What is answered
 
@@ -270,13 +274,13 @@ module _ (s t w out : List ℕ) (steps : ℕ) (rs : List Row) (es : Exprs) (read
   lent = record { table = t; work = length w; output = out; steps = steps }
 
   -- a refusal says nothing of the workspace
-  pub answer_version : not (same (take 6 s) version_bytes) ≡ true → (number : ℕ) → number ≡ (when is_versioned es then 10 else 9)
-      → Evaluated s t w w out steps rs (Refused number 0)
-  answer_version h number q = rw q (go (is_versioned es) refl)
+  pub answer_version : not (same (take 6 s) version_bytes) ≡ true → (reason : Reason) → number_of reason ≡ (when is_versioned es then 10 else 9)
+      → Evaluated s t w w out steps rs (Err (refused reason 0))
+  answer_version h reason q = rw q (go (is_versioned es) refl)
     where
-      go : (v : Bool) → is_versioned es ≡ v → Evaluated s t w w out steps rs (Refused (when v then 10 else 9) 0)
-      go true v = (omega arith, evaluation_answered s lent (wrong_version rs es reads (ap not v) h))
-      go false v = (omega arith, evaluation_answered s lent (unversioned rs es reads (ap not v)))
+      go : (v : Bool) → is_versioned es ≡ v → Evaluate s t (length w) out steps ≡ refusal (when v then 10 else 9) 0 (filled rs t) out
+      go true v = evaluation_answered s lent (wrong_version rs es reads (ap not v) h)
+      go false v = evaluation_answered s lent (unversioned rs es reads (ap not v))
 
   -- the run had the first bytes of the workspace, so many as count
   module _ (b : Bytes s) (h : not (same (take 6 s) version_bytes) ≡ false) (size : ℕ) (is : size ≡ min (length w) 65536) where
@@ -291,12 +295,12 @@ module _ (s t w out : List ℕ) (steps : ℕ) (rs : List Row) (es : Exprs) (read
 
     -- it left them as w'
     pub answer_done : (w' : List ℕ) (st : State) → ResultStands steps (take size w) w' es st
-        → Evaluated s t w (w' ++ drop size w) out steps rs (Is st.top (steps - st.steps))
+        → Evaluated s t w (w' ++ drop size w) out steps rs (Ok (record { length = st.top; steps = steps - st.steps }))
     answer_done w' st f = (
       omega (arith, length-append w' (drop size w), f.inside),
       rw (take-append-le st.top w' (drop size w) f.inside, f.bytes, f.taken) (ends f.is),
     )
 
-    pub answer_stopped : (count : ℕ) → count ≡ length rs → (n r p : ℕ) → Ended steps (take size w) w count es (Stopped n r) → p ≡ start_of (filled rs t) r
-        → Evaluated s t w w out steps rs (Refused n p)
-    answer_stopped count k n r p e q = (e.0, rw (q, filled_starts s t (length t / row_width) rs es b reads r (omega (arith, e.1, k))) (ends e.2))
+    pub answer_stopped : (count : ℕ) → count ≡ length rs → (r : Refusal) (p : ℕ) → Ended steps (take size w) w count es (Err r) → p ≡ start_of (filled rs t) r.place
+        → Evaluated s t w w out steps rs (Err (refused r.reason p))
+    answer_stopped count k r p e q = rw (q, filled_starts s t (length t / row_width) rs es b reads r.place (omega (arith, e.0, k))) (ends e.1)

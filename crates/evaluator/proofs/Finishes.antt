@@ -5,6 +5,7 @@ use mathlib.Core.Path.{◌≡◌, refl, ap, ◌∙◌}
 use mathlib.Core.List.{List, [], ◌∷◌, ◌++◌}
 use lib.ListN.{length, set, length-append}
 use native.Mathlib.Omega.{arith}
+use Rattle.std.specs.Prelude.{Result, Ok}
 use Rattle.spec.specs.Expr.{nil, array, int, ref, Expr, atom, form, Exprs, more, only, array_head, marker_bytes, atom_bytes, bytes, canonical}
 use Rattle.spec.specs.Runs.{stop, hold}
 use Rattle.spec.specs.Plan.{value, Here, Finish}
@@ -13,11 +14,10 @@ use Rattle.laws.proofs.Atoms.{head_bounds}
 use Rattle.laws.proofs.Fits.{FitsAll}
 use Rattle.laws.proofs.Holding.{hold_stop}
 use Rattle.laws.proofs.Singles.{Single}
+use Rattle.atoms.specs.declared.refusal.Refusal.{Refusal}
 use Rattle.workspace.specs.Packed.{pack}
 use Rattle.workspace.specs.Completed.{Stand, with_top, Completed, Joined, joined, no_arrays, Stored}
 use Rattle.workspace.specs.declared.values.State.{State}
-use Rattle.workspace.specs.declared.values.Out.{Out}
-use Rattle.workspace.specs.declared.values.Out.TheVariants.{Done}
 use Rattle.workspace.proofs.Areas.{stand_size}
 use Rattle.rules.specs.Entries.{definition}
 use Rattle.rules.specs.Scope.{view}
@@ -26,7 +26,7 @@ use Rattle.rules.specs.declared.scope.Scope.{Scope}
 use Rattle.rules.specs.declared.plan.Making.{Making}
 use Rattle.rules.specs.declared.plan.Making.TheVariants.{Form, Define, Concat}
 use Rattle.rules.proofs.Shown.{value_entry}
-use Rattle.evaluator.specs.Listed.{LeftBy, as_left, FinishedBy, by_form, by_define, by_concat, Finishing}
+use Rattle.evaluator.specs.Listed.{LeftBy, left_as, FinishedBy, by_form, by_define, by_concat, Finishing}
 use Rattle.evaluator.specs.declared.element.Left.{Left}
 use Rattle.evaluator.proofs.Begins.{completed_left, extends_none, defined_left}
 
@@ -52,7 +52,7 @@ module _ {w : List ℕ} {start : ℕ} {st : State} {sc : Scope} {vs : Exprs} whe
   pub can_define : {key : ℕ} {f : Finish} → FinishedBy sc (Define key) f → Finishing w st start f vs → (start < st.top) × (sc.defined < 256)
   can_define (by_define m n fits few) r = (single_stands r.finishable r.stand, few)
 
-  pub can_join : {f : Finish} → FinishedBy sc Concat f → Finishing w st start f vs
+  can_join : {f : Finish} → FinishedBy sc Concat f → Finishing w st start f vs
       → (a : Expr) × (b : Expr) × Stand w start st.top (more a (only b)) × FitsAll (more a (only b))
   can_join by_concat r = let two = r.finishable in (two.0, two.1, rw two.2 at r.stand, rw two.2 at r.sound.0)
 
@@ -75,27 +75,27 @@ join_others row (atom (array bs)) (atom (array cs)) h other = absurd (other bs c
 
 module _ (w w' definitions : List ℕ) (sc : Scope) (st : State) (start row : ℕ) where
   -- what is answered for the values of what is inside, whatever they are
-  abbrev pub Finished : List ℕ → Making → Left → Type 0
+  abbrev pub Finished : List ℕ → Making → Result Left Refusal → Type 0
   Finished definitions' making left =
       (s t numbers : List ℕ) (run : Call) (h : Here) (f : Finish) (vs : Exprs) → FinishedBy sc making f → Finishing w st start f vs
       → Sees s t w st.floor (view numbers definitions sc) h
       → LeftBy s t w w' (view numbers definitions') sc (with_top st st.room start) (hold st.steps st.room (finish run row h f vs)) left
 
-  pub form_finished : (out : Out) → ((vs : Exprs) → Stand w start st.top vs → FitsAll vs → Completed w w' st start row (only (form vs)) out)
-      → Finished definitions Form (as_left sc out)
+  pub form_finished : (out : Result State Refusal) → ((vs : Exprs) → Stand w start st.top vs → FitsAll vs → Completed w w' st start row (only (form vs)) out)
+      → Finished definitions Form (left_as sc out)
   form_finished out done s t numbers run h f vs by_form ready sees =
       completed_left s t w w' (view numbers definitions) sc sc (with_top st st.room start) st row (only (form vs)) h out refl ready.fitting ready.stand.order
       (extends_none sc) sees (done vs ready.stand ready.sound.0)
 
-  pub concat_finished : (out : Out)
+  pub concat_finished : (out : Result State Refusal)
       → ((a b : Expr) → Stand w start st.top (more a (only b)) → FitsAll (more a (only b)) → Joined w w' st start row a b out)
-      → Finished definitions Concat (as_left sc out)
+      → Finished definitions Concat (left_as sc out)
   unfolding join can_join
   concat_finished out done s t numbers run h f vs by_concat ready sees =
       let two = can_join {sc = sc} by_concat ready in rw ready.finishable.2 (go (done two.0 two.1 two.2 two.3))
     where
-      go : {a b : Expr} {r : Out} → Joined w w' st start row a b r
-          → LeftBy s t w w' (view numbers definitions) sc (with_top st st.room start) (hold st.steps st.room (join row [] (more a (only b)) h)) (as_left sc r)
+      go : {a b : Expr} {r : Result State Refusal} → Joined w w' st start row a b r
+          → LeftBy s t w w' (view numbers definitions) sc (with_top st st.room start) (hold st.steps st.room (join row [] (more a (only b)) h)) (left_as sc r)
       go {a} {b} {r} (joined bs cs is is' done) =
           rw (is, is', join)
           (completed_left s t w w' (view numbers definitions) sc sc (with_top st st.room start) st row (only (atom (array (bs ++ cs)))) h r refl ready.fitting
@@ -104,7 +104,7 @@ module _ (w w' definitions : List ℕ) (sc : Scope) (st : State) (start row : �
 
   pub define_finished : (key : ℕ) (st' : State) → length definitions ≡ 256 → Stored w w' st start st'
       → let e = definition key (pack st'.floor st.floor) in
-      Finished (set definitions sc.defined e) (Define key) (as_left (record { defined = sc.defined + 1; associated = sc.associated }) (Done st'))
+      Finished (set definitions sc.defined e) (Define key) (Ok (record { state = st'; scope = record { defined = sc.defined + 1; associated = sc.associated } }))
   define_finished key st' size stored s t numbers run h f vs (by_define m n fits few) ready sees =
       let e = definition key (pack st'.floor st.floor) in
       let fit = ready.fitting in

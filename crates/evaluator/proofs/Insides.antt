@@ -5,9 +5,10 @@ use mathlib.Core.Path.{◌≡◌, refl, ap, ◌∙◌}
 use mathlib.Core.List.{List}
 use native.Mathlib.Omega.{arith}
 use lib.ListN.{length}
+use Rattle.std.specs.Prelude.{Result, Ok, Err}
 use Rattle.spec.specs.Expr.{Exprs}
 use Rattle.spec.specs.Nodes.{Node, Nodes, empty, cons, elements}
-use Rattle.spec.specs.Runs.{done, Held, hold}
+use Rattle.spec.specs.Runs.{done, Held, ceased, hold}
 use Rattle.spec.specs.Plan.{Scope as Definitions, Within, Here, Finish, inside, plan}
 use Rattle.spec.specs.Evaluation.{Left, entering, finish, eval, run_code}
 use Rattle.laws.specs.Holding.{and_hold, NotTop, in_list, skip}
@@ -18,9 +19,9 @@ use Rattle.laws.proofs.Holding.{rule_plan, hold_reached, hold_inside}
 use Rattle.rows.specs.declared.forms.Form.{Form}
 use Rattle.rows.specs.declared.forms.Node.{Node as Ranged}
 use Rattle.rows.proofs.Parts.{element_place}
+use Rattle.atoms.specs.Refusals.{number}
+use Rattle.atoms.specs.declared.refusal.Refusal.{Refusal}
 use Rattle.workspace.specs.Completed.{with_top, Untouched}
-use Rattle.workspace.specs.declared.values.Out.{Out}
-use Rattle.workspace.specs.declared.values.Out.TheVariants.{Done, Refused}
 use Rattle.workspace.specs.declared.values.State.{State}
 use Rattle.workspace.proofs.Areas.{untouched_then}
 use Rattle.rules.specs.Scope.{View}
@@ -33,7 +34,7 @@ use Rattle.rules.specs.declared.plan.Making.{Making}
 use Rattle.rules.specs.declared.plan.After.{After}
 use Rattle.rules.specs.declared.plan.After.TheVariants.{Make}
 use Rattle.rules.proofs.Shown.{shows_kept, sees_kept}
-use Rattle.evaluator.specs.Listed.{Ready, SomeReady, Over, Met, Answered, LeftOut, LeftBy, GoesInside, Evaluating, as_left, FinishedBy, by_form, by_define, by_concat, Finishable, Finishing, SomeFinishing, EndsBy, by_making, by_calling, Ending, SomeEnding, CanEnd, EndedBy}
+use Rattle.evaluator.specs.Listed.{Ready, SomeReady, Over, Met, Answered, LeftBy, GoesInside, Evaluating, FinishedBy, by_form, by_define, by_concat, Finishable, Finishing, SomeFinishing, EndsBy, by_making, by_calling, Ending, SomeEnding, EndedBy}
 use Rattle.evaluator.specs.declared.element.Left.{Left as Answer}
 use Rattle.evaluator.proofs.Turns.{sees_in}
 
@@ -63,11 +64,6 @@ finishable bound codes h left (concat_finishes (two_more a b x plain plain')) fi
     in_list_pair bound codes b x (entering _ h) left fit.1.0 fit.1.1.0 plain plain' refl single e
 finishable bound codes h left (call_finishes after body behind called) fit single e = tt
 
--- the steps that are left with an answer
-abbrev pub steps_of : Out → ℕ
-steps_of (Done st) = st.steps
-steps_of (Refused n r) = 0
-
 -- A form whose elements were evaluated
 
 -- their values are made into others
@@ -79,28 +75,19 @@ module _ {s t w : List ℕ} {v : View} {at : Seen} {m : Making} where
   pub can_make : {st : State} {start : ℕ} → SomeEnding s t w v st at start (Make m) → SomeFinishing w at.scope st m start
   can_make x = record { finish = x.finish; values = x.values; by = made_by x.ends.by; finishing = x.ends.finishing }
 
-  pub making_ends : (st : State) (start : ℕ) (w' : List ℕ) (see : Scope → View) (row : ℕ) (left : Answer) → ((codes : ℕ) (h : Here) (f : Finish) (vs : Exprs)
+  pub making_ends : (st : State) (start : ℕ) (w' : List ℕ) (see : Scope → View) (row : ℕ) (left : Result Answer Refusal) → ((codes : ℕ) (h : Here) (f : Finish) (vs : Exprs)
       → FinishedBy at.scope m f → Finishing w st start f vs → Sees s t w st.floor v h
       → LeftBy s t w w' see at.scope (with_top st st.room start) (hold st.steps st.room (finish (run_code codes) row h f vs)) left)
-      → EndedBy s t w w' v see at start row (Make m) (Done st) left
+      → EndedBy s t w w' v see at st start row (Make m) left
   making_ends st start w' see row left makes bound codes h vs f x = makes codes h f vs (made_by x.by) x.finishing x.sees
-
--- whatever becomes of them
-module _ (s t w w' : List ℕ) (v : View) (see : Scope → View) (at : Seen) (start row : ℕ) (after : After) {out : Out} (left : Answer) where
-  pub ends_as : {after' : After} {st : State} → out ≡ Done st → after ≡ after' → EndedBy s t w w' v see at start row after' (Done st) left
-      → EndedBy s t w w' v see at start row after out left
-  ends_as told e x = rw (told, e) x
-
-  pub ends_refused : {n r : ℕ} → out ≡ Refused n r → left ≡ as_left at.scope out → EndedBy s t w w' v see at start row after out left
-  ends_refused told e = rw told (rw e told)
 
 -- What is inside
 
 -- what an expression leaves, counted from where its inside was done
-pub left_from : (s t w w₁ w₂ : List ℕ) (see : Scope → View) (sc sc' : Scope) (st st₁ : State) {held held₁ : Held Left} (out : Out)
+pub left_from : (s t w w₁ w₂ : List ℕ) (see : Scope → View) (sc : Scope) (st st₁ : State) {held held₁ : Held Left} (left : Result Answer Refusal)
     → Untouched w w₁ st.top st.floor → st₁.floor ≡ st.floor → held ≡ held₁
-    → LeftOut s t w₁ w₂ see sc (with_top st₁ st₁.room st.top) held₁ sc' out → LeftOut s t w w₂ see sc st held sc' out
-left_from s t w w₁ w₂ see sc sc' st st₁ (Done st') u floor same (l, extends) = (
+    → LeftBy s t w₁ w₂ see sc (with_top st₁ st₁.room st.top) held₁ left → LeftBy s t w w₂ see sc st held left
+left_from s t w w₁ w₂ see sc st st₁ (Ok left) u floor same (l, extends) = (
   record {
     left = l.left;
     is = same ∙ l.is;
@@ -112,7 +99,7 @@ left_from s t w w₁ w₂ see sc sc' st st₁ (Done st') u floor same (l, extend
   },
   extends,
 )
-left_from s t w w₁ w₂ see sc sc' st st₁ (Refused n r) u floor same l = same ∙ l
+left_from s t w w₁ w₂ see sc st st₁ (Err r) u floor same l = same ∙ l
 
 module _ {s t : List ℕ} {bound codes : ℕ} {w args : List ℕ} {v : View} {st : State} {at : Seen} {node : Ranged} {row : ℕ} {e : Node} {h : Here}
     (x : Evaluating s t bound codes w args v st at node row e h) where
@@ -216,31 +203,29 @@ module _ {s t : List ℕ} {bound codes : ℕ} {w args : List ℕ} {v : View} {st
       inside_some = record { bound = bound; codes = codes; nodes = inner_nodes; here = inner_here; ready = inside_ready }
 
       -- where they were evaluated
-      module _ (w₁ : List ℕ) (out : Out) (answered : Answered s t w' w₁ args v' st' (in_list_of kind at) f out) where
-        met : Met w w₁ st' inner_held out
-        met = rw i.same at (answered bound codes inner_nodes inner_here inside_ready)
+      module _ (w₁ : List ℕ) where
+        met : (out : Result State Refusal) → Answered s t w' w₁ args v' st' (in_list_of kind at) f out → Met w w₁ st' inner_held out
+        met out answered = rw i.same at (answered bound codes inner_nodes inner_here inside_ready)
 
-        pub inside_steps : steps_of out < st.steps
-        inside_steps = go out met
-          where
-            go : (a : Out) → Met w w₁ st' inner_held a → steps_of a < st.steps
-            go (Done st₁) o = omega (arith, inside_fewer, (hold_reached st'.steps st'.room _ o.left st₁.steps st₁.room o.is).1)
-            go (Refused n r) q = omega (arith, inside_fewer)
+        -- it was refused there
+        pub inside_ceased : (r : Refusal) → Answered s t w' w₁ args v' st' (in_list_of kind at) f (Err r) → whole ≡ ceased (number r.reason) r.place
+        inside_ceased r answered = held_is ∙ rw (met (Err r) answered)
 
-        module _ (few : length v.definitions ≡ at.scope.defined) {v₁ : View} (kept : v₁ ≡ v') where
-          pub inside_can_end : CanEnd s t w₁ v₁ at st.top after out
-          inside_can_end = rw (kept, same) (go out met)
-            where
-              go : (a : Out) → Met w w₁ st' inner_held a → CanEnd s t w₁ v at st.top after a
-              go (Done st₁) o = record { bound = bound; codes = codes; here = h; values = o.left.values; finish = i.finish; ends = ending few o }
-              go (Refused n r) q = tt
+        -- it was done
+        module _ {st₁ : State} (answered : Answered s t w' w₁ args v' st' (in_list_of kind at) f (Ok st₁)) where
+          over : Over w w₁ st' inner_held st₁
+          over = met (Ok st₁) answered
 
-          pub inside_ends : (w₂ : List ℕ) (see : Scope → View) (left : Answer) → EndedBy s t w₁ w₂ v₁ see at st.top row after out left
-              → LeftBy s t w w₂ see at.scope st whole left
-          inside_ends w₂ see left ended = go out met (rw (kept, same) at ended)
-            where
-              go : (a : Out) → Met w w₁ st' inner_held a → EndedBy s t w₁ w₂ v see at st.top row after a left → LeftBy s t w w₂ see at.scope st whole left
-              go (Done st₁) o l =
-                  left_from s t w w₁ w₂ see at.scope left.scope st st₁ left.out (others_inside few o) (floor_inside few o) (held_is ∙ rw o.is)
-                  (l bound codes h o.left.values i.finish (ending few o))
-              go (Refused n r) q l = rw l (held_is ∙ rw q)
+          pub inside_steps : st₁.steps < st.steps
+          inside_steps = omega (arith, inside_fewer, (hold_reached st'.steps st'.room _ over.left st₁.steps st₁.room over.is).1)
+
+          module _ (few : length v.definitions ≡ at.scope.defined) {v₁ : View} (kept : v₁ ≡ v') where
+            pub inside_can_end : SomeEnding s t w₁ v₁ st₁ at st.top after
+            inside_can_end =
+                rw (kept, same) (record { bound = bound; codes = codes; here = h; values = over.left.values; finish = i.finish; ends = ending few over })
+
+            pub inside_ends : (w₂ : List ℕ) (see : Scope → View) (left : Result Answer Refusal) → EndedBy s t w₁ w₂ v₁ see at st₁ st.top row after left
+                → LeftBy s t w w₂ see at.scope st whole left
+            inside_ends w₂ see left ended =
+                left_from s t w w₁ w₂ see at.scope st st₁ left (others_inside few over) (floor_inside few over) (held_is ∙ rw over.is)
+                ((rw (kept, same) at ended) bound codes h over.left.values i.finish (ending few over))

@@ -6,6 +6,7 @@ use mathlib.Core.List.{List, ◌++◌, append-nil}
 use mathlib.Core.Bool.{Bool, true, false, or_comm}
 use native.Mathlib.Omega.{arith}
 use lib.Dec.{eqb}
+use Rattle.std.specs.Prelude.{Result}
 use Rattle.spec.specs.Expr.{some, Exprs, none, append}
 use Rattle.spec.specs.Nodes.{Node, Nodes, empty, cons, markers, markers_all}
 use Rattle.spec.specs.Runs.{Held, reached, ceased, hold}
@@ -22,9 +23,9 @@ use Rattle.rows.specs.Forms.{element_at, past as past_of}
 use Rattle.rows.specs.declared.forms.Node.{Node as Ranged}
 use Rattle.rows.proofs.Nodes.{MoreAt, append_nodes, markers_append, nodes_done, nodes_more, nodes_append, node_next_in}
 use Rattle.rows.proofs.Parts.{element_is, element_past}
+use Rattle.atoms.specs.declared.refusal.Refusal.{Refusal}
 use Rattle.workspace.specs.Completed.{Stand, with_floor, Untouched}
 use Rattle.workspace.specs.declared.values.State.{State}
-use Rattle.workspace.specs.declared.values.Out.{Out}
 use Rattle.workspace.proofs.Areas.{stand_none, stand_append, untouched_none, untouched_less, untouched_then, stand_below}
 use Rattle.rules.specs.Scope.{View}
 use Rattle.rules.specs.Settings.{showing, Sees, ArgumentsOf, ElementOf, of_top, of_data, of_other}
@@ -34,7 +35,7 @@ use Rattle.rules.specs.declared.here.Here.{Here as Seen}
 use Rattle.rules.proofs.Borne.{some_append}
 use Rattle.rules.proofs.Shown.{arguments_kept}
 use Rattle.evaluator.specs.declared.element.Left.{Left as Answer}
-use Rattle.evaluator.specs.Listed.{Ready, SomeReady, Over, LeftAt, LeftOut, Evaluating, EvaluatedBy}
+use Rattle.evaluator.specs.Listed.{Ready, SomeReady, Over, LeftAt, LeftBy, Evaluating, EvaluatedBy}
 
 -- Where the next expression is evaluated
 
@@ -153,10 +154,10 @@ module _ {s t : List ℕ} {bound codes : ℕ} {args : List ℕ} {flat : Bool} {e
             entered = r.entered;
           })
 
-      -- what it leaves, where its answer is this
-      pub leaves_as : {node : Ranged} → node ≡ element_at t flat row → (w' : List ℕ) (see : Scope → View) (left : Answer) {out : Out}
-          → EvaluatedBy s t w w' args v see st at node row left → left.out ≡ out → LeftOut s t w w' see at.scope st held_next left.scope out
-      leaves_as e w' see left by q = subst (LeftOut s t w w' see at.scope st held_next left.scope) q (by _ _ _ _ (going_evaluates e))
+      -- what it leaves
+      pub leaves_as : {node : Ranged} → node ≡ element_at t flat row → (w' : List ℕ) (see : Scope → View) (left : Result Answer Refusal) → EvaluatedBy s t w w' args v see st at node row left
+          → LeftBy s t w w' see at.scope st held_next left
+      leaves_as e w' see left by = by _ _ _ _ (going_evaluates e)
 
       -- where it ends
       pub going_past : {node : Ranged} {past : ℕ} → node ≡ element_at t flat row → past ≡ past_of row node → past ≡ behind t flat row

@@ -1,5 +1,5 @@
 -- What the evaluation of a stream that was read answers, against `Evaluate` of the crate `spec`. Document 01: "Evaluate". Assumes nothing.
-use Rattle.std.specs.Prelude.{ℕ, ◌-◌, ◌≤◌, ◌<◌, ◌≡◌, List, Bool, false, length, take}
+use Rattle.std.specs.Prelude.{ℕ, ◌-◌, ◌≤◌, ◌<◌, ◌≡◌, List, Bool, false, length, take, Result, Ok, Err}
 use Rattle.spec.specs.Expr.{Exprs, rows_all, canonical}
 use Rattle.spec.specs.Reading.{Row, readable}
 use Rattle.spec.specs.Nodes.{number_all}
@@ -8,13 +8,12 @@ use Rattle.spec.specs.Runs.{done, stopped, cut, steps_in}
 use Rattle.spec.specs.Evaluation.{run, result}
 use Rattle.spec.specs.Calls.{refusal, filled, put_out, reading, Evaluate}
 use Rattle.laws.proofs.Fits.{FitsAll}
+use Rattle.atoms.specs.Refusals.{number}
+use Rattle.atoms.specs.declared.refusal.Refusal.{Refusal}
 use Rattle.rows.specs.Rows.{NodesAt}
 use Rattle.workspace.specs.declared.values.State.{State}
-use Rattle.workspace.specs.declared.values.Out.{Out}
-use Rattle.workspace.specs.declared.values.Out.TheVariants.{Done, Refused as Stopped}
 use Rattle.bytecode.specs.Numbers.{Changed}
-use Rattle.evaluator.specs.declared.Result.{Result}
-use Rattle.evaluator.specs.declared.Result.TheVariants.{Is, Refused}
+use Rattle.evaluator.specs.declared.Evaluation.{Evaluation}
 
 -- the table has the rows of the stream, which are so many, over what another table had
 pub record HasRead (s table : List ℕ) (count : ℕ) : Type 0 where
@@ -46,13 +45,12 @@ pub record ResultStands (steps : ℕ) (w w' : List ℕ) (es : Exprs) (st : State
   pub taken : steps - st.steps ≡ steps_in (run es).events
 
 -- or it is refused, at one of so many rows
-abbrev pub Ended : ℕ → List ℕ → List ℕ → ℕ → Exprs → Out → Type 0
-Ended steps w w' count es (Done st) = ResultStands steps w w' es st
-Ended steps w w' count es (Stopped n r) = (1 ≤ n) × (r < count) × (cut steps (length w) (run es).events (run es).end ≡ stopped n r)
+abbrev pub Ended : ℕ → List ℕ → List ℕ → ℕ → Exprs → Result State Refusal → Type 0
+Ended steps w w' count es (Ok st) = ResultStands steps w w' es st
+Ended steps w w' count es (Err r) = (r.place < count) × (cut steps (length w) (run es).events (run es).end ≡ stopped (number r.reason) r.place)
 
 -- a refusal; or the bytes that are to be put out stand at the workspace's start
-abbrev pub Evaluated : List ℕ → List ℕ → List ℕ → List ℕ → List ℕ → ℕ → List Row → Result → Type 0
-Evaluated s t w w' out steps rs (Is size taken) =
-    (size ≤ length w') × (Evaluate s t (length w) out steps ≡ put_out (take size w') taken (filled rs t) out)
-Evaluated s t w w' out steps rs (Refused number place) =
-    (1 ≤ number) × (Evaluate s t (length w) out steps ≡ refusal number place (filled rs t) out)
+abbrev pub Evaluated : List ℕ → List ℕ → List ℕ → List ℕ → List ℕ → ℕ → List Row → Result Evaluation Refusal → Type 0
+Evaluated s t w w' out steps rs (Ok e) =
+    (e.length ≤ length w') × (Evaluate s t (length w) out steps ≡ put_out (take e.length w') e.steps (filled rs t) out)
+Evaluated s t w w' out steps rs (Err r) = Evaluate s t (length w) out steps ≡ refusal (number r.reason) r.place (filled rs t) out

@@ -1,6 +1,6 @@
 -- What the evaluator's functions know and answer, against `Evaluation` of the crate `spec`: the run held to the steps and the workspace that
 -- are left. Document 01: "Evaluation", "Steps" and "Workspace". Assumes nothing.
-use Rattle.std.specs.Prelude.{ℕ, ◌+◌, ◌≤◌, ◌<◌, ◌≡◌, List, Bool, true, false}
+use Rattle.std.specs.Prelude.{ℕ, ◌+◌, ◌≤◌, ◌<◌, ◌≡◌, List, Bool, true, false, Result, Ok, Err}
 use Rattle.spec.specs.Expr.{ref, Expr, Exprs, more, only}
 use Rattle.spec.specs.Nodes.{Node, Nodes, row, elements}
 use Rattle.spec.specs.Runs.{Held, reached, ceased, hold}
@@ -10,14 +10,14 @@ use Rattle.laws.specs.Holding.{NotTop, NoBytecode, in_list, skip}
 use Rattle.laws.proofs.Fits.{Fits, FitsNode, FitsNodes}
 use Rattle.laws.proofs.Singles.{Single, SingleScope}
 use Rattle.laws.proofs.Values.{Sound, SoundScope, SoundHere}
+use Rattle.atoms.specs.Refusals.{number}
+use Rattle.atoms.specs.declared.refusal.Refusal.{Refusal}
 use Rattle.rows.specs.Rows.{NodesAt, key_of}
 use Rattle.rows.specs.Forms.{IsElement}
 use Rattle.rows.specs.declared.forms.Form.{Form}
 use Rattle.rows.specs.declared.forms.Node.{Node as Ranged}
 use Rattle.workspace.specs.Completed.{Fitting, Stand, with_top, with_steps, Untouched}
 use Rattle.workspace.specs.declared.values.State.{State}
-use Rattle.workspace.specs.declared.values.Out.{Out}
-use Rattle.workspace.specs.declared.values.Out.TheVariants.{Done, Refused}
 use Rattle.rules.specs.Scope.{View}
 use Rattle.rules.specs.Settings.{Sees, Setting}
 use Rattle.rules.specs.Planned.{Called, Finishes}
@@ -29,7 +29,7 @@ use Rattle.rules.specs.declared.plan.After.{After}
 use Rattle.rules.specs.declared.plan.After.TheVariants.{Make}
 use Rattle.evaluator.specs.declared.element.Left.{Left as Answer}
 use Rattle.evaluator.specs.declared.element.Step.{Step}
-use Rattle.evaluator.specs.declared.element.Step.TheVariants.{Refused as Stops, Leaves, Inside}
+use Rattle.evaluator.specs.declared.element.Step.TheVariants.{Leaves, Inside}
 
 -- Lists
 
@@ -62,12 +62,12 @@ pub record Over (w w' : List ℕ) (st : State) (held : Held Left) (st' : State) 
   pub floor : st'.floor ≡ st.floor
   pub paid : st'.top + st'.room ≤ st'.floor
 
-abbrev pub Met : List ℕ → List ℕ → State → Held Left → Out → Type 0
-Met w w' st held (Done st') = Over w w' st held st'
-Met w w' st held (Refused n r) = held ≡ ceased n r
+abbrev pub Met : List ℕ → List ℕ → State → Held Left → Result State Refusal → Type 0
+Met w w' st held (Ok st') = Over w w' st held st'
+Met w w' st held (Err r) = held ≡ ceased (number r.reason) r.place
 
 -- so it is for all nodes that may be listed
-abbrev pub Answered : List ℕ → List ℕ → List ℕ → List ℕ → List ℕ → View → State → Seen → Form → Out → Type 0
+abbrev pub Answered : List ℕ → List ℕ → List ℕ → List ℕ → List ℕ → View → State → Seen → Form → Result State Refusal → Type 0
 Answered s t w w' args v st at f out =
     (bound codes : ℕ) (es : Nodes) (h : Here) → Ready s t bound codes w args v st at f.flat f.first f.end es h
     → Met w w' st (hold st.steps st.room (in_list (run_code codes) es h)) out
@@ -90,12 +90,9 @@ pub record Extends (sc sc' : Scope) : Type 0 where
   pub associated : sc.associated ≤ sc'.associated
 
 -- `see` is what a scope shows of the arrays as they are then
-abbrev pub LeftOut : List ℕ → List ℕ → List ℕ → List ℕ → (Scope → View) → Scope → State → Held Left → Scope → Out → Type 0
-LeftOut s t w w' see sc st held sc' (Done st') = LeftAt s t w w' (see sc') st held st' × Extends sc sc'
-LeftOut s t w w' see sc st held sc' (Refused n r) = held ≡ ceased n r
-
-abbrev pub LeftBy : List ℕ → List ℕ → List ℕ → List ℕ → (Scope → View) → Scope → State → Held Left → Answer → Type 0
-LeftBy s t w w' see sc st held left = LeftOut s t w w' see sc st held left.scope left.out
+abbrev pub LeftBy : List ℕ → List ℕ → List ℕ → List ℕ → (Scope → View) → Scope → State → Held Left → Result Answer Refusal → Type 0
+LeftBy s t w w' see sc st held (Ok left) = LeftAt s t w w' (see left.scope) st held left.state × Extends sc left.scope
+LeftBy s t w w' see sc st held (Err r) = held ≡ ceased (number r.reason) r.place
 
 -- The steps of an expression e are taken, from a state on: so many are left, and e' is to be evaluated by its rule. It is e itself, or what the
 -- bytecode form e is transformed to.
@@ -121,10 +118,10 @@ pub record GoesInside (s t : List ℕ) (bound : ℕ) (w w' : List ℕ) (v : View
   pub same : w' ≡ w
 
 -- after the step of an expression, held as a whole to `held`
-abbrev pub Begun : List ℕ → List ℕ → ℕ → List ℕ → List ℕ → View → (Scope → View) → Scope → State → Node → Here → Held Left → Step → Type 0
-Begun s t bound w w' v see sc st e h held (Stops n r) = held ≡ ceased n r
-Begun s t bound w w' v see sc st e h held (Leaves st' sc') = LeftAt s t w w' (see sc') st held st' × Extends sc sc'
-Begun s t bound w w' v see sc st e h held (Inside st' f after) = GoesInside s t bound w w' v sc st st' f e h after
+abbrev pub Begun : List ℕ → List ℕ → ℕ → List ℕ → List ℕ → View → (Scope → View) → Scope → State → Node → Here → Held Left → Result Step Refusal → Type 0
+Begun s t bound w w' v see sc st e h held (Ok (Leaves left)) = LeftAt s t w w' (see left.scope) st held left.state × Extends sc left.scope
+Begun s t bound w w' v see sc st e h held (Ok (Inside st' f after)) = GoesInside s t bound w w' v sc st st' f e h after
+Begun s t bound w w' v see sc st e h held (Err r) = held ≡ ceased (number r.reason) r.place
 
 -- the code's node is an element of a list, at a row, that is evaluated under h
 pub record Beginning (s t : List ℕ) (bound : ℕ) (w args : List ℕ) (v : View) (st : State) (at : Seen) (node : Ranged) (place : ℕ) (e : Node) (h : Here) : Type 0 where
@@ -153,19 +150,15 @@ pub record SomeEvaluating (s t w args : List ℕ) (v : View) (st : State) (at : 
   pub here : Here
   pub evaluates : Evaluating s t bound codes w args v st at node place expression here
 
-abbrev pub EvaluatedBy : List ℕ → List ℕ → List ℕ → List ℕ → List ℕ → View → (Scope → View) → State → Seen → Ranged → ℕ → Answer → Type 0
+abbrev pub EvaluatedBy : List ℕ → List ℕ → List ℕ → List ℕ → List ℕ → View → (Scope → View) → State → Seen → Ranged → ℕ → Result Answer Refusal → Type 0
 EvaluatedBy s t w w' args v see st at node place left =
     (bound codes : ℕ) (e : Node) (h : Here) → Evaluating s t bound codes w args v st at node place e h
     → LeftBy s t w w' see at.scope st (hold st.steps st.room (eval (run_code codes) e h)) left
 
--- what was completed, or refused; nothing more is visible
-abbrev pub as_left : Scope → Out → Answer
-as_left sc out = record { out = out; scope = sc }
-
--- the same of a step, where a scope is visible then
-abbrev pub as_step : Scope → Out → Step
-as_step sc (Done st) = Leaves st sc
-as_step sc (Refused n r) = Stops n r
+-- what was completed, or refused, where nothing more is visible
+abbrev pub left_as : Scope → Result State Refusal → Result Answer Refusal
+left_as sc (Ok st) = Ok (record { state = st; scope = sc })
+left_as sc (Err r) = Err r
 
 -- Finishing
 
@@ -235,11 +228,11 @@ pub record SomeCalling (s t w : List ℕ) (v : View) (st : State) (at : Seen) (f
   pub calls : Calling s t bound codes w around v st at f start body behind here values
 
 -- what a call at a row leaves; what is visible behind it is what was
-abbrev pub CalledBy : List ℕ → List ℕ → List ℕ → List ℕ → View → State → Seen → Form → ℕ → ℕ → Out → Type 0
+abbrev pub CalledBy : List ℕ → List ℕ → List ℕ → List ℕ → View → State → Seen → Form → ℕ → ℕ → Result State Refusal → Type 0
 CalledBy s t w w' v st at f start row out =
     (bound codes : ℕ) (u : View) (body : Nodes) (behind : Definitions) (h : Here) (vs : Exprs) → Calling s t bound codes w u v st at f start body behind h vs
-    → LeftOut s t w w' (λ (sc : Scope). u) at.scope (with_top st st.room start)
-    (hold st.steps st.room (finish (run_code codes) row h (as_call body behind) vs)) at.scope out
+    → LeftBy s t w w' (λ (sc : Scope). u) at.scope (with_top st st.room start)
+    (hold st.steps st.room (finish (run_code codes) row h (as_call body behind) vs)) (left_as at.scope out)
 
 -- A form whose elements were evaluated
 
@@ -262,14 +255,8 @@ pub record SomeEnding (s t w : List ℕ) (v : View) (st : State) (at : Seen) (st
   pub finish : Finish
   pub ends : Ending s t bound codes w v st at start after here values finish
 
--- if they were, there is something to finish
-abbrev pub CanEnd : List ℕ → List ℕ → List ℕ → View → Seen → ℕ → After → Out → Type 0
-CanEnd s t w v at start after (Done st) = SomeEnding s t w v st at start after
-CanEnd s t w v at start after (Refused n r) = Unit {0}
-
--- what the form at a row leaves; a refusal inside is its answer
-abbrev pub EndedBy : List ℕ → List ℕ → List ℕ → List ℕ → View → (Scope → View) → Seen → ℕ → ℕ → After → Out → Answer → Type 0
-EndedBy s t w w' v see at start row after (Done st) left =
+-- what the form at a row leaves
+abbrev pub EndedBy : List ℕ → List ℕ → List ℕ → List ℕ → View → (Scope → View) → Seen → State → ℕ → ℕ → After → Result Answer Refusal → Type 0
+EndedBy s t w w' v see at st start row after left =
     (bound codes : ℕ) (h : Here) (vs : Exprs) (f : Finish) → Ending s t bound codes w v st at start after h vs f
     → LeftBy s t w w' see at.scope (with_top st st.room start) (hold st.steps st.room (finish (run_code codes) row h f vs)) left
-EndedBy s t w w' v see at start row after (Refused n r) left = left.out ≡ Refused n r

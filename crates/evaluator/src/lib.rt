@@ -4,19 +4,20 @@
 mod element;
 mod run;
 
-ghost use Rattle.std.specs.Prelude.{◌≡◌, List, true, ℕ, ◌*◌, min, ◌≤◌, ◌<◌, length, take};
+ghost use Rattle.std.specs.Prelude.{◌≡◌, List, true, ℕ, ◌*◌, ◌≤◌, ◌<◌, length, take};
 ghost use Rattle.spec.specs.Expr.{when◌then◌else◌, same, Exprs};
 ghost use Rattle.spec.specs.Reading.{Row, row_width, readable};
 ghost use Rattle.spec.specs.Calls.{filled, reading, is_versioned, version_bytes};
+ghost use Rattle.atoms.specs.Refusals.{number};
 ghost use Rattle.rows.specs.Rows.{cell};
 ghost use Rattle.evaluator.specs.Evaluated.{HasRead, Arranged, Put, Ended, Evaluated};
-ghost use Rattle.evaluator.specs.declared.Result.TheVariants.{Refused};
 
+use atoms::{Reason, Refusal};
 use rows::forms::{Form, Node};
 use rows::words::Core;
-use rows::{compare, forms, table};
+use rows::{forms, table};
 use rules::here::Here;
-use workspace::values::{Out, State};
+use workspace::values::State;
 
 // The bytes that count of a workspace: no result is longer.
 pub const WORKSPACE_LIMIT: usize = 65536;
@@ -24,17 +25,11 @@ pub const WORKSPACE_LIMIT: usize = 65536;
 // The rows of the version form.
 const VERSION_ROWS: usize = 4;
 
-// The result's length and the steps taken, or a refusal.
-#[derive(Clone, Copy)]
-pub enum Result {
-    Is { length: usize, steps: u64 },
-    Refused { number: u32, place: usize },
-}
-
-fn refused(number: u32, place: usize) -> Result
-    ensures { result ≡ Refused number place }
-{
-    Result::Refused { number, place }
+// The result's length and the steps taken.
+#[derive(Clone, Copy, Debug, PartialEq, Eq)]
+pub struct Evaluation {
+    pub length: usize,
+    pub steps: u64,
 }
 
 // Whether the first expression is headed by `version`.
@@ -45,7 +40,7 @@ fn is_versioned(s: &[u8], table: &[u32], rows: usize) -> bool
     if rows == 0 {
         return false;
     }
-    match forms::at(table, 0) {
+    match forms::element(table, false, 0) {
         Node::Leaf => false,
         Node::Branch(form) => form.head_key(s, table) == Core::VERSION,
     }
@@ -55,31 +50,19 @@ fn is_versioned(s: &[u8], table: &[u32], rows: usize) -> bool
 fn has_version(s: &[u8]) -> bool
     ensures { result ≡ same (take 6 s.now) version_bytes }
 {
-    if s.len() < 6 {
-        return false;
-    }
-    compare::same_bytes(&s[..6], b"\x01\x20\x00\x81\x80\x02")
+    s.starts_with(b"\x01\x20\x00\x81\x80\x02")
 }
 
-// The refusal of a stream that doesn't begin with version 1.0.
-fn wrong_version(s: &[u8], table: &[u32], rows: usize) -> u32
+// Why a stream is refused that doesn't begin with version 1.0.
+fn wrong_version(s: &[u8], table: &[u32], rows: usize) -> Reason
     requires { HasRead s.now table.now rows }
-    ensures { (t : List ℕ) (rs : List Row) (es : Exprs) → reading s.now t ≡ readable rs es → result ≡ (when is_versioned es then 10 else 9) }
+    ensures { (t : List ℕ) (rs : List Row) (es : Exprs) → reading s.now t ≡ readable rs es → number result ≡ (when is_versioned es then 10 else 9) }
 {
     if is_versioned(s, table, rows) {
-        return 10;
+        Reason::OtherVersion
+    } else {
+        Reason::NoVersion
     }
-    9
-}
-
-// How much of the workspace counts.
-fn work_size(work: usize) -> usize
-    ensures { result ≡ min work 65536 }
-{
-    if work < WORKSPACE_LIMIT {
-        return work;
-    }
-    WORKSPACE_LIMIT
 }
 
 // Makes of a stream's bytecode what is evaluated. Tells whether there is any.
@@ -106,7 +89,13 @@ fn restore(table: &mut [u32], rows: usize, arranged: bool)
 }
 
 // Evaluates the whole stream in a workspace.
-fn evaluate_all(s: &[u8], table: &[u32], rows: usize, w: &mut [u8], steps: u64) -> Out
+fn evaluate_all(
+    s: &[u8],
+    table: &[u32],
+    rows: usize,
+    w: &mut [u8],
+    steps: u64,
+) -> Result<State, Refusal>
     requires arranged { (es : Exprs) × Arranged s.now table.now rows es }
     requires w_len_bound { length w.old ≤ 65536 }
     ensures { (es : Exprs) → Arranged s.now table.now rows es → Ended steps w.old w.new rows es result }
@@ -140,23 +129,32 @@ fn evaluate_all(s: &[u8], table: &[u32], rows: usize, w: &mut [u8], steps: u64) 
 }
 
 // Evaluates a stream whose rows are in the table; they are so many. The result then stands at the workspace's start.
-pub fn evaluate(s: &[u8], table: &mut [u32], rows: usize, work: &mut [u8], steps: u64) -> Result
+pub fn evaluate(
+    s: &[u8],
+    table: &mut [u32],
+    rows: usize,
+    work: &mut [u8],
+    steps: u64,
+) -> Result<Evaluation, Refusal>
     requires { HasRead s.now table.old rows }
     ensures { (table.new ≡ table.old) × ((t out : List ℕ) (rs : List Row) (es : Exprs) → reading s.now t ≡ readable rs es
         → table.old ≡ filled rs t → Evaluated s.now t work.old work.new out steps rs result) }
 {
     if !has_version(s) {
-        return refused(wrong_version(s, table, rows), 0);
+        return Err(Refusal::new(wrong_version(s, table, rows), 0));
     }
     let arranged = arrange(s, table, rows);
-    let size = work_size(work.len());
+    let size = work.len().min(WORKSPACE_LIMIT);
     let left = evaluate_all(s, table, rows, &mut work[..size], steps);
     restore(table, rows, arranged);
     match left {
-        Out::Refused(number, row) => refused(number, table::start(table, row)),
-        Out::Done(state) => Result::Is {
+        Err(refusal) => Err(Refusal {
+            place: table::start(table, refusal.place),
+            ..refusal
+        }),
+        Ok(state) => Ok(Evaluation {
             length: state.top,
             steps: steps - state.steps,
-        },
+        }),
     }
 }

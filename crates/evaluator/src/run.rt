@@ -1,31 +1,24 @@
 // The recursive evaluator: a list of expressions, and the code of a call. The steps that are left fall at each call of `list`.
 // Document 01: "depth first, left to right".
 ghost use Rattle.std.specs.Prelude.{◌≡◌};
-ghost use Rattle.workspace.specs.declared.values.Out.TheVariants.{Done};
 ghost use Rattle.rules.specs.Scope.{view};
 ghost use Rattle.rules.specs.Settings.{in_list_of};
 ghost use Rattle.rules.specs.declared.plan.After.TheVariants.{Function, Code};
-ghost use Rattle.evaluator.specs.Listed.{SomeReady, Answered, SomeEvaluating, EvaluatedBy, SomeCalling, CalledBy, SomeEnding, CanEnd, EndedBy};
+ghost use Rattle.evaluator.specs.Listed.{SomeReady, Answered, SomeEvaluating, EvaluatedBy, SomeCalling, CalledBy, SomeEnding, EndedBy};
 
 use crate::element;
 use crate::element::{Element, Left, Step, Values};
+use atoms::{Reason, Refusal};
 use rows::forms;
 use rows::forms::Form;
 use rules::here::{Here, Within};
 use rules::plan;
 use rules::plan::After;
 use workspace::made;
-use workspace::values::{Out, State};
-
-// A form whose elements are evaluated: its row, where their values start, and what becomes of them.
-#[derive(Clone, Copy)]
-struct Open {
-    row: usize,
-    start: usize,
-    after: After,
-}
+use workspace::values::State;
 
 // Evaluates the elements of a form. What it defines is written past what the scope shows, which stays.
+// Kept: the lent arrays are no struct of references, by which a clause would say `lent.entry.table.now` for `table.now`.
 #[cycle(run)]
 pub fn list(
     s: &[u8],
@@ -37,31 +30,24 @@ pub fn list(
     mut here: Here,
     mut state: State,
     form: Form,
-) -> Out
+) -> Result<State, Refusal>
     requires { SomeReady s.now table.now w.old args.now (view associations.old definitions.old here.scope) state here form.flat form.first form.end }
     ensures { Answered s.now table.now w.old w.new args.now (view associations.old definitions.old here.scope) state here form result
         × (view associations.new definitions.new here.scope ≡ view associations.old definitions.old here.scope) }
 {
     let floor = state.floor;
     let mut row = form.first;
+    // Kept: only an element tells where the next begins.
     while row < form.end {
         let node = forms::element(table, form.flat, row);
         let behind = node.behind(row);
         let e = Element { node, row };
-        let left = expression(s, table, w, associations, args, definitions, here, state, e);
-        let out = left.out;
-        match out {
-            Out::Refused(number, at) => {
-                return Out::Refused(number, at);
-            }
-            Out::Done(done) => {
-                state = done;
-                here = here.showing(left.scope);
-            }
-        }
+        let left = expression(s, table, w, associations, args, definitions, here, state, e)?;
+        state = left.state;
+        here = here.showing(left.scope);
         row = behind;
     }
-    Out::Done(state.down_to(floor))
+    Ok(state.down_to(floor))
 }
 
 // Evaluates an expression of a list.
@@ -76,7 +62,7 @@ fn expression(
     here: Here,
     state: State,
     e: Element,
-) -> Left
+) -> Result<Left, Refusal>
     requires { SomeEvaluating s.now table.now w.old args.now (view associations.old definitions.old here.scope) state here e.node e.row }
     ensures { EvaluatedBy s.now table.now w.old w.new args.now (view associations.old definitions.old here.scope)
         (view associations.new definitions.new) state here e.node e.row result
@@ -84,11 +70,12 @@ fn expression(
 {
     let row = e.row;
     let start = state.top;
-    match element::begin(s, table, w, associations, args, definitions, here, state, e) {
-        Step::Refused(number, at) => element::leaves(Out::Refused(number, at), here.scope),
-        Step::Leaves { state: done, scope } => element::leaves(Out::Done(done), scope),
+    let step = element::begin(s, table, w, associations, args, definitions, here, state, e)?;
+    match step {
+        Step::Leaves(left) => Ok(left),
         Step::Inside(inner, sub, after) => {
-            let ended = entered(
+            let within = after.within();
+            let state = entered(
                 s,
                 table,
                 w,
@@ -98,37 +85,8 @@ fn expression(
                 here,
                 inner,
                 sub,
-                after.within(),
-            );
-            let opened = Open { row, start, after };
-            closed(s, table, w, associations, definitions, here, ended, opened)
-        }
-    }
-}
-
-// What a form leaves when the evaluation of its elements has ended.
-#[cycle(run)]
-fn closed(
-    s: &[u8],
-    table: &[u32],
-    w: &mut [u8],
-    associations: &mut [u64; 64],
-    definitions: &mut [u64; 256],
-    here: Here,
-    ended: Out,
-    opened: Open,
-) -> Left
-    requires { CanEnd s.now table.now w.old (view associations.old definitions.old here.scope) here opened.start opened.after ended }
-    ensures { EndedBy s.now table.now w.old w.new (view associations.old definitions.old here.scope)
-        (view associations.new definitions.new) here opened.start opened.row opened.after ended result
-        × (view associations.new definitions.new here.scope ≡ view associations.old definitions.old here.scope) }
-{
-    let after = opened.after;
-    let start = opened.start;
-    let row = opened.row;
-    match ended {
-        Out::Refused(_, _) => element::leaves(ended, here.scope),
-        Out::Done(state) => {
+                within,
+            )?;
             let values = Values { state, start, row };
             finish(s, table, w, associations, definitions, here, after, values)
         }
@@ -146,10 +104,10 @@ fn finish(
     here: Here,
     after: After,
     values: Values,
-) -> Left
+) -> Result<Left, Refusal>
     requires { SomeEnding s.now table.now w.old (view associations.old definitions.old here.scope) values.state here values.start after }
     ensures { EndedBy s.now table.now w.old w.new (view associations.old definitions.old here.scope)
-        (view associations.new definitions.new) here values.start values.row after (Done values.state) result
+        (view associations.new definitions.new) here values.state values.start values.row after result
         × (view associations.new definitions.new here.scope ≡ view associations.old definitions.old here.scope) }
 {
     match after {
@@ -191,16 +149,19 @@ fn function(
     code: usize,
     visible: usize,
     values: Values,
-) -> Left
+) -> Result<Left, Refusal>
     requires { SomeEnding s.now table.now w.old (view associations.old definitions.now here.scope) values.state here values.start (Function code visible) }
     ensures { EndedBy s.now table.now w.old w.new (view associations.old definitions.now here.scope)
-        (view associations.new definitions.now) here values.start values.row (Function code visible) (Done values.state) result
+        (view associations.new definitions.now) here values.state values.start values.row (Function code visible) result
         × (view associations.new definitions.now here.scope ≡ view associations.old definitions.now here.scope) }
 {
     let at = here.showing(here.scope.up_to(visible));
     let body = plan::code_at(table, code);
-    let out = call(s, table, w, associations, definitions, at, body, values);
-    element::leaves(out, here.scope)
+    let state = call(s, table, w, associations, definitions, at, body, values)?;
+    Ok(Left {
+        state,
+        scope: here.scope,
+    })
 }
 
 // Calls the code of a `subst` form.
@@ -215,10 +176,10 @@ fn code(
     first: usize,
     end: usize,
     values: Values,
-) -> Left
+) -> Result<Left, Refusal>
     requires { SomeEnding s.now table.now w.old (view associations.old definitions.now here.scope) values.state here values.start (Code first end) }
     ensures { EndedBy s.now table.now w.old w.new (view associations.old definitions.now here.scope)
-        (view associations.new definitions.now) here values.start values.row (Code first end) (Done values.state) result
+        (view associations.new definitions.now) here values.state values.start values.row (Code first end) result
         × (view associations.new definitions.now here.scope ≡ view associations.old definitions.now here.scope) }
 {
     let body = Form {
@@ -226,8 +187,11 @@ fn code(
         end,
         flat: false,
     };
-    let out = call(s, table, w, associations, definitions, here, body, values);
-    element::leaves(out, here.scope)
+    let state = call(s, table, w, associations, definitions, here, body, values)?;
+    Ok(Left {
+        state,
+        scope: here.scope,
+    })
 }
 
 // Evaluates the elements of a form in a list of its kind.
@@ -243,7 +207,7 @@ fn entered(
     state: State,
     form: Form,
     within: Within,
-) -> Out
+) -> Result<State, Refusal>
     requires { SomeReady s.now table.now w.old args.now (view associations.old definitions.old here.scope) state (in_list_of within here) form.flat form.first form.end }
     ensures { Answered s.now table.now w.old w.new args.now (view associations.old definitions.old here.scope) state (in_list_of within here) form result
         × (view associations.new definitions.new here.scope ≡ view associations.old definitions.old here.scope) }
@@ -273,23 +237,21 @@ fn call(
     here: Here,
     body: Form,
     values: Values,
-) -> Out
+) -> Result<State, Refusal>
     requires { SomeCalling s.now table.now w.old (view associations.old definitions.now here.scope) values.state here body values.start }
     ensures { CalledBy s.now table.now w.old w.new (view associations.old definitions.now here.scope) values.state here body values.start values.row result
         × (view associations.new definitions.now here.scope ≡ view associations.old definitions.now here.scope) }
 {
-    let state = values.state;
-    let start = values.start;
-    let row = values.row;
+    let Values { state, start, row } = values;
     if 32 <= here.frame.depth {
-        return Out::Refused(19, row);
+        return Err(Refusal::new(Reason::TooMany, row));
     }
     let mut args = [0u32; 64];
     let mut inner = *definitions;
     let top = state.top;
     let count = made::spread(&w[start..top], start, &mut args);
     let inside = here.called(here.scope, count, top);
-    match list(
+    let ran = list(
         s,
         table,
         w,
@@ -299,8 +261,6 @@ fn call(
         inside,
         state,
         body,
-    ) {
-        Out::Refused(number, at) => Out::Refused(number, at),
-        Out::Done(ran) => element::returned(s, table, w, ran, body, start, top, row),
-    }
+    )?;
+    element::returned(s, table, w, ran, body, start, top, row)
 }

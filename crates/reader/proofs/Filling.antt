@@ -8,16 +8,20 @@ use lib.Seq.{get_or-set_same, get_or-set_other}
 use native.Mathlib.Omega.{arith}
 use borrow.Author.Rules.{rules}
 use native.Mathlib.Numerals.{add-one}
+use Rattle.std.proofs.Common.{Fits, w8}
+use Rattle.std.specs.Prelude.{Result, Ok, Err}
 use Rattle.spec.specs.Reading.{tokens, rows_of, row_width}
 use Rattle.spec.specs.Calls.{filled}
 use Rattle.laws.specs.Demands.{CanRead}
 use Rattle.laws.proofs.Tokens.{Right, right_opening, right_closing, right_whole, right_first}
 use Rattle.laws.proofs.Reading.{read_readable}
 use Rattle.laws.proofs.Steps.{tokens_from, tokens_end, all_bytes}
-use Rattle.atoms.specs.Tokens.{token_at, shown}
+use Rattle.atoms.specs.Refusals.{told}
+use Rattle.atoms.specs.Tokens.{kind_number, token_at, shown}
 use Rattle.atoms.specs.declared.Token.{Token as Answer}
-use Rattle.atoms.specs.declared.Token.TheVariants.{Opening, Closing, Whole, Unfinished, Bad}
-use Rattle.atoms.proofs.Next.{Next, next}
+use Rattle.atoms.specs.declared.Token.TheVariants.{Opening, Closing, Atom as Whole, Unfinished}
+use Rattle.atoms.specs.declared.refusal.Refusal.{Refusal}
+use Rattle.atoms.proofs.Next.{Stands, kind_number_of, next}
 use Rattle.reader.specs.Passes.{row_started, row_ended}
 use Rattle.reader.proofs.Table.{written, Below, below_more, written_filled}
 
@@ -47,7 +51,7 @@ pub record Bounded (s t₀ t forms : List ℕ) (p d n : ℕ) : Type 0 where
   pub inside : p ≤ length s
   pub early : n ≤ p
   pub deep : d ≤ 64
-  pub stack : length forms ≡ 64
+  pub stack : 64 ≤ length forms
   pub same : length t ≡ length t₀
   pub fits : row_width * (n + length (rows_of (tokens_from s p))) ≤ length t₀
 
@@ -59,11 +63,11 @@ pub record Filling (s t₀ t forms : List ℕ) (p d n : ℕ) : Type 0 where
   pub below : Below n (open_forms forms d)
   pub leaves : written (tokens_from s p) (open_forms forms d) n t ≡ filled (rows_of (tokens 0 0 s)) t₀
 
-pub filling_start : (s t forms : List ℕ) → ((i : ℕ) → get_or s i 0 < 256) → CanRead s → length forms ≡ 64
+pub filling_start : (s t forms : List ℕ) → ((i : ℕ) → Fits w8 (get_or s i 0)) → CanRead s → 64 ≤ length forms
     → row_width * length (rows_of (tokens 0 0 s)) ≤ length t → Filling s t t forms 0 0 0
 filling_start s t forms bytes can stack fits =
     let r = read_readable s (length s) _ _ can in
-    record { bounds = search rules; passes = r.well; below = tt; leaves = written_filled s t (length s) (all_bytes s bytes) r.well fits }
+    record { bounds = search rules; passes = r.well; below = tt; leaves = written_filled s t (length s) (all_bytes s (λ i. (bytes i).fits)) r.well fits }
 
 pub filling_end : (s t₀ t forms : List ℕ) (p d n : ℕ) → Filling s t₀ t forms p d n → length s ≤ p → t ≡ filled (rows_of (tokens 0 0 s)) t₀
 unfolding written
@@ -73,21 +77,21 @@ filling_end s t₀ t forms p d n f h = rw (tokens_end s p h) at f.leaves
 
 module _ (s t₀ t forms : List ℕ) (p d n : ℕ) where
   -- what the code has to know at a token, and what holds after it
-  abbrev pub Turn : Answer → Type 0
-  Turn Opening = (d < 64) × (row_width * n + row_width ≤ length t) × Filling s t₀ (row_started t n 1 p) (set forms d n) (p + 1) (d + 1) (n + 1)
-  Turn Closing =
+  abbrev pub Turn : Result Answer (ℕ × ℕ) → Type 0
+  Turn (Ok Opening) = (d < 64) × (row_width * n + row_width ≤ length t) × Filling s t₀ (row_started t n 1 p) (set forms d n) (p + 1) (d + 1) (n + 1)
+  Turn (Ok Closing) =
       let r = get_or forms (d - 1) 0 in
       (0 < d) × (row_width * r + row_width ≤ length t) × Filling s t₀ (row_ended t r (p + 1) n) forms (p + 1) (d - 1) n
-  Turn (Whole k b e) =
+  Turn (Ok (Whole k b e)) =
       (p < e) × (e ≤ length s) × (row_width * n + row_width ≤ length t)
-      × Filling s t₀ (row_ended (row_started t n k p) n e (n + 1)) forms e d (n + 1)
-  Turn Unfinished = ⊥
-  Turn (Bad w q) = ⊥
+      × Filling s t₀ (row_ended (row_started t n (kind_number k) p) n e (n + 1)) forms e d (n + 1)
+  Turn (Ok Unfinished) = ⊥
+  Turn (Err r) = ⊥
 
   module _ (f : Filling s t₀ t forms p d n) (inside : p < length s) where
-    turns : (r : Answer) → Next s p r → Turn r
+    turns : (r : Result Answer (ℕ × ℕ)) → Stands s p r → Turn r
     unfolding rows_of written
-    turns Opening is =
+    turns (Ok Opening) is =
         let k = right_opening (rw is at f.passes) in
         let fits = rw is at f.bounds.fits in
         let opened : open_forms (set forms d n) (d + 1) ≡ n ∷ open_forms forms d = form_opened forms d n (omega (arith, k.0)) in (
@@ -100,7 +104,7 @@ module _ (s t₀ t forms : List ℕ) (p d n : ℕ) where
             leaves = rw opened (rw is at f.leaves);
           },
         )
-    turns Closing is =
+    turns (Ok Closing) is =
         let k = right_closing (rw is at f.passes) in
         let inner = innermost forms d k.0 in
         let below = rw inner at f.below in
@@ -109,7 +113,7 @@ module _ (s t₀ t forms : List ℕ) (p d n : ℕ) where
           omega (arith, below.0),
           record { bounds = search rules; passes = k.1; below = below.1; leaves = rw (is, inner) at f.leaves },
         )
-    turns (Whole k b e) w =
+    turns (Ok (Whole k b e)) w =
         let fits = rw w.is at f.bounds.fits in (
           w.forward,
           w.inside,
@@ -118,11 +122,11 @@ module _ (s t₀ t forms : List ℕ) (p d n : ℕ) where
             bounds = search rules;
             passes = (right_whole (rw w.is at f.passes)).1;
             below = below_more n (open_forms forms d) f.below;
-            leaves = rw w.kind_is (rw w.is at f.leaves);
+            leaves = rw (w.kind_is, kind_number_of w.atom) (rw w.is at f.leaves);
           },
         )
-    turns Unfinished x = right_first (rw x.1 at f.passes)
-    turns (Bad w q) x = right_first (rw x.1 at f.passes)
+    turns (Ok Unfinished) x = right_first (rw x.1 at f.passes)
+    turns (Err r) x = right_first (rw x.1 at f.passes)
 
-    pub turn : ((i : ℕ) → get_or s i 0 < 256) → (r : Answer) → r ≡ shown (token_at s p) → Turn r
-    turn bytes r told = turns r (next s p r (all_bytes s bytes) inside told)
+    pub turn : ((i : ℕ) → Fits w8 (get_or s i 0)) → (r : Result Answer Refusal) → told r ≡ shown (token_at s p) → Turn (told r)
+    turn bytes r is = turns (told r) (next s p r (all_bytes s (λ i. (bytes i).fits)) inside is)

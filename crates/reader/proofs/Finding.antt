@@ -8,6 +8,8 @@ use borrow.Author.Rules.{rules}
 use native.Mathlib.Decide.{dec_le}
 use lib.ListN.{length, drop, get_or, length-drop}
 use lib.Seq.{drop_at, get_or-drop}
+use Rattle.std.proofs.Common.{Fits, w8}
+use Rattle.std.specs.Prelude.{Result, Ok, Err}
 use Rattle.spec.specs.Expr.{Expr, atom, form, Exprs, none, more, size, rows, rows_all, deepest}
 use Rattle.spec.specs.Reading.{tokens, check, ends, rows_of}
 use Rattle.spec.specs.Calls.{Buffer, part, no_part, row_at, item}
@@ -20,10 +22,12 @@ use Rattle.laws.proofs.Reading.{read_readable, read_meant, check_all}
 use Rattle.laws.proofs.Parsing.{read_spells}
 use Rattle.laws.proofs.Steps.{split_size, split_rest, tokens_from, tokens_end, all_bytes}
 use Rattle.laws.proofs.Items.{rows_expr, expr_rows_count, expr_first, item_past}
+use Rattle.atoms.specs.Refusals.{told}
 use Rattle.atoms.specs.Tokens.{token_at, shown}
 use Rattle.atoms.specs.declared.Token.{Token as Answer}
-use Rattle.atoms.specs.declared.Token.TheVariants.{Opening, Closing, Whole, Unfinished, Bad}
-use Rattle.atoms.proofs.Next.{Next, next}
+use Rattle.atoms.specs.declared.Token.TheVariants.{Opening, Closing, Atom as Whole, Unfinished}
+use Rattle.atoms.specs.declared.refusal.Refusal.{Refusal}
+use Rattle.atoms.proofs.Next.{Stands, next}
 use Rattle.reader.specs.Passes.{RightFrom}
 
 -- The end of a form
@@ -37,12 +41,13 @@ pub record Ending (s : List ℕ) (start p d : ℕ) : Type 0 where
   pub same : get_or (ends (tokens_from s start)) 0 0 ≡ get_or (ends (tokens_from s p)) d 0
 
 -- what holds after each kind of token
-abbrev pub EndingTurn : (s : List ℕ) (start p d : ℕ) → Answer → Type 0
-EndingTurn s start p d Opening = Ending s start (p + 1) (d + 1)
-EndingTurn s start p d Closing = (d ≡ 0 → get_or (ends (tokens_from s start)) 0 0 ≡ p + 1) × ((d ≡ 0 → ⊥) → Ending s start (p + 1) (d - 1))
-EndingTurn s start p d (Whole k b e) = (p < e) × Ending s start e d
-EndingTurn s start p d Unfinished = ⊥
-EndingTurn s start p d (Bad w q) = ⊥
+abbrev pub EndingTurn : (s : List ℕ) (start p d : ℕ) → Result Answer (ℕ × ℕ) → Type 0
+EndingTurn s start p d (Ok Opening) = Ending s start (p + 1) (d + 1)
+EndingTurn s start p d (Ok Closing) =
+    (d ≡ 0 → get_or (ends (tokens_from s start)) 0 0 ≡ p + 1) × ((d ≡ 0 → ⊥) → Ending s start (p + 1) (d - 1))
+EndingTurn s start p d (Ok (Whole k b e)) = (p < e) × Ending s start e d
+EndingTurn s start p d (Ok Unfinished) = ⊥
+EndingTurn s start p d (Err r) = ⊥
 
 module _ (s : List ℕ) (start p d : ℕ) (f : Ending s start p d) where
   -- a form that is open ends in the stream
@@ -53,12 +58,12 @@ module _ (s : List ℕ) (start p d : ℕ) (f : Ending s start p d) where
       go (yes h) = absurd (omega (arith, right_end (rw (tokens_end s p h) at f.passes)))
       go (no h) = omega (arith, h)
 
-  pub ending_turn : ((i : ℕ) → get_or s i 0 < 256) → (r : Answer) → r ≡ shown (token_at s p) → EndingTurn s start p d r
+  pub ending_turn : ((i : ℕ) → Fits w8 (get_or s i 0)) → (r : Result Answer Refusal) → told r ≡ shown (token_at s p) → EndingTurn s start p d (told r)
   unfolding ends
-  ending_turn bytes r told = go r (next s p r (all_bytes s bytes) ending_inside told)
+  ending_turn bytes r is = go (told r) (next s p r (all_bytes s (λ i. (bytes i).fits)) ending_inside is)
     where
-      go : (r : Answer) → Next s p r → EndingTurn s start p d r
-      go Opening is = record {
+      go : (r : Result Answer (ℕ × ℕ)) → Stands s p r → EndingTurn s start p d r
+      go (Ok Opening) is = record {
         inside = omega (arith, ending_inside);
         shallow = omega (arith, f.shallow);
         rows = f.rows + 1;
@@ -66,7 +71,7 @@ module _ (s : List ℕ) (start p d : ℕ) (f : Ending s start p d) where
         same =
             f.same ∙ rw is (get_or-drop 1 (ends (tokens_from s (p + 1))) d 0 ∙ ap (λ (j : ℕ). get_or (ends (tokens_from s (p + 1))) j 0) (omega arith));
       }
-      go Closing is = (
+      go (Ok Closing) is = (
         λ z. f.same ∙ rw (is, z),
         λ z. record {
           inside = omega (arith, ending_inside);
@@ -78,7 +83,7 @@ module _ (s : List ℕ) (start p d : ℕ) (f : Ending s start p d) where
               f.same ∙ rw is (ap (λ (j : ℕ). get_or ((p + 1) ∷ ends (tokens_from s (p + 1))) j 0) more);
         },
       )
-      go (Whole k b e) w = (
+      go (Ok (Whole k b e)) w = (
         w.forward,
         record {
           inside = w.inside;
@@ -88,35 +93,35 @@ module _ (s : List ℕ) (start p d : ℕ) (f : Ending s start p d) where
           same = f.same ∙ rw w.is;
         },
       )
-      go Unfinished x = right_first (rw x.1 at f.passes)
-      go (Bad w q) x = right_first (rw x.1 at f.passes)
+      go (Ok Unfinished) x = right_first (rw x.1 at f.passes)
+      go (Err r) x = right_first (rw x.1 at f.passes)
 
 -- The end of an expression
 
 -- what the code has to know at each kind of token of the top level, and where the expression ends
-abbrev pub TopTurn : List ℕ → ℕ → Answer → Type 0
-TopTurn s p Opening = RightFrom s (p + 1) 1 × ((row_at (rows_of (tokens_from s p)) 0).end ≡ get_or (ends (tokens_from s (p + 1))) 0 0)
-TopTurn s p Closing = ⊥
-TopTurn s p (Whole k b e) = (row_at (rows_of (tokens_from s p)) 0).end ≡ e
-TopTurn s p Unfinished = ⊥
-TopTurn s p (Bad w q) = ⊥
+abbrev pub TopTurn : List ℕ → ℕ → Result Answer (ℕ × ℕ) → Type 0
+TopTurn s p (Ok Opening) = RightFrom s (p + 1) 1 × ((row_at (rows_of (tokens_from s p)) 0).end ≡ get_or (ends (tokens_from s (p + 1))) 0 0)
+TopTurn s p (Ok Closing) = ⊥
+TopTurn s p (Ok (Whole k b e)) = (row_at (rows_of (tokens_from s p)) 0).end ≡ e
+TopTurn s p (Ok Unfinished) = ⊥
+TopTurn s p (Err r) = ⊥
 
-pub top_turn : (s : List ℕ) (p : ℕ) → ((i : ℕ) → get_or s i 0 < 256) → p < length s → RightFrom s p 0
-    → (r : Answer) → r ≡ shown (token_at s p) → TopTurn s p r
+pub top_turn : (s : List ℕ) (p : ℕ) → ((i : ℕ) → Fits w8 (get_or s i 0)) → p < length s → RightFrom s p 0
+    → (r : Result Answer Refusal) → told r ≡ shown (token_at s p) → TopTurn s p (told r)
 unfolding rows_of
-top_turn s p bytes inside passes r told = go r (next s p r (all_bytes s bytes) inside told)
+top_turn s p bytes inside passes r is = go (told r) (next s p r (all_bytes s (λ i. (bytes i).fits)) inside is)
   where
     well : Right (length s) (tokens_from s p) 0 passes.1
     well = right_tokens passes.0 (length s) (tokens_from s p) 0 passes.1 passes.2
 
-    go : (r : Answer) → Next s p r → TopTurn s p r
-    go Opening is =
+    go : (r : Result Answer (ℕ × ℕ)) → Stands s p r → TopTurn s p r
+    go (Ok Opening) is =
         let k = right_opening (rw is at well) in
         ((p, passes.1 + 1, right_room k.2 p (length s) (rows_room k.2 (omega (arith, k.1)))), rw is)
-    go Closing is = omega (arith, (right_closing (rw is at well)).0)
-    go (Whole k b e) w = rw w.is
-    go Unfinished x = right_first (rw x.1 at well)
-    go (Bad w q) x = right_first (rw x.1 at well)
+    go (Ok Closing) is = omega (arith, (right_closing (rw is at well)).0)
+    go (Ok (Whole k b e)) w = rw w.is
+    go (Ok Unfinished) x = right_first (rw x.1 at well)
+    go (Err r) x = right_first (rw x.1 at well)
 
 -- The expression asked for
 
@@ -138,30 +143,33 @@ pub record Finding (s : List ℕ) (k p n : ℕ) : Type 0 where
   pub spells : SpellsAll left (drop p s)
   pub same : (b : Buffer) → item b (rows_of (tokens 0 0 s)) k (meaning_of s) ≡ item b (rows_of (tokens_from s p)) n left
 
-pub finding_start : (s : List ℕ) (k : ℕ) → ((i : ℕ) → get_or s i 0 < 256) → CanRead s → Finding s k 0 k
+pub finding_start : (s : List ℕ) (k : ℕ) → ((i : ℕ) → Fits w8 (get_or s i 0)) → CanRead s → Finding s k 0 k
 finding_start s k bytes can =
     let r = read_readable s (length s) _ _ can in
-    let m = read_meant s (length s) _ _ (all_bytes s bytes) r in
-    record { left = meaning_of s; bounds = search rules; spells = read_spells s (length s) _ _ (all_bytes s bytes) can; same = λ b. refl }
+    let m = read_meant s (length s) _ _ (all_bytes s (λ i. (bytes i).fits)) r in
+    record { left = meaning_of s; bounds = search rules; spells = read_spells s (length s) _ _ (all_bytes s (λ i. (bytes i).fits)) can; same = λ b. refl }
 
--- one expression more, which ends at e
+-- one expression more, from p up to e
 pub record Passed (s : List ℕ) (k p n e : ℕ) : Type 0 where
-  pub forward : p < e
-  pub inside : e ≤ length s
   pub this : n ≡ 0 → (b : Buffer) → part b p e ≡ item b (rows_of (tokens 0 0 s)) k (meaning_of s)
   pub later : (n ≡ 0 → ⊥) → Finding s k e (n - 1)
 
 module _ (s : List ℕ) (k p n : ℕ) (f : Finding s k p n) where
-  pub finding_right : RightFrom s p 0
+  -- the next expression may be asked for
+  pub finding_right : (length s ≤ 65536) × (p ≤ length s) × RightFrom s p 0
   unfolding check tokens
   finding_right = (
-    0,
-    0,
-    ap (λ (x : List ℕ). check 0 (length s) (tokens p 0 x) 0 0) (sym (append-nil (drop p s)))
-        ∙ check_all (length s) f.left (drop p s) f.spells 0 p 0 0 [] (omega arith) (omega arith),
+    omega arith,
+    omega arith,
+    (
+      0,
+      0,
+      ap (λ (x : List ℕ). check 0 (length s) (tokens p 0 x) 0 0) (sym (append-nil (drop p s)))
+          ∙ check_all (length s) f.left (drop p s) f.spells 0 p 0 0 [] (omega arith) (omega arith),
+    ),
   )
 
-  pub finding_end : length s ≤ p → (b : Buffer) → no_part ≡ item b (rows_of (tokens 0 0 s)) k (meaning_of s)
+  pub finding_end : p ≡ length s → (b : Buffer) → no_part ≡ item b (rows_of (tokens 0 0 s)) k (meaning_of s)
   finding_end h b = sym (f.same b ∙ go f.left f.spells)
     where
       go : (es : Exprs) → SpellsAll es (drop p s) → item b (rows_of (tokens_from s p)) n es ≡ no_part
@@ -170,10 +178,13 @@ module _ (s : List ℕ) (k p n : ℕ) (f : Finding s k p n) where
           let size = split_size s p sp.0 sp.1 sp.2 in
           absurd (omega (arith, spelled_some e sp.0 sp.3))
 
-  pub finding_turn : (e : ℕ) → p < length s → e ≡ (row_at (rows_of (tokens_from s p)) 0).end → Passed s k p n e
+  pub finding_turn : (start e m : ℕ) → (p < length s) × (start ≡ p) × (e ≡ (row_at (rows_of (tokens_from s p)) 0).end) → m ≡ n → Passed s k start m e
   unfolding rows deepest item
-  finding_turn e in-stream at_end = go f.left f.spells f.bounds f.same
+  finding_turn start e m told same = rw (told.1, same) (go f.left f.spells f.bounds f.same)
     where
+      at_end : e ≡ (row_at (rows_of (tokens_from s p)) 0).end
+      at_end = told.2
+
       go : (es : Exprs) → SpellsAll es (drop p s) → Readable s p es
           → ((b : Buffer) → item b (rows_of (tokens 0 0 s)) k (meaning_of s) ≡ item b (rows_of (tokens_from s p)) n es) → Passed s k p n e
       go none sp bounds same = absurd (omega (arith, ap length sp, length-drop p s))
@@ -182,7 +193,6 @@ module _ (s : List ℕ) (k p n : ℕ) (f : Finding s k p n) where
           let y = sp.1 in
           let q : ℕ = p + length x in
           let size = split_size s p x y sp.2 in
-          let some = spelled_some c x sp.3 in
           let rest : y ≡ drop q s = split_rest s p x y sp.2 in
           let own = expr_rows c x sp.3 p in
           let split : rows_of (tokens_from s p) ≡ own ++ rows_of (tokens_from s q) =
@@ -195,8 +205,6 @@ module _ (s : List ℕ) (k p n : ℕ) (f : Finding s k p n) where
           let behind : drop (rows c) (rows_of (tokens_from s p)) ≡ rows_of (tokens_from s q) =
           ap (drop (rows c)) split ∙ drop_at own (rows_of (tokens_from s q)) (rows c) (expr_rows_count c x sp.3 p) in
           record {
-            forward = omega arith;
-            inside = omega arith;
             this = λ z b. sym (same b ∙ rw (z, start, ← at_end));
             later = λ z. rw end (record {
               left = es;

@@ -1,9 +1,11 @@
 -- What the first pass told of a stream, and that the stream was read once the second has followed. Document 01: "Read". Assumes nothing.
-use Prim.Native.Nat.{ℕ, ◌*◌, ◌/◌, ◌≤◌, ◌<◌}
+use Prim.Native.Nat.{ℕ, ◌*◌, ◌/◌, ◌≤◌}
 use mathlib.Core.Path.{◌≡◌, refl, ap, ◌∙◌}
 use mathlib.Core.List.{List}
 use native.Mathlib.Omega.{arith}
 use lib.ListN.{length, get_or}
+use Rattle.std.proofs.Common.{Fits, w8}
+use Rattle.std.specs.Prelude.{Result, Ok, Err}
 use Rattle.spec.specs.Expr.{Exprs, canonical}
 use Rattle.spec.specs.Reading.{row_width, tokens, rows_of, Reading, refused, readable, read}
 use Rattle.spec.specs.Calls.{filled}
@@ -12,9 +14,10 @@ use Rattle.laws.proofs.Reading.{read_readable, read_refused, read_enough}
 use Rattle.laws.proofs.Tokens.{tokens_few}
 use Rattle.laws.proofs.Rows.{rows_few, rows_room}
 use Rattle.laws.proofs.Steps.{all_bytes}
+use Rattle.atoms.specs.Refusals.{told}
+use Rattle.atoms.specs.declared.refusal.Refusal.{Refusal}
 use Rattle.reader.specs.Passes.{checked}
-use Rattle.reader.specs.declared.Checked.{Checked}
-use Rattle.reader.specs.declared.Checked.TheVariants.{Right, Wrong}
+use Rattle.reader.specs.declared.Counts.{Counts}
 
 -- a stream that can be read, with its rows and its canonical length counted
 pub record ToldRight (s : List ℕ) (room rows size : ℕ) : Type 0 where
@@ -24,15 +27,17 @@ pub record ToldRight (s : List ℕ) (room rows size : ℕ) : Type 0 where
   pub fits : rows ≤ room
   pub sized : size ≡ length (canonical (meaning_of s))
 
-abbrev pub Told : List ℕ → ℕ → Checked → Type 0
-Told s room (Right rows size) = ToldRight s room rows size
-Told s room (Wrong w p) = (read s room ≡ refused w p) × (1 ≤ w)
+-- of the counts, or of a refusal's number and place
+abbrev pub Told : List ℕ → ℕ → Result Counts (ℕ × ℕ) → Type 0
+Told s room (Ok v) = ToldRight s room v.rows v.length
+Told s room (Err r) = (read s room ≡ refused r.0 r.1) × (1 ≤ r.0)
 
-pub told : (s : List ℕ) (room : ℕ) (v : Checked) → ((i : ℕ) → get_or s i 0 < 256) → v ≡ checked (read s room) → Told s room v
-told s room v bytes e = rw e (go (read s room) refl)
+pub check_told : (s : List ℕ) (room : ℕ) (v : Result Counts Refusal) → ((i : ℕ) → Fits w8 (get_or s i 0)) → told v ≡ checked (read s room)
+    → Told s room (told v)
+check_told s room v bytes e = rw e (go (read s room) refl)
   where
     go : (x : Reading) → read s room ≡ x → Told s room (checked x)
-    go (refused w p) h = (h, (read_refused s room w p (all_bytes s bytes) h).0)
+    go (refused w p) h = (h, (read_refused s room w p (all_bytes s (λ i. (bytes i).fits)) h).0)
     go (readable rs es) h =
         let r = read_readable s room rs es h in
         let count : length rs ≡ length (rows_of (tokens 0 0 s)) = ap length r.rows_are in

@@ -1,18 +1,16 @@
 -- What this crate's functions answer and leave in the table, as `Reading` and `Calls` of the crate `spec` define it.
 -- Document 01: "Table", "Item". Assumes nothing.
-use Rattle.std.specs.Prelude.{ℕ, ◌+◌, ◌*◌, ◌≡◌, List, length, set, drop}
+use Rattle.std.specs.Prelude.{ℕ, ◌+◌, ◌*◌, ◌≡◌, List, length, set, drop, Result, Ok, Err, Option, Some, None}
 use Rattle.spec.specs.Expr.{canonical}
 use Rattle.spec.specs.Reading.{tokens, right, check, Reading, refused, readable, row_width}
 use Rattle.spec.specs.Calls.{Buffer, Part, part, no_part}
-use Rattle.reader.specs.declared.Checked.{Checked}
-use Rattle.reader.specs.declared.Checked.TheVariants.{Right, Wrong}
-use Rattle.reader.specs.declared.Found.{Found}
-use Rattle.reader.specs.declared.Found.TheVariants.{At, Nothing}
+use Rattle.reader.specs.declared.Counts.{Counts}
+use Rattle.reader.specs.declared.Part.{Part as Place}
 
--- what is counted of a stream that can be read, or its refusal
-abbrev pub checked : Reading → Checked
-checked (refused w p) = Wrong w p
-checked (readable rs es) = Right (length rs) (length (canonical es))
+-- what is counted of a stream that can be read, or its refusal's number and place
+abbrev pub checked : Reading → Result Counts (ℕ × ℕ)
+checked (refused w p) = Err (w, p)
+checked (readable rs es) = Ok (record { rows = length rs; length = length (canonical es) })
 
 -- a table after the first two numbers of a row are written, and after the last two are
 abbrev pub row_started : List ℕ → ℕ → ℕ → ℕ → List ℕ
@@ -26,6 +24,6 @@ abbrev pub RightFrom : List ℕ → ℕ → ℕ → Type 0
 RightFrom s p d = (from : ℕ) × (n : ℕ) × (check from (length s) (tokens p 0 (drop p s)) d n ≡ right)
 
 -- what was found, as a part of the buffer that was asked for
-abbrev pub found_part : Buffer → Found → Part
-found_part b (At start end) = part b start end
-found_part b Nothing = no_part
+abbrev pub found_part : Buffer → Option Place → Part
+found_part b (Some p) = part b p.start p.end
+found_part b None = no_part

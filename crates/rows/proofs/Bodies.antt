@@ -85,10 +85,10 @@ module _ {s : List ℕ} {x : Taken ℕ} {end : ℕ} (whole : length s ≤ 65536)
 
   -- the innermost of the arrays around a number is that of as many bytes; with none, it ends where it stands
   module _ (k v p : ℕ) (inside : p ≤ length s) (is : x ≡ around k (taken v (drop p s))) where
-    pub nested_next : 0 < k → Counted s x (k - 1) p (p + v)
-    nested_next h =
-        let more : k ≡ suc (k - 1) = omega arith in
-        counted (k - 1) p v inside (is ∙ ap (λ (j : ℕ). around j (taken v (drop p s))) more ∙ around_inner (k - 1) v (drop p s))
+    pub nested_next : (j : ℕ) → k ≡ j + 1 → Counted s x j p (p + v)
+    nested_next j e =
+        let more : k ≡ suc j = omega arith in
+        counted j p v inside (is ∙ ap (λ (i : ℕ). around i (taken v (drop p s))) more ∙ around_inner j v (drop p s))
 
     pub nested_done : k ≡ 0 → EndsAt s x p
     unfolding around

@@ -6,15 +6,14 @@ use mathlib.Core.List.{List, [], ◌∷◌, ◌++◌, append_assoc}
 use mathlib.Core.Bool.{Bool, true, false, not, ◌&&◌, ◌||◌}
 use lib.ListN.{length, get_or, take, length-append, replicate, length-replicate}
 use lib.Seq.{slice, get_or-take, get_or-drop, get_or_at, length-slice}
-use lib.Dec.{T, leb, eqb}
-use borrow.Author.Tests.{leb-true, leb-false, eqb-true, eqb-false, eq-eqb, ne_eqb}
-use types.Run.{OneOf, miss}
-use mir.Val.{has_key}
+use lib.Dec.{eqb}
+use borrow.Author.Tests.{eqb-true, eqb-false, eq-eqb, ne_eqb}
 use denote.Enum.Declared.{tag_of}
+use denote.Enum.Bare.{sameb}
 use native.Mathlib.Decide.{ℕ_discrete}
 use native.Mathlib.Omega.{arith}
-use Rattle.spec.specs.Expr.{when◌then◌else◌, some, int, ref, marker_bytes}
-use Rattle.spec.specs.Nodes.{core, Word, plain, order, is, Name, names, among, word, leaf, Nodes, cons}
+use Rattle.spec.specs.Expr.{some, int, ref, marker_bytes}
+use Rattle.spec.specs.Nodes.{core, Word, plain, order, is, word, leaf, Nodes, cons}
 use Rattle.spec.specs.Bytecode.{bytecode_names, led_by_name}
 use Rattle.laws.proofs.Canonical.{Mark, short, long, marker_bytes_are}
 use Rattle.rows.specs.Rows.{cell, start, LeafAt, key_of}
@@ -55,26 +54,6 @@ word_of k = word (k / 256) (k % 256)
 pub word_again : (m n : ℕ) → n < 256 → word_of (key_of m n) ≡ word m n
 word_again m n h = rw (key_marker m n h, key_name m n h)
 
--- a key that is none of these names', in the order in which code looks for them
-abbrev pub Unnamed : Type 0 → List Name → ℕ → Type 0
-Unnamed before [] k = before
-Unnamed before (x ∷ xs) k = Unnamed (before × (k ≡ key_of core x.byte → ⊥)) xs k
-
-not_among : (k : ℕ) → k / 256 ≡ core → (xs : List Name) (before : Type 0) → Unnamed before xs k → before × (plain ≡ among xs (k % 256))
-unfolding among
-not_among k e [] before h = (h, refl)
-not_among k e (x ∷ xs) before h =
-    let others = not_among k e xs (before × (k ≡ key_of core x.byte → ⊥)) h in
-    (others.0.0, rw (ne_eqb x.byte (k % 256) (λ z. others.0.1 (omega (arith, z, e)))) others.1)
-
-pub no_name : (k : ℕ) → Unnamed (Unit {0}) names k → plain ≡ word_of k
-unfolding word
-no_name k h = go (eqb (k / 256) core) refl
-  where
-    go : (b : Bool) → eqb (k / 256) core ≡ b → plain ≡ when b then among names (k % 256) else plain
-    go false e = refl
-    go true e = (not_among k (eqb-true (k / 256) core e) names (Unit {0}) h).1
-
 -- the code's words have the numbers that serve to compare them
 word_number : (w : Coded) → tag_of the_type w ≡ order (meant w)
 word_number Ns = refl
@@ -85,9 +64,9 @@ word_number Arg = refl
 word_number Rest = refl
 word_number Plain = refl
 
--- a word that code takes for one of others
-pub other_word : (w : Coded) (v : Word) (ks : List ℕ) → OneOf ks (tag_of the_type w) → T (not (has_key ks (order v))) → is (meant w) v ≡ false
-other_word w v ks h g = ne_eqb (order (meant w)) (order v) (λ e. miss ks (order v) g (rw (word_number w ∙ e) at h))
+-- a test of two of them is a test of the words that they stand for
+pub same_word : (w v : Coded) → sameb the_type w v ≡ is (meant w) (meant v)
+same_word w v = rw (word_number w, word_number v)
 
 -- Bytecode names
 
@@ -119,22 +98,20 @@ name_outside x out =
 abbrev pub is_bytecode : ℕ → Bool
 is_bytecode k = eqb (k / 256) core && some (eqb (k % 256)) bytecode_names
 
-pub key_bytecode : (k : ℕ) → 0x2030 ≤ k → k ≤ 0x2034 → is_bytecode k ≡ true
+key_bytecode : (k : ℕ) → 0x2030 ≤ k → k ≤ 0x2034 → is_bytecode k ≡ true
 key_bytecode k l h = rw (eq-eqb (k / 256) core (omega arith)) (name_between (k % 256) (omega arith) (omega arith))
 
-pub key_other : (k : ℕ) → (0x2030 ≤ k → k ≤ 0x2034 → ⊥) → is_bytecode k ≡ false
+key_other : (k : ℕ) → (0x2030 ≤ k → k ≤ 0x2034 → ⊥) → is_bytecode k ≡ false
 key_other k out = go (eqb (k / 256) core) refl
   where
     go : (b : Bool) → eqb (k / 256) core ≡ b → b && some (eqb (k % 256)) bytecode_names ≡ false
     go true e = let m = eqb-true (k / 256) core e in name_outside (k % 256) (λ l h. out (omega arith) (omega arith))
     go false e = refl
 
-pub key_upto : (k : ℕ) → 0x2030 ≤ k → leb k 0x2034 ≡ is_bytecode k
-key_upto k l = go (leb k 0x2034) refl
-  where
-    go : (b : Bool) → leb k 0x2034 ≡ b → b ≡ is_bytecode k
-    go true e = sym (key_bytecode k l (leb-true k 0x2034 e))
-    go false e = sym (key_other k (λ _ h. omega (arith, leb-false k 0x2034 e)))
+-- what a test for those between tells
+pub key_between : (k : ℕ) (b : Bool) → (b ≡ true → (0x2030 ≤ k) × (k ≤ 0x2034)) → (b ≡ false → 0x2030 ≤ k → k ≤ 0x2034 → ⊥) → b ≡ is_bytecode k
+key_between k true inside out = let h = inside refl in sym (key_bytecode k h.0 h.1)
+key_between k false inside out = sym (key_other k (out refl))
 
 -- a name is found again in the key
 pub reserved_again : (q m n : ℕ) (es : Nodes) → n < 256 → reserved (key_of m n) ≡ led_by_name (cons (leaf q (ref m n)) es)

@@ -1,6 +1,6 @@
 -- Laws of atoms at their rows, of written nodes and of transformed ones: what the row of a node tells of it, and of nodes one after the other,
 -- one for each thing that code asks of a row. Document 01: "Table". Assumes nothing.
-use Prim.Native.Nat.{ℕ, ◌+◌, ◌-◌, ◌*◌, ◌≤◌, ◌<◌}
+use Prim.Native.Nat.{ℕ, ◌+◌, ◌-◌, ◌≤◌, ◌<◌}
 use mathlib.Core.Path.{◌≡◌, refl, sym, ap, ◌∙◌, subst}
 use mathlib.Core.List.{List, [], ◌∷◌, ◌++◌, append_assoc}
 use mathlib.Core.Bool.{Bool, true, false}
@@ -8,13 +8,13 @@ use lib.ListN.{length, take, drop, length-append}
 use lib.Seq.{slice, length-slice, drop-drop, drop_at}
 use native.Mathlib.Omega.{arith}
 use Rattle.spec.specs.Expr.{Atom, nil, array, int, ref, atom_bytes}
-use Rattle.spec.specs.Reading.{atom_kind, row_width}
+use Rattle.spec.specs.Reading.{atom_kind}
 use Rattle.spec.specs.Nodes.{Node, leaf, branch, bytecode, Nodes, empty, cons, row, markers, markers_all}
 use Rattle.laws.specs.Demands.{Bytes}
 use Rattle.laws.specs.Grammar.{SpellsArray, small, generic}
 use Rattle.laws.proofs.Fits.{bytes_take, bytes_drop, Fits}
 use Rattle.laws.proofs.Shortest.{spelled_fits}
-use Rattle.rows.specs.Rows.{cell, kind, start, next, RowAt, LeafAt, WrittenAt, WrittenAll, is_made, behind, Opens, NodeAt, NodesAt}
+use Rattle.rows.specs.Rows.{RowInside, cell, kind, start, next, RowAt, LeafAt, WrittenAt, WrittenAll, is_made, behind, Opens, NodeAt, NodesAt}
 
 -- Atoms
 
@@ -147,7 +147,7 @@ module _ (s t : List ℕ) (r : ℕ) where
   written_row (branch q es) n = n.0
   written_row (bytecode q es o) n = absurd n
 
-  pub written_whole : (e : Node) → WrittenAt s t r e → (row_width * r + row_width ≤ length t) × (r < 65536)
+  pub written_whole : (e : Node) → WrittenAt s t r e → RowInside t r × (r < 65536)
   unfolding WrittenAt
   written_whole (leaf q a) n = (n.1.row.inside, n.1.row.few)
   written_whole (branch q es) n = (n.1.inside, n.1.few)
@@ -216,10 +216,10 @@ module _ (s t : List ℕ) (flat : Bool) where
 -- One node
 
 module _ {s t : List ℕ} {flat : Bool} {r : ℕ} where
-  pub opens_whole : Opens s t flat r → (row_width * r + row_width ≤ length t) × (r < 65536)
+  pub opens_whole : Opens s t flat r → RowInside t r × (r < 65536)
   opens_whole o = go (is_made t flat r) refl
     where
-      go : (b : Bool) → is_made t flat r ≡ b → (row_width * r + row_width ≤ length t) × (r < 65536)
+      go : (b : Bool) → is_made t flat r ≡ b → RowInside t r × (r < 65536)
       go true e = let l = (o.by_operator e).leaf_at in (l.row.inside, l.row.few)
       go false e = let l = o.by_row e in (l.inside, l.few)
 
@@ -234,13 +234,13 @@ module _ (s t : List ℕ) (flat : Bool) (r : ℕ) where
   unfolding NodeAt
   leaf_at q a n = n.2
 
-  pub node_whole : (e : Node) → NodeAt s t flat r e → (row_width * r + row_width ≤ length t) × (r < 65536)
+  pub node_whole : (e : Node) → NodeAt s t flat r e → RowInside t r × (r < 65536)
   unfolding NodeAt
   node_whole (leaf q a) n = (n.2.row.inside, n.2.row.few)
   node_whole (branch q es) n = opens_whole n.1
   node_whole (bytecode q es o) n = opens_whole n.1
 
-  pub more_whole : {end : ℕ} {es : Nodes} → MoreAt s t flat r end es → (row_width * r + row_width ≤ length t) × (r < 65536)
+  pub more_whole : {end : ℕ} {es : Nodes} → MoreAt s t flat r end es → RowInside t r × (r < 65536)
   more_whole f = node_whole f.head f.node
 
   -- what stands behind a leaf is at the next row

@@ -1,19 +1,19 @@
 -- Laws of what a bytecode form is transformed to, by its rows: the expressions of its flat list one after the other, and the result.
 -- Document 02, §1. Assumes nothing.
-use Prim.Native.Nat.{ℕ, ◌+◌, ◌*◌, ◌≤◌, ◌<◌}
+use Prim.Native.Nat.{ℕ, ◌+◌, ◌≤◌, ◌<◌}
 use mathlib.Core.Path.{◌≡◌, refl, ap}
 use mathlib.Core.List.{List, [], ◌∷◌}
 use mathlib.Core.Bool.{Bool, true, false}
 use lib.ListN.{length, drop, get_or, length-drop}
-use borrow.Author.Tests.{lt-ltb, le-ltb, lt-leb, le-leb}
 use native.Mathlib.Omega.{arith}
-use Rattle.spec.specs.Reading.{row_width}
 use Rattle.spec.specs.Expr.{Atom}
 use Rattle.spec.specs.Nodes.{plain, is as is_word, Node, leaf, branch, bytecode, Nodes, empty, cons, fails, becomes, row, head_word}
 use Rattle.spec.proofs.Made.{each_row}
+use Rattle.atoms.specs.Refusals.{number}
+use Rattle.atoms.specs.declared.refusal.Reason.{Reason}
 use Rattle.atoms.proofs.Places.{first_left}
-use Rattle.rows.specs.Rows.{mark, next, LeafAt, WrittenAt, WrittenAll, behind, form_at, flat_first, flat_of, single, RowsAt, NodeAt, NodesAt, OutcomeAt, ResultAt}
-use Rattle.rows.specs.Forms.{element_at, result_at, HeadInside, IsResult, is_leaf, is_branch}
+use Rattle.rows.specs.Rows.{RowInside, mark, next, LeafAt, WrittenAt, WrittenAll, form_at, flat_first, flat_of, single, RowsAt, NodeAt, NodesAt, OutcomeAt, ResultAt}
+use Rattle.rows.specs.Forms.{result_at, HeadInside, IsResult, is_leaf, is_branch}
 use Rattle.rows.specs.declared.forms.Form.{Form}
 use Rattle.rows.specs.declared.forms.Node.TheVariants.{Leaf, Branch}
 use Rattle.rows.proofs.Nodes.{written_row, written_whole, opens_whole, nodes_more, more_whole}
@@ -26,7 +26,7 @@ pub record MoreRows (t : List ℕ) (r end : ℕ) (qs : List ℕ) : Type 0 where
   pub rest : List ℕ
   pub is : qs ≡ r ∷ rest
   pub rows : RowsAt t (next t r) end rest
-  pub whole : row_width * r + row_width ≤ length t
+  pub whole : RowInside t r
   pub forward : r < next t r
   pub inside : next t r ≤ end
 
@@ -49,7 +49,7 @@ pub record RowsFrom (t : List ℕ) (end : ℕ) (qs : List ℕ) (r n : ℕ) : Typ
 -- row r is the next of them
 pub record NextRow (t : List ℕ) (end : ℕ) (qs : List ℕ) (r n : ℕ) : Type 0 where
   pub is : get_or qs n 0 ≡ r
-  pub whole : row_width * r + row_width ≤ length t
+  pub whole : RowInside t r
   pub forward : r < next t r
   pub inside : next t r ≤ end
   pub passed : RowsFrom t end qs (next t r) (n + 1)
@@ -83,12 +83,12 @@ written_rows s t r end (cons e es) h =
 pub record BecomesAt (s t : List ℕ) (place : ℕ) (f : Form) (rows : List ℕ) (e : Node) : Type 0 where
   pub marked : 0 < mark t f.first
   pub fine : mark t f.first ≤ 2
-  pub list : mark t f.first ≡ 2 → row_width * (f.first + 1) + row_width ≤ length t
+  pub list : mark t f.first ≡ 2 → RowInside t (f.first + 1)
   pub rows_at : RowsAt t (flat_first t f) f.end rows
   pub result : ResultAt s t place (flat_of t f) e
 
 module _ (s t : List ℕ) (place : ℕ) (f : Form) where
-  pub fails_at : (w : ℕ) → OutcomeAt s t place f (fails w) → (mark t f.first ≡ w) × (2 < w)
+  pub fails_at : (w : ℕ) → OutcomeAt s t place f (fails w) → (mark t f.first ≡ w) × (2 < w) × ((r : Reason) × (number r ≡ w))
   unfolding NodeAt
   fails_at w h = h
 
@@ -97,17 +97,6 @@ module _ (s t : List ℕ) (place : ℕ) (f : Form) where
   becomes_at rows e h = record { marked = h.0; fine = h.1; list = h.2; rows_at = h.3; result = h.4 }
 
 -- The result of a flat list
-
--- as code finds it: no expression, more than one, or one
-module _ (t : List ℕ) (g : Form) where
-  pub result_none : g.end ≤ g.first → result_at t g ≡ Branch g
-  result_none h = rw (le-ltb g.first g.end h)
-
-  pub result_several : g.first < g.end → behind t true g.first < g.end → result_at t g ≡ Branch g
-  result_several h l = rw (lt-ltb g.first g.end h, lt-leb g.end (behind t true g.first) l)
-
-  pub result_one : g.first < g.end → g.end ≤ behind t true g.first → result_at t g ≡ element_at t true g.first
-  result_one h l = rw (lt-ltb g.first g.end h, le-leb g.end (behind t true g.first) l)
 
 module _ (s t : List ℕ) (place : ℕ) (g : Form) where
   pub result_place : (e : Node) → ResultAt s t place g e → row e ≡ place

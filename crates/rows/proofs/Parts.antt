@@ -12,13 +12,13 @@ use Rattle.spec.specs.Nodes.{core, word, plain, is, Node, leaf, branch, bytecode
 use Rattle.spec.specs.Bytecode.{led_by_name}
 use Rattle.laws.specs.Demands.{Bytes}
 use Rattle.laws.proofs.Basics.{impossible}
-use Rattle.rows.specs.Rows.{kind, mark, link, next, LeafAt, WrittenAt, WrittenAll, is_made, behind, written, form_at, Opens, led_by_reference, NodeAt, NodesAt, OutcomeAt, parts_of, key_of}
+use Rattle.rows.specs.Rows.{RowInside, kind, mark, link, next, LeafAt, WrittenAt, WrittenAll, is_made, behind, written, form_at, Opens, led_by_reference, NodeAt, NodesAt, OutcomeAt, operands_of, key_of}
 use Rattle.rows.specs.Forms.{reserved, element_at, past, is_named, HeadInside, HeadAt, head_key, leads, IsElement, an_atom, a_form, a_bytecode}
 use Rattle.rows.specs.declared.forms.Form.{Form}
 use Rattle.rows.specs.declared.forms.Node.{Node as Ranged}
 use Rattle.rows.specs.declared.forms.Node.TheVariants.{Leaf, Branch}
-use Rattle.rows.specs.declared.forms.Parts.{Parts}
-use Rattle.rows.proofs.Nodes.{kind_ref, no_form, leaf_kind, leaf_fits, opens_whole, written_more, written_whole, written_leaf, nodes_first, node_row, kind_leaf}
+use Rattle.rows.specs.declared.forms.Operands.TheVariants.{Zero, One, Two, More}
+use Rattle.rows.proofs.Nodes.{kind_ref, no_form, leaf_kind, leaf_fits, opens_whole, written_more, written_whole, written_leaf, nodes_done, nodes_more, nodes_first, node_row, more_whole, kind_leaf}
 use Rattle.rows.proofs.Keys.{word_of, word_again, key_test, reserved_again}
 
 -- References
@@ -286,54 +286,87 @@ module _ (s t : List ℕ) (flat : Bool) (r : ℕ) where
   element_past (branch q es) n = rw (opens_element n.1) form_end
   element_past (bytecode q es o) n = rw (opens_element n.1) form_end
 
--- A form's elements, by its parts
+-- A form's elements, from row to row
+
+-- an element at row r, and what follows from row a on, which the row tells
+pub record NextAt (s t : List ℕ) (r a end : ℕ) (es : Nodes) : Type 0 where
+  pub head : Node
+  pub rest : Nodes
+  pub is : es ≡ cons head rest
+  pub place : row head ≡ r
+  pub whole : RowInside t r
+  pub nodes : NodesAt s t false a end rest
+
+pub next_at : {s t : List ℕ} {r a end : ℕ} {es : Nodes} → NodesAt s t false r end es → r < end → a ≡ next t r → NextAt s t r a end es
+next_at {s = s} {t = t} {r = r} {end = end} {es = es} h l e =
+    let f = nodes_more s t false r end es h l in
+    record { head = f.head; rest = f.rest; is = f.is; place = node_row s t false r f.head f.node; whole = (more_whole s t false r f).0; nodes = rw e f.nodes }
+
+-- its operands, if no element follows, or one, or two, or more
+module _ {s t : List ℕ} {r a end : ℕ} {es : Nodes} (f : NextAt s t r a end es) where
+  pub no_operand : end ≤ a → Zero ≡ operands_of es
+  no_operand l = rw (f.is, nodes_done s t false a end f.rest f.nodes l)
+
+  pub one_operand : {b : ℕ} → NextAt s t a b end f.rest → end ≤ b → One a ≡ operands_of es
+  one_operand {b} g l = rw (f.is, g.is, nodes_done s t false b end g.rest g.nodes l, g.place)
+
+  pub two_operands : {b c : ℕ} (g : NextAt s t a b end f.rest) → NextAt s t b c end g.rest → end ≤ c → Two a b ≡ operands_of es
+  two_operands {b} {c} g k l = rw (f.is, g.is, k.is, nodes_done s t false c end k.rest k.nodes l, g.place, k.place)
+
+  pub more_operands : {b c : ℕ} (g : NextAt s t a b end f.rest) → NextAt s t b c end g.rest → c < end → More a b ≡ operands_of es
+  more_operands {b} {c} g k l = rw (f.is, g.is, k.is, (nodes_more s t false c end k.rest k.nodes l).is, g.place, k.place)
+
+-- an operand or two, by the answer
 
 -- a head and one more
-pub record OneAt (s t : List ℕ) (p : Parts) (es : Nodes) : Type 0 where
+pub record OneAt (s t : List ℕ) (a : ℕ) (es : Nodes) : Type 0 where
   pub head : Node
   pub first : Node
   pub is : es ≡ cons head (cons first empty)
-  pub at : NodeAt s t false p.second first
+  pub at : NodeAt s t false a first
 
 -- a head and two more
-pub record TwoAt (s t : List ℕ) (r end : ℕ) (p : Parts) (es : Nodes) : Type 0 where
+pub record TwoAt (s t : List ℕ) (end a b : ℕ) (es : Nodes) : Type 0 where
   pub head : Node
   pub first : Node
   pub second : Node
   pub is : es ≡ cons head (cons first (cons second empty))
-  pub one : NodeAt s t false p.second first
-  pub two : NodeAt s t false p.third second
-  pub from_one : NodesAt s t false p.second end (cons first (cons second empty))
-  pub from_two : NodesAt s t false p.third end (cons second empty)
+  pub one : NodeAt s t false a first
+  pub two : NodeAt s t false b second
+  pub from_one : NodesAt s t false a end (cons first (cons second empty))
+  pub from_two : NodesAt s t false b end (cons second empty)
 
 module _ (s t : List ℕ) (r end : ℕ) where
-  pub one_at : (es : Nodes) (p : Parts) → NodesAt s t false r end es → p ≡ parts_of es → p.count ≡ 2 → OneAt s t p es
-  one_at empty p h e n = absurd (omega (arith, ap (λ (x : Parts). x.count) e))
-  one_at (cons x empty) p h e n = absurd (omega (arith, ap (λ (x : Parts). x.count) e))
-  one_at (cons x (cons a empty)) p h e n =
-      let one = nodes_first s t false (next t r) end a empty (nodes_first s t false r end x (cons a empty) h).2 in
-      record { head = x; first = a; is = refl; at = rw (ap (λ (y : Parts). y.second) e ∙ node_row s t false (next t r) a one.1) one.1 }
-  one_at (cons x (cons a (cons b empty))) p h e n = absurd (omega (arith, ap (λ (x : Parts). x.count) e))
-  one_at (cons x (cons a (cons b (cons d es)))) p h e n = absurd (omega (arith, ap (λ (x : Parts). x.count) e))
+  pub one_at : (es : Nodes) (a : ℕ) → NodesAt s t false r end es → One a ≡ operands_of es → OneAt s t a es
+  one_at empty a h e = impossible (cc)
+  one_at (cons x empty) a h e = impossible (cc)
+  one_at (cons x (cons y empty)) a h e =
+      let one = nodes_first s t false (next t r) end y empty (nodes_first s t false r end x (cons y empty) h).2 in
+      let first : a ≡ row y = cc in
+      record { head = x; first = y; is = refl; at = rw (first ∙ node_row s t false (next t r) y one.1) one.1 }
+  one_at (cons x (cons y (cons z empty))) a h e = impossible (cc)
+  one_at (cons x (cons y (cons z (cons w es)))) a h e = impossible (cc)
 
-  pub two_at : (es : Nodes) (p : Parts) → NodesAt s t false r end es → p ≡ parts_of es → p.count ≡ 3 → TwoAt s t r end p es
-  two_at empty p h e n = absurd (omega (arith, ap (λ (x : Parts). x.count) e))
-  two_at (cons x empty) p h e n = absurd (omega (arith, ap (λ (x : Parts). x.count) e))
-  two_at (cons x (cons a empty)) p h e n = absurd (omega (arith, ap (λ (x : Parts). x.count) e))
-  two_at (cons x (cons a (cons b empty))) p h e n =
-      let begin = nodes_first s t false r end x (cons a (cons b empty)) h in
-      let one = nodes_first s t false (next t r) end a (cons b empty) begin.2 in
-      let two = nodes_first s t false (next t (next t r)) end b empty one.2 in
-      let second : p.second ≡ next t r = ap (λ (x : Parts). x.second) e ∙ node_row s t false (next t r) a one.1 in
-      let third : p.third ≡ next t (next t r) = ap (λ (x : Parts). x.third) e ∙ node_row s t false (next t (next t r)) b two.1 in
+  pub two_at : (es : Nodes) (a b : ℕ) → NodesAt s t false r end es → Two a b ≡ operands_of es → TwoAt s t end a b es
+  two_at empty a b h e = impossible (cc)
+  two_at (cons x empty) a b h e = impossible (cc)
+  two_at (cons x (cons y empty)) a b h e = impossible (cc)
+  two_at (cons x (cons y (cons z empty))) a b h e =
+      let begin = nodes_first s t false r end x (cons y (cons z empty)) h in
+      let one = nodes_first s t false (next t r) end y (cons z empty) begin.2 in
+      let two = nodes_first s t false (next t (next t r)) end z empty one.2 in
+      let first : a ≡ row y = cc in
+      let second : b ≡ row z = cc in
+      let here : a ≡ next t r = first ∙ node_row s t false (next t r) y one.1 in
+      let there : b ≡ next t (next t r) = second ∙ node_row s t false (next t (next t r)) z two.1 in
       record {
         head = x;
-        first = a;
-        second = b;
+        first = y;
+        second = z;
         is = refl;
-        one = rw second one.1;
-        two = rw third two.1;
-        from_one = rw second begin.2;
-        from_two = rw third one.2;
+        one = rw here one.1;
+        two = rw there two.1;
+        from_one = rw here begin.2;
+        from_two = rw there one.2;
       }
-  two_at (cons x (cons a (cons b (cons d es)))) p h e n = absurd (omega (arith, ap (λ (x : Parts). x.count) e))
+  two_at (cons x (cons y (cons z (cons w es)))) a b h e = impossible (cc)

@@ -1,18 +1,27 @@
--- Laws of `same`: two lists compared byte by byte. Document 01: "exactly the six bytes", "id used before". Assumes nothing.
-use Prim.Native.Nat.{ℕ, suc, ◌+◌, ◌≤◌, ◌<◌}
-use mathlib.Core.Path.{◌≡◌, refl, sym, ap}
+-- Laws of `same`: two lists compared byte by byte, as std's tests compare slices. Document 01: "exactly the six bytes", "id used before". Assumes nothing.
+use mathlib.Core.Path.{◌≡◌, refl, sym, ap, ◌∙◌}
 use mathlib.Core.List.{List, [], ◌∷◌}
 use mathlib.Core.Bool.{Bool, true, false, ◌&&◌, and-false}
-use native.Mathlib.Omega.{arith}
-use native.Mathlib.Numerals.{add-one}
-use lib.ListN.{length, drop, get_or, drop_of_length-le}
-use lib.Seq.{drop-cons}
+use Prim.Native.Nat.{ℕ, suc}
+use lib.ListN.{length}
 use lib.Dec.{eqb}
-use borrow.Author.Tests.{eqb-true, eq-eqb, ne_eqb}
+use lib.Pointwise.{pointwise}
+use borrow.Author.Tests.{eqb-true}
+use Rattle.std.proofs.lemmas.Cmp.{nat_list_eq_equiv}
 use Rattle.spec.specs.Expr.{same}
 use Rattle.laws.proofs.Basics.{impossible}
 
--- The same bytes
+-- what std's `==` of two slices of bytes answers
+pub slices_same : (x y : List ℕ) → pointwise eqb x y ≡ same x y
+unfolding same
+slices_same [] [] = refl
+slices_same [] (b ∷ y) = refl
+slices_same (a ∷ x) [] = refl
+slices_same (a ∷ x) (b ∷ y) = rw (slices_same x y)
+
+-- and `starts_with`, which compares what is looked for with the beginning
+pub beginning_same : (x y : List ℕ) → pointwise eqb y x ≡ same x y
+beginning_same x y = nat_list_eq_equiv.symm y x ∙ slices_same x y
 
 -- lists of different lengths are not the same
 pub same_long : (x y : List ℕ) → (length x ≡ length y → ⊥) → false ≡ same x y
@@ -32,19 +41,3 @@ same_equal (a ∷ x) (b ∷ y) h = go (eqb a b) refl (same_equal x y) h
     go : (c : Bool) → eqb a b ≡ c → (same x y ≡ true → x ≡ y) → c && same x y ≡ true → a ∷ x ≡ b ∷ y
     go true e f q = rw (eqb-true a b e, f q)
     go false e f q = impossible (cc)
-
--- what is left of both, byte by byte
-module _ (x y : List ℕ) (i : ℕ) where
-  pub same_done : length x ≡ length y → length x ≤ i → true ≡ same (drop i x) (drop i y)
-  unfolding same
-  same_done h k = rw (drop_of_length-le x k, drop_of_length-le y {i = i} (omega arith))
-
-  same_turn : i < length x → i < length y → same (drop i x) (drop i y) ≡ eqb (get_or x i 0) (get_or y i 0) && same (drop (i + 1) x) (drop (i + 1) y)
-  unfolding same
-  same_turn h k = rw (drop-cons x i 0 h, drop-cons y i 0 k, add-one)
-
-  pub same_next : i < length x → i < length y → get_or x i 0 ≡ get_or y i 0 → same (drop (i + 1) x) (drop (i + 1) y) ≡ same (drop i x) (drop i y)
-  same_next h k e = sym (rw (eq-eqb (get_or x i 0) (get_or y i 0) e) at (same_turn h k))
-
-  pub same_differs : i < length x → i < length y → (get_or x i 0 ≡ get_or y i 0 → ⊥) → false ≡ same (drop i x) (drop i y)
-  same_differs h k e = sym (rw (ne_eqb (get_or x i 0) (get_or y i 0) e) at (same_turn h k))

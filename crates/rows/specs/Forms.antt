@@ -1,10 +1,9 @@
 -- What the code's words, forms and nodes are, in the definitions' terms. Document 01: "Names of the core namespace", "Table". Assumes nothing.
-use Rattle.std.specs.Prelude.{ℕ, ◌+◌, ◌*◌, ◌/◌, ◌%◌, ◌≤◌, ◌<◌, ◌≡◌, List, Bool, true, false, not, ◌&&◌, ◌||◌, length, eqb, ltb}
+use Rattle.std.specs.Prelude.{ℕ, ◌+◌, ◌/◌, ◌%◌, ◌<◌, ◌≡◌, List, Bool, true, false, not, ◌&&◌, ◌||◌, eqb, ltb}
 use Rattle.spec.specs.Expr.{when◌then◌else◌, some, Atom, if_ref}
-use Rattle.spec.specs.Reading.{row_width}
 use Rattle.spec.specs.Nodes.{core, Word, ns, define, concat, subst, arg, rest, plain, is, word, Node, leaf, branch, bytecode, Nodes, empty, cons, Outcome, head_word}
 use Rattle.spec.specs.Bytecode.{bytecode_names, is_name}
-use Rattle.rows.specs.Rows.{kind, LeafAt, WrittenAll, is_made, written, form_at, single, NodesAt, led_by_reference, Unmarked, OutcomeAt, key_of}
+use Rattle.rows.specs.Rows.{RowInside, kind, LeafAt, WrittenAll, is_made, written, form_at, single, NodesAt, led_by_reference, Unmarked, OutcomeAt, key_of}
 use Rattle.rows.specs.declared.words.Word.{Word as Coded}
 use Rattle.rows.specs.declared.words.Word.TheVariants.{Ns, Define, Concat, Subst, Arg, Rest, Plain}
 use Rattle.rows.specs.declared.forms.Form.{Form}
@@ -54,7 +53,7 @@ is_named t f = ltb f.first f.end && not (is_made t f.flat f.first) && eqb (kind 
 
 -- the head's row, if there is one, is in the table
 abbrev pub HeadInside : List ℕ → Form → Type 0
-HeadInside t f = f.first < f.end → (row_width * f.first + row_width ≤ length t) × (f.first < 65536)
+HeadInside t f = f.first < f.end → RowInside t f.first × (f.first < 65536)
 
 -- a form's head is that of these elements, written or transformed
 unfoldable pub HeadAt : List ℕ → List ℕ → Form → Nodes → Type 0

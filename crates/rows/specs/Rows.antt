@@ -6,10 +6,17 @@ use Rattle.spec.specs.Expr.{when◌then◌else◌, Atom, ref, if_ref}
 use Rattle.spec.specs.Reading.{atom_kind, row_width}
 use Rattle.spec.specs.Nodes.{plain, is, Node, leaf, branch, bytecode, Nodes, empty, cons, Outcome, fails, becomes, row, head_word}
 use Rattle.laws.specs.Grammar.{SpellsAtom}
+use Rattle.atoms.specs.Refusals.{number}
+use Rattle.atoms.specs.declared.refusal.Reason.{Reason}
 use Rattle.rows.specs.declared.forms.Form.{Form}
-use Rattle.rows.specs.declared.forms.Parts.{Parts}
+use Rattle.rows.specs.declared.forms.Operands.{Operands}
+use Rattle.rows.specs.declared.forms.Operands.TheVariants.{Empty, Zero, One, Two, More}
 
 -- Rows
+
+-- row r is in the table
+abbrev pub RowInside : List ℕ → ℕ → Type 0
+RowInside t r = row_width * r + row_width ≤ length t
 
 -- number j of row r of the table: 0 has its kind, 1 its start, 2 is its end, 3 the next row
 abbrev pub cell : List ℕ → ℕ → ℕ → ℕ
@@ -33,7 +40,7 @@ link t r = cell t r 0 / 32768
 
 -- a row of the table, of an expression of that kind in the stream
 pub record RowAt (s t : List ℕ) (r kind : ℕ) : Type 0 where
-  pub inside : row_width * r + row_width ≤ length t
+  pub inside : RowInside t r
   pub few : r < 65536
   pub kind_is : cell t r 0 % 256 ≡ kind
   pub starts : start t r < cell t r 2
@@ -117,7 +124,7 @@ single t g = ltb g.first g.end && leb g.end (behind t true g.first)
 unfoldable pub RowsAt : List ℕ → ℕ → ℕ → List ℕ → Type 0
 RowsAt t r end [] = r ≡ end
 RowsAt t r end (q ∷ qs) =
-    (q ≡ r) × (row_width * r + row_width ≤ length t) × (r < next t r) × (next t r ≤ end) × RowsAt t (next t r) end qs
+    (q ≡ r) × RowInside t r × (r < next t r) × (next t r ≤ end) × RowsAt t (next t r) end qs
 
 unfoldable mutual
   -- a node at its row, which is one of a list, flat or not
@@ -137,9 +144,9 @@ unfoldable mutual
 
   -- what a bytecode form with the place of a row is transformed to
   pub OutcomeAt : List ℕ → List ℕ → ℕ → Form → Outcome → Type 0
-  OutcomeAt s t place f (fails w) = (mark t f.first ≡ w) × (2 < w)
+  OutcomeAt s t place f (fails w) = (mark t f.first ≡ w) × (2 < w) × ((r : Reason) × (number r ≡ w))
   OutcomeAt s t place f (becomes rows e) =
-      (0 < mark t f.first) × (mark t f.first ≤ 2) × (mark t f.first ≡ 2 → row_width * (f.first + 1) + row_width ≤ length t)
+      (0 < mark t f.first) × (mark t f.first ≤ 2) × (mark t f.first ≡ 2 → RowInside t (f.first + 1))
       × RowsAt t (flat_first t f) f.end rows × ResultAt s t place (flat_of t f) e
 
   -- the result of a flat list, with its form's place: one expression, or the form of all, not headed by a function name
@@ -151,13 +158,13 @@ unfoldable mutual
       × (single t g ≡ false → NodesAt s t true g.first g.end es)
   ResultAt s t place g (bytecode q es o) = ⊥
 
--- the rows of a form's second and third element, and how many it has, 4 standing for more
-abbrev pub parts_of : Nodes → Parts
-parts_of empty = record { count = 0; second = 0; third = 0 }
-parts_of (cons h empty) = record { count = 1; second = 0; third = 0 }
-parts_of (cons h (cons a empty)) = record { count = 2; second = row a; third = 0 }
-parts_of (cons h (cons a (cons b empty))) = record { count = 3; second = row a; third = row b }
-parts_of (cons h (cons a (cons b (cons c es)))) = record { count = 4; second = row a; third = row b }
+-- the rows of a form's elements behind its head, of more than two those of the first two
+abbrev pub operands_of : Nodes → Operands
+operands_of empty = Empty
+operands_of (cons h empty) = Zero
+operands_of (cons h (cons a empty)) = One (row a)
+operands_of (cons h (cons a (cons b empty))) = Two (row a) (row b)
+operands_of (cons h (cons a (cons b (cons c es)))) = More (row a) (row b)
 
 -- Keys
 

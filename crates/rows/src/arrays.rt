@@ -27,12 +27,10 @@ fn nested_end(s: &[u8], value: usize, from: usize, depth: usize) -> usize
 {
     let mut v = value;
     let mut at = from;
-    let mut k = depth;
-    while 0 < k {
+    for _ in 0..depth {
         let end = at + v;
         v = short_number(s, at, end);
         at = end;
-        k -= 1;
     }
     at
 }
@@ -44,7 +42,7 @@ fn length_end(s: &[u8], at: usize) -> usize
 {
     let depth = atoms::threes(s, at);
     let p = at + depth;
-    let b = s[p] as usize;
+    let b = usize::from(s[p]);
     let q = p + 1;
     if b < 0xC0 {
         return nested_end(s, b - 0x80, q, depth);

@@ -1,9 +1,8 @@
 // Expressions as the evaluator takes them: a form is a range of rows. Document 01: "form: the expressions between".
-ghost use Rattle.std.specs.Prelude.{◌≡◌, List, true, false, ℕ, ◌+◌, ◌*◌, ◌≤◌, ◌<◌, length, leb};
-ghost use Rattle.spec.specs.Reading.{row_width};
+ghost use Rattle.std.specs.Prelude.{◌≡◌, List, true, false, ℕ, ◌<◌, leb};
 ghost use Rattle.spec.specs.Nodes.{Node as Expression, Nodes, elements, head_word};
 ghost use Rattle.spec.specs.Evaluation.{one_value};
-ghost use Rattle.rows.specs.Rows.{is_made, behind, written, NodeAt, NodesAt, parts_of};
+ghost use Rattle.rows.specs.Rows.{RowInside, is_made, behind, written, NodeAt, NodesAt, operands_of};
 ghost use Rattle.rows.specs.Forms.{meant, starting_at, flattened, element_at, past, result_at, is_named, HeadInside, HeadAt, SomeHead, head_key};
 
 use crate::table;
@@ -12,7 +11,7 @@ use atoms::Kind;
 
 // The elements of a form: those from row `first` up to row `end`. In a flat list operators stand for the forms that are made of them and their
 // operands.
-#[derive(Clone, Copy)]
+#[derive(Clone, Copy, Debug, PartialEq, Eq)]
 pub struct Form {
     pub first: usize,
     pub end: usize,
@@ -20,33 +19,27 @@ pub struct Form {
 }
 
 // An atom, or a form.
-#[derive(Clone, Copy)]
+// Kept: not `Option<Form>`, in which an atom would be a form that is missing.
+#[derive(Clone, Copy, Debug, PartialEq, Eq)]
 pub enum Node {
     Leaf,
     Branch(Form),
 }
 
-// How many elements a form has, 4 standing for more, and the rows of its second and third.
-#[derive(Clone, Copy)]
-pub struct Parts {
-    pub count: usize,
-    pub second: usize,
-    pub third: usize,
-}
-
-fn found(count: usize, second: usize, third: usize) -> Parts
-    ensures { result ≡ record { count = count; second = second; third = third } }
-{
-    Parts {
-        count,
-        second,
-        third,
-    }
+// The rows of a form's elements behind its head, of more than two those of the first two.
+#[derive(Clone, Copy, Debug, PartialEq, Eq)]
+pub enum Operands {
+    // Not even a head.
+    Empty,
+    Zero,
+    One(usize),
+    Two(usize, usize),
+    More(usize, usize),
 }
 
 // The form that is written at a row.
 pub fn written(table: &[u32], row: usize) -> Form
-    requires { (row_width * row + row_width ≤ length table.now) × (row < 65536) }
+    requires { RowInside table.now row × (row < 65536) }
     ensures { result ≡ written table.now row }
 {
     Form {
@@ -56,34 +49,20 @@ pub fn written(table: &[u32], row: usize) -> Form
     }
 }
 
-// The expression that is written at a row.
-pub fn at(table: &[u32], row: usize) -> Node
-    requires { (row_width * row + row_width ≤ length table.now) × (row < 65536) }
-    ensures { result ≡ element_at table.now false row }
-{
-    if table::kind(table, row) == Kind::FORM {
-        return Node::Branch(written(table, row));
-    }
-    Node::Leaf
-}
-
 // Whether an element of a list is a form that is made of an operator and its operands.
 fn is_made(table: &[u32], flat: bool, row: usize) -> bool
-    requires { row_width * row + row_width ≤ length table.now }
+    requires { RowInside table.now row }
     ensures { result ≡ is_made table.now flat row }
 {
-    if table::link(table, row) == 0 {
-        return false;
-    }
-    flat
+    flat && table::link(table, row) != 0
 }
 
 // The element at a row of a list: made of the operator there, or written.
 pub fn element(table: &[u32], flat: bool, row: usize) -> Node
-    requires { (row_width * row + row_width ≤ length table.now) × (row < 65536) }
+    requires { RowInside table.now row × (row < 65536) }
     ensures { result ≡ element_at table.now flat row }
 {
-    if table::kind(table, row) == Kind::FORM {
+    if table::has_kind(table, row, Kind::Form) {
         return Node::Branch(written(table, row));
     }
     if is_made(table, flat, row) {
@@ -98,7 +77,7 @@ pub fn element(table: &[u32], flat: bool, row: usize) -> Node
 
 // The row behind the element at a row of a list.
 pub fn behind(table: &[u32], flat: bool, row: usize) -> usize
-    requires { row_width * row + row_width ≤ length table.now }
+    requires { RowInside table.now row }
     ensures { result ≡ behind table.now flat row }
 {
     if is_made(table, flat, row) {
@@ -112,7 +91,7 @@ pub fn word_at(s: &[u8], table: &[u32], row: usize) -> Word
     requires { (e : Expression) × NodeAt s.now table.now false row e }
     ensures { (e : Expression) → NodeAt s.now table.now false row e → meant result ≡ head_word (elements e) }
 {
-    match at(table, row) {
+    match element(table, false, row) {
         Node::Leaf => Word::Plain,
         Node::Branch(form) => form.word(s, table),
     }
@@ -136,11 +115,7 @@ impl Form {
     pub fn starting_at(self, first: usize) -> Self
         ensures { result ≡ starting_at first self }
     {
-        Self {
-            first,
-            end: self.end,
-            flat: self.flat,
-        }
+        Self { first, ..self }
     }
 
     // The same elements from a row on, as a flat list.
@@ -149,8 +124,8 @@ impl Form {
     {
         Self {
             first,
-            end: self.end,
             flat: true,
+            ..self
         }
     }
 
@@ -179,16 +154,13 @@ impl Form {
         requires { HeadInside table.now self }
         ensures { result ≡ is_named table.now self }
     {
-        if self.is_empty() {
-            return false;
-        }
-        if table::kind(table, self.first) != Kind::REFERENCE {
-            return false;
-        }
-        !is_made(table, self.flat, self.first)
+        !self.is_empty()
+            && table::has_kind(table, self.first, Kind::Reference)
+            && !is_made(table, self.flat, self.first)
     }
 
     // The key of the reference that heads the form; 0 if none does.
+    // Kept: no `Option`. 0 is the key of no name, so that callers compare keys and need not ask first.
     pub fn head_key(self, s: &[u8], table: &[u32]) -> u32
         requires { SomeHead s.now table.now self }
         ensures { (es : Nodes) → HeadAt s.now table.now self es → result ≡ head_key es }
@@ -209,32 +181,33 @@ impl Form {
 
     // The elements behind the head.
     pub fn rest(self, table: &[u32]) -> Self
-        requires { row_width * self.first + row_width ≤ length table.now }
+        requires { RowInside table.now self.first }
         ensures { result ≡ starting_at (behind table.now self.flat self.first) self }
     {
         self.starting_at(behind(table, self.flat, self.first))
     }
 
-    pub fn parts(self, table: &[u32]) -> Parts
+    // The rows of the elements behind the head.
+    pub fn operands(self, table: &[u32]) -> Operands
         requires { (s : List ℕ) × (es : Nodes) × NodesAt s table.now false self.first self.end es }
-        ensures { (s : List ℕ) (es : Nodes) → NodesAt s table.now false self.first self.end es → result ≡ parts_of es }
+        ensures { (s : List ℕ) (es : Nodes) → NodesAt s table.now false self.first self.end es → result ≡ operands_of es }
     {
         let end = self.end;
         if self.is_empty() {
-            return found(0, 0, 0);
+            return Operands::Empty;
         }
         let second = table::next(table, self.first);
         if end <= second {
-            return found(1, 0, 0);
+            return Operands::Zero;
         }
         let third = table::next(table, second);
         if end <= third {
-            return found(2, second, 0);
+            return Operands::One(second);
         }
         if end <= table::next(table, third) {
-            return found(3, second, third);
+            return Operands::Two(second, third);
         }
-        found(4, second, third)
+        Operands::More(second, third)
     }
 
     // Whether the elements, a code's, are one expression other than a `rest` form.
@@ -242,16 +215,8 @@ impl Form {
         requires { (es : Nodes) × NodesAt s.now table.now false self.first self.end es }
         ensures { (es : Nodes) → NodesAt s.now table.now false self.first self.end es → result ≡ one_value es }
     {
-        if self.is_empty() {
-            return false;
-        }
-        let first = self.first;
-        if table::next(table, first) < self.end {
-            return false;
-        }
-        match word_at(s, table, first) {
-            Word::Rest => false,
-            _ => true,
-        }
+        !self.is_empty()
+            && self.end <= table::next(table, self.first)
+            && word_at(s, table, self.first) != Word::Rest
     }
 }

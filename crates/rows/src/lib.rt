@@ -3,7 +3,6 @@
 #![tactic(auto)]
 
 pub mod arrays;
-pub mod compare;
 pub mod forms;
 pub mod table;
 pub mod words;

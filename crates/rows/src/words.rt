@@ -4,7 +4,7 @@ ghost use Rattle.spec.specs.Nodes.{plain, is, word};
 ghost use Rattle.rows.specs.Forms.{meant, reserved};
 
 // What a reference is as a head: one of the function names, or plain.
-#[derive(Clone, Copy)]
+#[derive(Clone, Copy, Debug, PartialEq, Eq)]
 pub enum Word {
     Ns,
     Define,
@@ -50,6 +50,7 @@ impl Core {
     pub const ARITY: u32 = 0x2034;
 
     // The word of a key.
+    #[tactic(auto, unfolding(spec::specs::Nodes::word, spec::specs::Nodes::among))]
     pub fn word(key: u32) -> Word
         ensures { meant result ≡ word (key / 256) (key % 256) }
     {
@@ -68,22 +69,13 @@ impl Core {
     pub fn is_function(key: u32) -> bool
         ensures { result ≡ not (is (word (key / 256) (key % 256)) plain) }
     {
-        match Core::word(key) {
-            Word::Plain => false,
-            _ => true,
-        }
+        Core::word(key) != Word::Plain
     }
 
     // Whether a key is a function name's or a bytecode name's.
     pub fn is_reserved(key: u32) -> bool
         ensures { result ≡ reserved key }
     {
-        if Core::is_function(key) {
-            return true;
-        }
-        if key < Core::PREFIX {
-            return false;
-        }
-        key <= Core::ARITY
+        Core::is_function(key) || (Core::PREFIX..=Core::ARITY).contains(&key)
     }
 }

@@ -3,36 +3,41 @@
 use Prim.Native.Nat.{ℕ, ◌+◌, ◌-◌, ◌/◌, ◌≤◌}
 use mathlib.Core.Path.{◌≡◌, refl, sym, ◌∙◌}
 use mathlib.Core.List.{List}
-use mathlib.Core.Bool.{Bool, false, ◌||◌}
+use mathlib.Core.Bool.{Bool, true, false, not, ◌||◌}
 use native.Mathlib.Omega.{arith}
 use lib.ListN.{length}
 use lib.Seq.{slice}
 use lib.Dec.{ltb, leb, eqb}
 use borrow.Author.Tests.{ltb-false, leb-false, le-ltb}
+use denote.Enum.Bare.{sameb}
+use Rattle.std.specs.Prelude.{Ok, Err}
 use Rattle.spec.specs.Expr.{when◌then◌else◌, some, array, ref}
 use Rattle.spec.specs.Nodes.{ns, Node, leaf, branch, bytecode, Nodes, empty, cons, head_word, markers_all}
 use Rattle.spec.specs.Plan.{Namespace, Within, top, Here, Plan, refuse, clash, plan_ns}
 use Rattle.laws.specs.Demands.{Bytes}
 use Rattle.laws.proofs.Basics.{impossible, by_test, both_false}
-use Rattle.rows.specs.Rows.{cell, kind, LeafAt, NodesAt, parts_of, key_of}
+use Rattle.atoms.specs.declared.refusal.Reason.TheVariants.{WrongElements, WrongMarker, TooMany}
+use Rattle.rows.specs.Rows.{cell, kind, LeafAt, NodesAt, operands_of, key_of}
 use Rattle.rows.specs.declared.forms.Form.{Form}
-use Rattle.rows.specs.declared.forms.Parts.{Parts}
+use Rattle.rows.specs.declared.forms.Operands.{Operands}
+use Rattle.rows.specs.declared.forms.Operands.TheVariants.{Two}
 use Rattle.rows.proofs.Nodes.{kind_array, leaf_array, leaf_fits}
 use Rattle.rows.proofs.Keys.{key_marker}
-use Rattle.rows.proofs.Parts.{reference_at, two_at}
+use Rattle.rows.proofs.Parts.{TwoAt, reference_at}
 use Rattle.workspace.specs.Completed.{Atoms}
 use Rattle.rules.specs.Entries.{stream, id, association}
 use Rattle.rules.specs.Scope.{latest, View, view}
 use Rattle.rules.specs.Associations.{AssociationAt, Linked, SomeLinked}
 use Rattle.rules.specs.Settings.{ElementOf, of_top, of_data, of_other}
 use Rattle.rules.specs.Planned.{refuses, associates, Planning, Answers}
+use Rattle.rules.specs.contracts.here.Within.{the_type}
 use Rattle.rules.specs.declared.here.Within.{Within as Listed}
 use Rattle.rules.specs.declared.here.Within.TheVariants.{Top}
 use Rattle.rules.specs.declared.here.Here.{Here as Code}
-use Rattle.rules.specs.declared.plan.Task.TheVariants.{Refuse, Ns}
+use Rattle.rules.specs.declared.plan.Task.TheVariants.{Ns}
 use Rattle.rules.proofs.Latest.{latest_length}
 use Rattle.rules.proofs.Linking.{linked_length}
-use Rattle.rules.proofs.Expecting.{refused_two, refused_ref, refused_array, of_kind, refused_if}
+use Rattle.rules.proofs.Expecting.{no_two, refused_ref, refused_array, of_kind, refused_if}
 
 -- Where it stands
 
@@ -50,53 +55,58 @@ module _ {s t : List ℕ} {row : ℕ} where
   top_at of_data e = impossible (cc)
   top_at of_other e = impossible (cc)
 
-  pub ns_elsewhere : {l : Listed} {q : Within} → ElementOf s t row l q → (l ≡ Top → ⊥) → (es : Nodes) (h : Here) → plan_ns q es h ≡ refuse 13
-  ns_elsewhere (of_top es h m) e fs k = absurd (e refl)
+  pub ns_elsewhere : {l : Listed} {q : Within} → ElementOf s t row l q → true ≡ not (sameb the_type l Top) → (es : Nodes) (h : Here) → plan_ns q es h ≡ refuse 13
+  ns_elsewhere (of_top es h m) e fs k = impossible (cc)
   ns_elsewhere of_data e fs k = refl
   ns_elsewhere of_other e fs k = refl
 
 -- Its elements
 
 -- a head, a reference and an array
-pub record NsAt (s t : List ℕ) (p : Parts) (es : Nodes) : Type 0 where
+pub record NsAt (s t : List ℕ) (a b : ℕ) (es : Nodes) : Type 0 where
   pub head : Node
   pub marker : ℕ
   pub name : ℕ
   pub id : List ℕ
-  pub is : es ≡ cons head (cons (leaf p.second (ref marker name)) (cons (leaf p.third (array id)) empty))
-  pub reference : LeafAt s t p.second (ref marker name)
-  pub array_there : LeafAt s t p.third (array id)
+  pub is : es ≡ cons head (cons (leaf a (ref marker name)) (cons (leaf b (array id)) empty))
+  pub reference : LeafAt s t a (ref marker name)
+  pub array_there : LeafAt s t b (array id)
 
-module _ (s t : List ℕ) (r end : ℕ) (es : Nodes) (p : Parts) (at : NodesAt s t false r end es) (is : p ≡ parts_of es) where
-  pub ns_at : p.count ≡ 3 → kind t p.second ≡ 4 → kind t p.third ≡ 2 → NsAt s t p es
-  ns_at n k l =
-      let g = two_at s t r end es p at is n in
-      let a = reference_at s t p.second g.first g.one k in
-      let b = of_kind s t p.third 2 array kind_array (λ z. omega arith) g.second g.two l in
+-- 11 at the top level, by the rule there
+ns_refused : {s t args : List ℕ} {v : View} {here : Code} {at row : ℕ} (es : Nodes) → here.within ≡ Top
+    → ((earlier : List ℕ) (h : Here) → plan_ns (top earlier) es h ≡ refuse 11)
+    → Answers s t args v here at (branch row es) (λ h. plan_ns h.within es h) (Err WrongElements)
+ns_refused es there rule = λ w st h set. let k = top_at set.element_of there in rw (k.is, rule k.earlier h) (refuses WrongElements)
+
+-- if there are not two operands
+pub ns_other : {s t args : List ℕ} {v : View} {here : Code} {at row : ℕ} (es : Nodes) {p : Operands} → here.within ≡ Top
+    → p ≡ operands_of es → ((a b : ℕ) → p ≡ Two a b → ⊥) → Answers s t args v here at (branch row es) (λ h. plan_ns h.within es h) (Err WrongElements)
+ns_other es there is none = ns_refused es there (λ earlier h. no_two es _ is none)
+
+module _ {s t : List ℕ} {end a b : ℕ} {es : Nodes} (g : TwoAt s t end a b es) where
+  pub ns_at : kind t a ≡ 4 → kind t b ≡ 2 → NsAt s t a b es
+  ns_at k l =
+      let r = reference_at s t a g.first g.one k in
+      let i = of_kind s t b 2 array kind_array (λ z. omega arith) g.second g.two l in
       record {
         head = g.head;
-        marker = a.marker;
-        name = a.name;
-        id = b.0;
-        is = cc (g.is, a.is, b.1);
-        reference = a.here;
-        array_there = b.2;
+        marker = r.marker;
+        name = r.name;
+        id = i.0;
+        is = cc (g.is, r.is, i.1);
+        reference = r.here;
+        array_there = i.2;
       }
 
-  ns_refused : (earlier : List ℕ) (h : Here)
-      → (p.count ≡ 3 → kind t p.second ≡ 4 → (bs : List ℕ) → LeafAt s t p.third (array bs) → 1 ≤ length bs → length bs ≤ 64 → ⊥)
-      → plan_ns (top earlier) es h ≡ refuse 11
-  ns_refused earlier h right =
-      refused_two s t r end es p at is _ (λ n g. refused_ref s t p.second g.first _ g.one (λ m i k. refused_array s t p.third g.second _ g.two (λ bs l.
+  -- unless they stand there, and the array has 1 to 64 bytes
+  pub ns_refuses : {args : List ℕ} {v : View} {here : Code} {at row : ℕ} → here.within ≡ Top
+      → (kind t a ≡ 4 → (bs : List ℕ) → LeafAt s t b (array bs) → 1 ≤ length bs → length bs ≤ 64 → ⊥)
+      → Answers s t args v here at (branch row es) (λ h. plan_ns h.within es h) (Err WrongElements)
+  ns_refuses there right =
+      ns_refused es there (λ earlier h. rw g.is (refused_ref s t a g.first _ g.one (λ m i k. refused_array s t b g.second _ g.two (λ bs l.
       by_test (λ (x : Plan). x ≡ refuse 11) (ltb (length bs) 1 || ltb 64 (length bs)) (λ q. refl) (λ q.
       let sizes = both_false (ltb (length bs) 1) (ltb 64 (length bs)) q in
-      absurd (right n k.row.kind_is bs l (ltb-false (length bs) 1 sizes.0) (ltb-false 64 (length bs) sizes.1))))))
-
-  -- 11, unless they stand there, and the array has 1 to 64 bytes
-  pub ns_refuses : {args : List ℕ} {v : View} {here : Code} {at row : ℕ} → here.within ≡ Top
-      → (p.count ≡ 3 → kind t p.second ≡ 4 → (bs : List ℕ) → LeafAt s t p.third (array bs) → 1 ≤ length bs → length bs ≤ 64 → ⊥)
-      → Answers s t args v here at (branch row es) (λ h. plan_ns h.within es h) (Refuse 11)
-  ns_refuses there right = λ w st h set. let k = top_at set.element_of there in rw (k.is, ns_refused k.earlier h right) (refuses 11)
+      absurd (right k.row.kind_is bs l (ltb-false (length bs) 1 sizes.0) (ltb-false 64 (length bs) sizes.1)))))))
 
 -- the array's bytes are the last of its row's
 pub array_part : {s t : List ℕ} {r : ℕ} {bs : List ℕ} {from to : ℕ} → LeafAt s t r (array bs) → from ≡ cell t r 2 - length bs → to ≡ cell t r 2
@@ -124,8 +134,8 @@ ns_atoms (leaf q x) es e rest = rest
 ns_atoms (branch q fs) es e rest = impossible (cc)
 ns_atoms (bytecode q fs o) es e rest = impossible (cc)
 
-module _ {s t : List ℕ} {p : Parts} {es : Nodes} (g : NsAt s t p es) (bytes : Bytes s) (from to key : ℕ) (keyed : key ≡ key_of g.marker g.name)
-    (begins : from ≡ cell t p.third 2 - length g.id) (ends : to ≡ cell t p.third 2) (some_bytes : 1 ≤ to - from) (few_bytes : to - from ≤ 64) where
+module _ {s t : List ℕ} {a b : ℕ} {es : Nodes} (g : NsAt s t a b es) (bytes : Bytes s) (from to key : ℕ) (keyed : key ≡ key_of g.marker g.name)
+    (begins : from ≡ cell t b 2 - length g.id) (ends : to ≡ cell t b 2) (some_bytes : 1 ≤ to - from) (few_bytes : to - from ≤ 64) where
   ns_association : AssociationAt s (association g.marker (id stream from (length g.id))) (record { marker = g.marker; id = g.id })
   ns_association =
       let part = array_part g.array_there begins ends in
@@ -148,15 +158,15 @@ module _ {s t : List ℕ} {p : Parts} {es : Nodes} (g : NsAt s t p es) (bytes : 
       → some (eqb (key / 256)) earlier ≡ some (eqb (key / 256)) (markers_all fs) → clash (key / 256) (slice from to s) earlier ks ≡ clashing)
       → leb 64 here.scope.associated ≡ full
       → Answers s t args (view associations definitions here.scope) here at (branch row es) (λ h. plan_ns h.within es h)
-      (when clashing then Refuse 14 else when full then Refuse 19 else Ns f (key / 256) (id stream from (to - from)))
+      (when clashing then Err WrongMarker else when full then Err TooMany else Ok (Ns f (key / 256) (id stream from (to - from))))
   ns_answers f associations definitions here there stand led clashing full known counted = λ w st h set.
       let part = array_part g.array_there begins ends in
       let marker : key / 256 ≡ g.marker = rw keyed (key_marker g.marker g.name (leaf_fits bytes g.reference).2) in
       let top = top_at set.element_of there in
-      let behind = cons (leaf p.second (ref g.marker g.name)) (cons (leaf p.third (array g.id)) empty) in
+      let behind = cons (leaf a (ref g.marker g.name)) (cons (leaf b (array g.id)) empty) in
       let clashes = rw (marker, part.2) at (known h.namespaces top.before top.earlier set.sees.associations top.at (top.same_markers (key / 256))) in
       let count = latest_length associations here.scope.associated in
       let counts = rw (sym count ∙ linked_length s _ _ set.sees.associations) at counted in
       rw (top.is, g.is, le-ltb (length g.id) 1 (omega (arith, part.1)), le-ltb 64 (length g.id) (omega (arith, part.1)), clashes, counts, marker, part.1)
-      (refused_if clashing 14 (λ no. refused_if full 19 (λ room. associates f _ _ _ _ (rw g.is at stand) (ns_atoms g.head behind (rw g.is at led) tt) ns_association
+      (refused_if clashing WrongMarker (λ no. refused_if full TooMany (λ room. associates f _ _ _ _ (rw g.is at stand) (ns_atoms g.head behind (rw g.is at led) tt) ns_association
       (omega (arith, leb-false 64 here.scope.associated (counted ∙ room))))))

@@ -4,58 +4,37 @@ use Prim.Native.Nat.{ℕ}
 use mathlib.Core.Path.{◌≡◌, refl, sym, ap, ◌∙◌}
 use mathlib.Core.List.{List}
 use mathlib.Core.Bool.{Bool, true, false}
-use lib.Dec.{eqb}
 use native.Mathlib.Omega.{arith}
-use borrow.Author.Tests.{eqb-true, eqb-false, ne_eqb}
+use borrow.Author.Tests.{eqb-true, ne_eqb}
+use denote.Enum.Bare.{sameb}
+use Rattle.std.specs.Prelude.{Result, Err}
 use Rattle.spec.specs.Expr.{when◌then◌else◌, Atom, nil, array, int, ref}
 use Rattle.spec.specs.Reading.{atom_kind}
 use Rattle.spec.specs.Nodes.{Word, subst, plain, order, is, Node, leaf, branch, bytecode, Nodes, empty, cons, Outcome, elements, head_word, headed_by}
-use Rattle.spec.specs.Plan.{Plan, refuse, expect_one, expect_two, expect_ref, expect_array, expect_int}
-use Rattle.rows.specs.Rows.{kind, LeafAt, NodeAt, NodesAt, parts_of}
+use Rattle.spec.specs.Plan.{Plan, refuse, expect_two, expect_ref, expect_array, expect_int}
+use Rattle.atoms.specs.Refusals.{number}
+use Rattle.atoms.specs.declared.refusal.Reason.{Reason}
+use Rattle.rows.specs.Rows.{kind, LeafAt, NodeAt, operands_of}
 use Rattle.rows.specs.Forms.{meant}
 use Rattle.rows.specs.declared.words.Word.{Word as Coded}
-use Rattle.rows.specs.declared.forms.Parts.{Parts}
+use Rattle.rows.specs.declared.forms.Operands.{Operands}
+use Rattle.rows.specs.declared.forms.Operands.TheVariants.{Two}
+use Rattle.rows.specs.contracts.words.Word.{the_type}
+use Rattle.rows.proofs.Keys.{same_word}
 use Rattle.rows.proofs.Nodes.{leaf_kind, leaf_at, kind_leaf}
-use Rattle.rows.proofs.Parts.{OneAt, TwoAt, one_at, two_at}
 use Rattle.rules.specs.Scope.{View}
 use Rattle.rules.specs.Planned.{Planned, refuses}
 use Rattle.rules.specs.declared.scope.Scope.{Scope}
 use Rattle.rules.specs.declared.plan.Task.{Task}
-use Rattle.rules.specs.declared.plan.Task.TheVariants.{Refuse}
 
 -- How many elements
 
-no_one : (es : Nodes) (f : Node → Plan) → ((parts_of es).count ≡ 2 → ⊥) → expect_one es f ≡ refuse 11
-no_one empty f h = refl
-no_one (cons x empty) f h = refl
-no_one (cons x (cons a empty)) f h = absurd (h refl)
-no_one (cons x (cons a (cons b es))) f h = refl
-
-no_two : (es : Nodes) (f : Node → Node → Plan) → ((parts_of es).count ≡ 3 → ⊥) → expect_two es f ≡ refuse 11
-no_two empty f h = refl
-no_two (cons x empty) f h = refl
-no_two (cons x (cons a empty)) f h = refl
-no_two (cons x (cons a (cons b empty))) f h = absurd (h refl)
-no_two (cons x (cons a (cons b (cons d es)))) f h = refl
-
-by_count : {A : Type 0} (n k : ℕ) → (n ≡ k → A) → ((n ≡ k → ⊥) → A) → A
-by_count {A} n k f g = go (eqb n k) refl
-  where
-    go : (b : Bool) → eqb n k ≡ b → A
-    go true q = f (eqb-true n k q)
-    go false q = g (eqb-false n k q)
-
-module _ (s t : List ℕ) (r end : ℕ) (es : Nodes) (p : Parts) (at : NodesAt s t false r end es) (is : p ≡ parts_of es) where
-  -- 11, if that is what the elements get where they are so many
-  pub refused_one : (f : Node → Plan) → (p.count ≡ 2 → (g : OneAt s t p es) → f g.first ≡ refuse 11) → expect_one es f ≡ refuse 11
-  refused_one f k =
-      by_count p.count 2 (λ n. let g = one_at s t r end es p at is n in ap (λ (x : Nodes). expect_one x f) g.is ∙ k n g)
-      (λ no. no_one es f (λ n. no (ap (λ (x : Parts). x.count) is ∙ n)))
-
-  pub refused_two : (f : Node → Node → Plan) → (p.count ≡ 3 → (g : TwoAt s t r end p es) → f g.first g.second ≡ refuse 11) → expect_two es f ≡ refuse 11
-  refused_two f k =
-      by_count p.count 3 (λ n. let g = two_at s t r end es p at is n in ap (λ (x : Nodes). expect_two x f) g.is ∙ k n g)
-      (λ no. no_two es f (λ n. no (ap (λ (x : Parts). x.count) is ∙ n)))
+pub no_two : (es : Nodes) (f : Node → Node → Plan) {p : Operands} → p ≡ operands_of es → ((a b : ℕ) → p ≡ Two a b → ⊥) → expect_two es f ≡ refuse 11
+no_two empty f is h = refl
+no_two (cons x empty) f is h = refl
+no_two (cons x (cons a empty)) f is h = refl
+no_two (cons x (cons a (cons b empty))) f is h = absurd (h _ _ is)
+no_two (cons x (cons a (cons b (cons d es)))) f is h = refl
 
 -- Their kinds
 
@@ -103,14 +82,14 @@ pub bytecode_plain : (s t : List ℕ) (flat : Bool) (r q : ℕ) (es : Nodes) (o 
 unfolding NodeAt
 bytecode_plain s t flat r q es o n = n.3
 
--- whether an expression is headed by a word, by the word that was read there
-pub headed : (w : Coded) (v : Word) (e : Node) {b : Bool} → b ≡ is (meant w) v → meant w ≡ head_word (elements e) → headed_by v e ≡ b
-headed w v e told read = sym (told ∙ ap (λ (x : Word). is x v) read)
+-- whether an expression is headed by a word, by a test of the word that was read there
+pub headed : (w v : Coded) (e : Node) {b : Bool} → b ≡ sameb the_type w v → meant w ≡ head_word (elements e) → headed_by (meant v) e ≡ b
+headed w v e told read = sym (told ∙ same_word w v ∙ ap (λ (x : Word). is x (meant v)) read)
 
 -- One test after the other
 
 -- a refusal if a test says so, else what is planned
-pub refused_if : {s t w : List ℕ} {floor : ℕ} {v : View} {sc : Scope} {r : ℕ} {e : Node} {x : Task} {q : Plan} (b : Bool) (n : ℕ)
-    → (b ≡ false → Planned s t w floor v sc r e x q) → Planned s t w floor v sc r e (when b then Refuse n else x) (when b then refuse n else q)
+pub refused_if : {s t w : List ℕ} {floor : ℕ} {v : View} {sc : Scope} {r : ℕ} {e : Node} {x : Result Task Reason} {q : Plan} (b : Bool) (n : Reason)
+    → (b ≡ false → Planned s t w floor v sc r e x q) → Planned s t w floor v sc r e (when b then Err n else x) (when b then refuse (number n) else q)
 refused_if true n k = refuses n
 refused_if false n k = k refl

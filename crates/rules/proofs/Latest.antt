@@ -4,10 +4,14 @@
 use Prim.Native.Nat.{ℕ, zero, suc, ◌+◌, ◌-◌, ◌≤◌, ◌<◌}
 use mathlib.Core.Path.{◌≡◌, refl, ap}
 use mathlib.Core.List.{List, [], ◌∷◌}
+use mathlib.Core.Bool.{Bool, or_comm}
 use native.Mathlib.Omega.{arith}
 use native.Mathlib.Numerals.{add-one, unary_clauses}
-use lib.ListN.{length, get_or, set, drop}
+use lib.ListN.{length, get_or, set, take, drop}
 use lib.Seq.{get_or-set_same, get_or-set_other}
+use Rattle.std.specs.List.{list_any}
+use Rattle.std.proofs.lemmas.List.Folds.{list_any_more}
+use Rattle.spec.specs.Expr.{some}
 use Rattle.rules.specs.Scope.{latest, View, view}
 use Rattle.rules.specs.declared.scope.Scope.{Scope}
 
@@ -37,6 +41,14 @@ module _ (numbers : List ℕ) where
     latest_added : i < length numbers → latest (set numbers i x) (i + 1) ≡ x ∷ latest numbers i
     unfolding latest
     latest_added h = rw (add-one i, get_or-set_same numbers i x 0 h, latest_kept i (omega arith))
+
+-- a test of the first n, in the order of the array or of what is latest
+pub any_latest : (test : ℕ → Bool) (numbers : List ℕ) (n : ℕ) → n ≤ length numbers → list_any test (take n numbers) ≡ some test (latest numbers n)
+unfolding some latest
+any_latest test numbers zero h = refl
+any_latest test numbers (suc n) h =
+    let more = rw (add-one n) at (list_any_more test numbers n 0 (omega arith)) in
+    rw (more, any_latest test numbers n (omega arith)) (or_comm (some test (latest numbers n)) (test (get_or numbers n 0)))
 
 -- what the first `count` tell, while code goes from the latest to the first: it is what the first i tell
 pub record Searching {A : Type 0} (tell : List ℕ → A) (numbers : List ℕ) (count i : ℕ) : Type 0 where

@@ -1,37 +1,41 @@
 -- The rules of arg and rest, by what the code asks: of the form's elements, of the nearest code and of the number of its arguments.
 -- Document 01: "( arg n ): argument n", "( rest n ): the arguments without the first n", refusals 11 and 15. Assumes nothing.
 use Prim.Native.Nat.{ℕ, zero, suc, ◌≤◌, ◌<◌}
-use mathlib.Core.Path.{◌≡◌, refl, sym, ◌∙◌}
+use mathlib.Core.Path.{◌≡◌, refl}
 use mathlib.Core.List.{List}
 use mathlib.Core.Bool.{Bool, true, false}
+use mathlib.Core.Logic.{◌⊎◌, inl, inr}
 use native.Mathlib.Omega.{arith}
-use lib.ListN.{length, get_or}
-use lib.Dec.{ltb, leb, eqb}
-use borrow.Author.Tests.{ltb-true, ltb-false, leb-false, le-leb, lt-leb, eq-eqb, ne_eqb}
-use Rattle.spec.specs.Expr.{when◌then◌else◌, Exprs, none, more, size, without}
-use Rattle.spec.specs.Nodes.{Node, Nodes}
+use lib.ListN.{get_or}
+use borrow.Author.Tests.{le-leb, lt-leb, lt-ltb, le-ltb}
+use Rattle.std.specs.Prelude.{Ok, Err}
+use Rattle.spec.specs.Expr.{int, Exprs, none, more, size, without}
+use Rattle.spec.specs.Nodes.{Node, leaf, Nodes}
 use Rattle.spec.specs.Plan.{Arguments, outside, passed, Plan, refuse, expect_one, expect_int}
-use Rattle.rows.specs.Rows.{kind, NodesAt, parts_of}
-use Rattle.rows.specs.declared.forms.Parts.{Parts}
+use Rattle.atoms.specs.declared.refusal.Reason.TheVariants.{NoArgument}
+use Rattle.rows.specs.Rows.{kind, LeafAt}
+use Rattle.rows.proofs.Nodes.{kind_int}
+use Rattle.rows.proofs.Parts.{OneAt}
 use Rattle.workspace.specs.Packed.{packed_from, packed_to}
 use Rattle.workspace.proofs.Areas.{stand_none}
-use Rattle.workspace.proofs.Spread.{ArgumentAt, argument_at}
+use Rattle.workspace.proofs.Spread.{argument_at}
 use Rattle.rules.specs.Scope.{View}
 use Rattle.rules.specs.Settings.{ArgumentsOf, no_code, in_code}
 use Rattle.rules.specs.Planned.{passing, Planned, refuses, repeats}
 use Rattle.rules.specs.declared.scope.Scope.{Scope}
 use Rattle.rules.specs.declared.here.Frame.{Frame}
-use Rattle.rules.specs.declared.plan.Task.{Task}
-use Rattle.rules.specs.declared.plan.Task.TheVariants.{Refuse, Again}
-use Rattle.rules.proofs.Expecting.{refused_one, refused_int, refused_if}
+use Rattle.rules.specs.declared.plan.Task.TheVariants.{Again}
+use Rattle.rules.proofs.Expecting.{refused_int, of_kind}
 
 -- The elements
 
--- 11, unless there is one more than the head, a small integer
-pub number_refused : (s t : List ℕ) (r end : ℕ) (es : Nodes) (p : Parts) → NodesAt s t false r end es → p ≡ parts_of es → (rule : ℕ → Plan)
-    → (p.count ≡ 2 → kind t p.second ≡ 3 → ⊥) → expect_one es (λ a. expect_int a rule) ≡ refuse 11
-number_refused s t r end es p at is rule right =
-    refused_one s t r end es p at is _ (λ n g. refused_int s t p.second g.first rule g.at (λ v l. absurd (right n l.row.kind_is)))
+-- 11, unless the one operand is a small integer
+pub number_refused : {s t : List ℕ} {a : ℕ} {es : Nodes} → OneAt s t a es → (rule : ℕ → Plan) → (kind t a ≡ 3 → ⊥) → expect_one es (λ a. expect_int a rule) ≡ refuse 11
+number_refused {s} {t} {a} g rule right = rw g.is (refused_int s t a g.first rule g.at (λ v l. absurd (right l.row.kind_is)))
+
+-- which it is if its row is of that kind
+pub number_at : {s t : List ℕ} {a : ℕ} {es : Nodes} → (g : OneAt s t a es) → kind t a ≡ 3 → (v : ℕ) × (g.first ≡ leaf a (int v)) × LeafAt s t a (int v)
+number_at {s} {t} {a} g is = of_kind s t a 3 int kind_int (λ z. omega arith) g.first g.at is
 
 -- The arguments
 
@@ -46,35 +50,39 @@ outside_code : (all : Bool) (n : ℕ) → passing all n outside ≡ refuse 15
 outside_code true n = refl
 outside_code false n = refl
 
--- what is answered in code for the part where argument n stands, by whether n is below the number of arguments, or above it
-abbrev counted_task : ℕ → Frame → Bool → Bool → Bool → Task
-counted_task part frame all fewer over =
-    when fewer then Again (packed_from part) (when all then frame.end else packed_to part) else
-    when over then Refuse 15 else
-    when all then Again frame.end frame.end else Refuse 15
+above_all : (all : Bool) (n : ℕ) (vs : Exprs) → size vs < n → passing all n (passed vs) ≡ refuse 15
+above_all true n vs h = rw (lt-leb n (size vs) h)
+above_all false n vs h = rw (le-ltb n (size vs) (omega arith))
 
-module _ {s t w : List ℕ} {floor : ℕ} {v : View} {sc : Scope} {r : ℕ} {e : Node} (args : List ℕ) (frame : Frame) (n : ℕ) where
-  -- by their number
-  counted : (vs : Exprs) → frame.count ≡ size vs → (n < frame.count → ArgumentAt w (get_or args n 0) frame.end (without n vs)) → frame.end ≤ length w
-      → (all fewer over : Bool) → ltb n frame.count ≡ fewer → ltb frame.count n ≡ over
-      → Planned s t w floor v sc r e (counted_task (get_or args n 0) frame all fewer over) (passing all n (passed vs))
-  counted vs c at h true true over p q = let l = ltb-true n frame.count p in rw (le-leb n (size vs) (omega arith)) (repeats _ _ _ (at l).all)
-  counted vs c at h false true over p q = rw (← c, p) (repeats _ _ _ (at (ltb-true n frame.count p)).own)
-  counted vs c at h true false true p q = let l = ltb-true frame.count n q in rw (lt-leb n (size vs) (omega arith)) (refuses 15)
-  counted vs c at h false false true p q = rw (← c, p) (refuses 15)
-  counted vs c at h true false false p q =
-      let l = ltb-false n frame.count p in
-      let k = ltb-false frame.count n q in
-      rw (le-leb n (size vs) (omega arith), without_all n vs (omega arith)) (repeats _ _ _ (stand_none frame.end h))
-  counted vs c at h false false false p q = rw (← c, p) (refuses 15)
+module _ {s t w : List ℕ} {floor : ℕ} {v : View} {sc : Scope} {r : ℕ} {e : Node} {args : List ℕ} {frame : Frame} {n : ℕ} where
+  -- 15 outside code, or above their number
+  pub passed_none : {above : ℕ} {xs : Arguments} (all : Bool) → ArgumentsOf w args frame above xs → (frame.depth ≡ 0) ⊎ ((frame.depth ≡ 0 → ⊥) × (frame.count < n))
+      → Planned s t w floor v sc r e (Err NoArgument) (passing all n xs)
+  passed_none all (no_code d) h = rw (outside_code all n) (refuses NoArgument)
+  passed_none all (in_code {vs} from d c l i g a) (inl z) = absurd (omega arith)
+  passed_none all (in_code {vs} from d c l i g a) (inr h) = rw (above_all all n vs (omega arith)) (refuses NoArgument)
 
-  -- 11 if n is no small integer, 15 outside code; then by how many arguments there are
-  pub passing_planned : {above : ℕ} {xs : Arguments} → ArgumentsOf w args frame above xs → (rest all big out fewer over : Bool) → rest ≡ all → leb 64 n ≡ big → eqb frame.depth 0 ≡ out
-      → ltb n frame.count ≡ fewer → ltb frame.count n ≡ over
-      → Planned s t w floor v sc r e (when big then Refuse 11 else when out then Refuse 15 else counted_task (get_or args n 0) frame all fewer over)
-      (when leb 64 n then refuse 11 else passing rest n xs)
-  passing_planned (no_code d) rest all big out fewer over is is-big is-out p q =
-      rw is-big (refused_if big 11 (λ small. rw (sym is-out ∙ eq-eqb frame.depth 0 d, outside_code rest n) (refuses 15)))
-  passing_planned (in_code {vs} from d c l i g a) rest all big out fewer over is is-big is-out p q =
-      rw is-big (refused_if big 11 (λ small. rw (sym is-out ∙ ne_eqb frame.depth 0 (λ z. omega arith), is)
-      (counted vs c (λ below. argument_at w args 0 from frame.end vs n n i g a (omega arith) (omega arith) (leb-false 64 n (is-big ∙ small))) i all fewer over p q)))
+  module _ (inside : frame.depth ≡ 0 → ⊥) {all : Bool} where
+    -- below their number, it stands there
+    pub passed_rest : {above : ℕ} {xs : Arguments} → ArgumentsOf w args frame above xs → all ≡ true → n < 64 → n < frame.count
+        → Planned s t w floor v sc r e (Ok (Again (packed_from (get_or args n 0)) frame.end)) (passing all n xs)
+    passed_rest (no_code d) is few h = absurd (inside d)
+    passed_rest (in_code {vs} from d c l i g a) is few h =
+        rw (is, le-leb n (size vs) (omega arith)) (repeats _ _ _ (argument_at w args 0 from frame.end vs n n i g a (omega arith) (omega arith) few).all)
+
+    pub passed_one : {above : ℕ} {xs : Arguments} → ArgumentsOf w args frame above xs → all ≡ false → n < 64 → n < frame.count
+        → Planned s t w floor v sc r e (Ok (Again (packed_from (get_or args n 0)) (packed_to (get_or args n 0)))) (passing all n xs)
+    passed_one (no_code d) is few h = absurd (inside d)
+    passed_one (in_code {vs} from d c l i g a) is few h =
+        rw (is, lt-ltb n (size vs) (omega arith)) (repeats _ _ _ (argument_at w args 0 from frame.end vs n n i g a (omega arith) (omega arith) few).own)
+
+    -- at their number, none is left
+    pub passed_end : {above : ℕ} {xs : Arguments} → ArgumentsOf w args frame above xs → all ≡ true → n ≤ frame.count → frame.count ≤ n
+        → Planned s t w floor v sc r e (Ok (Again frame.end frame.end)) (passing all n xs)
+    passed_end (no_code d) is h h' = absurd (inside d)
+    passed_end (in_code {vs} from d c l i g a) is h h' =
+        rw (is, le-leb n (size vs) (omega arith), without_all n vs (omega arith)) (repeats _ _ _ (stand_none frame.end i))
+
+    pub passed_past : {above : ℕ} {xs : Arguments} → ArgumentsOf w args frame above xs → all ≡ false → frame.count ≤ n → Planned s t w floor v sc r e (Err NoArgument) (passing all n xs)
+    passed_past (no_code d) is h = absurd (inside d)
+    passed_past (in_code {vs} from d c l i g a) is h = rw (is, le-ltb n (size vs) (omega arith)) (refuses NoArgument)

@@ -9,6 +9,7 @@ use native.Mathlib.Omega.{arith}
 use lib.ListN.{length, drop}
 use lib.Dec.{eqb}
 use borrow.Author.Tests.{eqb-true, eqb-false, eq-eqb, ne_eqb}
+use Rattle.std.specs.Prelude.{Option, Some, None}
 use Rattle.spec.specs.Expr.{when◌then◌else◌, ref, Exprs, none, more}
 use Rattle.spec.specs.Nodes.{Nodes}
 use Rattle.spec.specs.Plan.{Defined, value, function, Definition, Scope, Found as Sought, latest, nothing, look_up, Namespace, Arguments, Here}
@@ -24,8 +25,8 @@ use Rattle.rules.specs.Entries.{function_bit, definition, key_in, content_in}
 use Rattle.rules.specs.Scope.{View, find}
 use Rattle.rules.specs.Associations.{AssociationAt, Linked}
 use Rattle.rules.specs.Settings.{CodeAt, EntryAt, value_at, function_at, Shows, Sees, ArgumentsOf, no_code, in_code}
-use Rattle.rules.specs.declared.scope.Found.{Found}
-use Rattle.rules.specs.declared.scope.Found.TheVariants.{Value, Function, Nothing}
+use Rattle.rules.specs.declared.scope.Content.{Content}
+use Rattle.rules.specs.declared.scope.Content.TheVariants.{Value, Function}
 use Rattle.rules.specs.declared.here.Frame.{Frame}
 use Rattle.rules.proofs.Latest.{with_definition, with_association}
 
@@ -42,12 +43,12 @@ module _ {s t w : List ℕ} {floor m n : ℕ} (fits : Fits (ref m n)) where
       function_at {es = es} fits (omega (arith, code.form.few)) (rw content code)
 
 -- what a key finds in the entries, and what the name of that key finds in the definitions
-pub data Answers (s t w : List ℕ) (floor : ℕ) (es : List ℕ) : Found → Sought → Type 0 where
-  no_answer : Answers s t w floor es Nothing nothing
+pub data Answers (s t w : List ℕ) (floor : ℕ) (es : List ℕ) : Option Content → Sought → Type 0 where
+  no_answer : Answers s t w floor es None nothing
   value_answer : (from to : ℕ) (vs : Exprs) (behind : Scope) → Stand w from to vs → from < to → floor ≤ from
-      → Answers s t w floor es (Value from to) (latest (value vs) behind)
+      → Answers s t w floor es (Some (Value from to)) (latest (value vs) behind)
   function_answer : (code visible : ℕ) (body : Nodes) (behind : Scope) → CodeAt s t code body → visible ≤ length es
-      → Shows s t w floor (drop (length es - visible) es) behind → Answers s t w floor es (Function code visible) (latest (function body) behind)
+      → Shows s t w floor (drop (length es - visible) es) behind → Answers s t w floor es (Some (Function code visible)) (latest (function body) behind)
 
 module _ (s t w : List ℕ) (floor : ℕ) where
   -- Shows
@@ -86,7 +87,7 @@ module _ (s t w : List ℕ) (floor : ℕ) where
     abbrev key : ℕ
     key = key_of m n
 
-    answers_more : (e : ℕ) (es : List ℕ) {f : Found} {g : Sought} → Answers s t w floor es f g → Answers s t w floor (e ∷ es) f g
+    answers_more : (e : ℕ) (es : List ℕ) {f : Option Content} {g : Sought} → Answers s t w floor es f g → Answers s t w floor (e ∷ es) f g
     answers_more e es no_answer = no_answer
     answers_more e es (value_answer from to vs behind stand order low) = value_answer from to vs behind stand order low
     answers_more e es (function_answer code visible body behind at h sh) =

@@ -1,10 +1,12 @@
 -- What the planner answers, against `Plan` of the crate `spec`. Document 01: the rules of "Evaluation". Assumes nothing.
-use Rattle.std.specs.Prelude.{ℕ, ◌+◌, ◌-◌, ◌≤◌, ◌<◌, ◌≡◌, List, Bool, true, false, length, drop}
+use Rattle.std.specs.Prelude.{ℕ, ◌+◌, ◌-◌, ◌≤◌, ◌<◌, ◌≡◌, List, Bool, true, false, length, drop, Result, Ok, Err}
 use Rattle.spec.specs.Expr.{Atom, ref, atom, form, Exprs, only}
 use Rattle.spec.specs.Nodes.{rest, Node, leaf, branch, bytecode, Nodes, empty, cons, Outcome, fails, becomes, unnumbered_all, row, elements, headed_by}
 use Rattle.spec.specs.Plan.{function, Scope as Definitions, Namespace, Within, element, inner, Arguments, Here as Known, Finish, as_form, as_definition, as_concat, as_call, Plan, refuse, leave, associate, define_function, inside, plan_arg, plan_rest, plan}
 use Rattle.laws.specs.Holding.{skip}
 use Rattle.laws.proofs.Fits.{Fits}
+use Rattle.atoms.specs.Refusals.{number}
+use Rattle.atoms.specs.declared.refusal.Reason.{Reason}
 use Rattle.rows.specs.Rows.{LeafAt, RowsAt, NodesAt, ResultAt, key_of}
 use Rattle.rows.specs.declared.forms.Form.{Form}
 use Rattle.workspace.specs.Completed.{Stand, Atoms}
@@ -22,7 +24,7 @@ use Rattle.rules.specs.declared.plan.Making.TheVariants.{Form as Wrap, Define, C
 use Rattle.rules.specs.declared.plan.After.{After}
 use Rattle.rules.specs.declared.plan.After.TheVariants.{Make, Function as Named, Code}
 use Rattle.rules.specs.declared.plan.Task.{Task}
-use Rattle.rules.specs.declared.plan.Task.TheVariants.{Refuse, Own, Again, Ns, Function, Unfold, Inside}
+use Rattle.rules.specs.declared.plan.Task.TheVariants.{Own, Again, Ns, Function, Unfold, Inside}
 
 -- what list the values are of that are made into others
 abbrev pub within_made : Making → Among
@@ -40,6 +42,11 @@ within_of (Code first end) = Inner
 abbrev pub passing : Bool → ℕ → Arguments → Plan
 passing true n xs = plan_rest n xs
 passing false n xs = plan_arg n xs
+
+-- the rule for the n of an arg or a rest form, if it has one
+abbrev pub by_number : Result ℕ Reason → (ℕ → Plan) → Plan
+by_number (Ok n) rule = rule n
+by_number (Err r) rule = refuse (number r)
 
 -- the elements of a define: its head, its reference, and a value that is no `rest` form
 pub data OneMore : Nodes → Type 0 where
@@ -67,16 +74,16 @@ pub data Finishes (s t w : List ℕ) (floor : ℕ) (v : View) (sc : Scope) (es :
       → Finishes s t w floor v sc es after 1 inner (as_call body behind)
 
 -- the answer for an expression, which is at row r if it is an atom
-pub data Planned (s t w : List ℕ) (floor : ℕ) (v : View) (sc : Scope) (r : ℕ) (e : Node) : Task → Plan → Type 0 where
-  refuses : (n : ℕ) → Planned s t w floor v sc r e (Refuse n) (refuse n)
-  owns : (a : Atom) → LeafAt s t r a → Planned s t w floor v sc r e Own (leave (only (atom a)))
-  repeats : (from to : ℕ) (vs : Exprs) → Stand w from to vs → Planned s t w floor v sc r e (Again from to) (leave vs)
+pub data Planned (s t w : List ℕ) (floor : ℕ) (v : View) (sc : Scope) (r : ℕ) (e : Node) : Result Task Reason → Plan → Type 0 where
+  refuses : (n : Reason) → Planned s t w floor v sc r e (Err n) (refuse (number n))
+  owns : (a : Atom) → LeafAt s t r a → Planned s t w floor v sc r e (Ok Own) (leave (only (atom a)))
+  repeats : (from to : ℕ) (vs : Exprs) → Stand w from to vs → Planned s t w floor v sc r e (Ok (Again from to)) (leave vs)
   associates : (f : Form) (es : Nodes) (marker id : ℕ) (k : Namespace) → NodesAt s t false f.first f.end es → Atoms es
-      → AssociationAt s (association marker id) k → length v.associations < 64 → Planned s t w floor v sc r e (Ns f marker id) (associate (only (form (unnumbered_all es))) k)
+      → AssociationAt s (association marker id) k → length v.associations < 64 → Planned s t w floor v sc r e (Ok (Ns f marker id)) (associate (only (form (unnumbered_all es))) k)
   defines : (m n code : ℕ) (body : Nodes) → Fits (ref m n) → length v.definitions < 256 → CodeAt s t code body
-      → Planned s t w floor v sc r e (Function (key_of m n + function_bit) code) (define_function (record { marker = m; name = n; content = function body }))
+      → Planned s t w floor v sc r e (Ok (Function (key_of m n + function_bit) code)) (define_function (record { marker = m; name = n; content = function body }))
   goes_inside : (f : Form) (k : ℕ) (p : Within) (g : Finish) (after : After) → NodesAt s t f.flat f.first f.end (skip k (elements e))
-      → Finishes s t w floor v sc (elements e) after k p g → Planned s t w floor v sc r e (Inside f after) (inside k p g)
+      → Finishes s t w floor v sc (elements e) after k p g → Planned s t w floor v sc r e (Ok (Inside f after)) (inside k p g)
 
 -- something is evaluated there, at the place of a row
 pub record Planning (s t args : List ℕ) (v : View) (at : Here) (place : ℕ) : Type 0 where
@@ -86,23 +93,23 @@ pub record Planning (s t args : List ℕ) (v : View) (at : Here) (place : ℕ) :
   pub setting : Setting s t work args state v at place here
 
 -- an answer is right for the expression e, which is at row r if it is an atom, by a rule, wherever it is evaluated
-abbrev pub Answers : List ℕ → List ℕ → List ℕ → View → Here → ℕ → Node → (Known → Plan) → Task → Type 0
+abbrev pub Answers : List ℕ → List ℕ → List ℕ → View → Here → ℕ → Node → (Known → Plan) → Result Task Reason → Type 0
 Answers s t args v at r e rule task =
     (w : List ℕ) (st : State) (h : Known) → Setting s t w args st v at (row e) h → Planned s t w st.floor v at.scope r e task (rule h)
 
 -- the same for the form whose elements stand in a range, of a flat list or of another, by a rule for them
-abbrev pub AnswersForm : List ℕ → List ℕ → List ℕ → View → Here → Bool → Form → (Nodes → Known → Plan) → Task → Type 0
+abbrev pub AnswersForm : List ℕ → List ℕ → List ℕ → View → Here → Bool → Form → (Nodes → Known → Plan) → Result Task Reason → Type 0
 AnswersForm s t args v at flat f rule task =
     (r place : ℕ) (es : Nodes) → NodesAt s t flat f.first f.end es → Answers s t args v at r (branch place es) (rule es) task
 
 -- the answer for a bytecode form with a place, by what it is transformed to: a refusal, or its flat list
-pub data AnswersBytecode (s t : List ℕ) (place : ℕ) : Outcome → Task → Type 0 where
-  fails_so : (w : ℕ) → AnswersBytecode s t place (fails w) (Refuse w)
+pub data AnswersBytecode (s t : List ℕ) (place : ℕ) : Outcome → Result Task Reason → Type 0 where
+  fails_so : (w : Reason) → AnswersBytecode s t place (fails (number w)) (Err w)
   unfolds : (g : Form) (rows : List ℕ) (e : Node) → g.flat ≡ true → RowsAt t g.first g.end rows → ResultAt s t place g e
-      → AnswersBytecode s t place (becomes rows e) (Unfold g)
+      → AnswersBytecode s t place (becomes rows e) (Ok (Unfold g))
 
 -- an answer is right for an element of a list
-abbrev pub AnswersElement : List ℕ → List ℕ → List ℕ → View → Here → Node → Task → Type 0
+abbrev pub AnswersElement : List ℕ → List ℕ → List ℕ → View → Here → Node → Result Task Reason → Type 0
 AnswersElement s t args v at (leaf r a) task = Answers s t args v at r (leaf r a) (plan (leaf r a)) task
 AnswersElement s t args v at (branch r es) task = Answers s t args v at r (branch r es) (plan (branch r es)) task
 AnswersElement s t args v at (bytecode r es o) task = AnswersBytecode s t r o task

@@ -1,4 +1,5 @@
 // Definitions and associations as numbers, for the lent arrays. Document 01: "definitions that are visible", "associates ref's marker with id".
+// Kept: each in one number, since memory is fixed: each code in progress has its own array of definitions.
 ghost use Rattle.std.specs.Prelude.{◌≡◌, ◌≤◌, ◌<◌};
 ghost use Rattle.rules.specs.Entries.{definition, key_in, content_in, id, association, marker_in, place_in, size_in};
 
@@ -12,7 +13,7 @@ pub const STREAM: u32 = 0;
 pub fn definition(key: u32, content: u32) -> u64
     ensures { result ≡ definition key content }
 {
-    (key as u64) * 4294967296 + (content as u64)
+    u64::from(key) * 4294967296 + u64::from(content)
 }
 
 pub fn key_in(entry: u64) -> u32
@@ -39,7 +40,7 @@ pub fn id(buffer: u32, place: usize, size: usize) -> u32
 pub fn association(marker: u32, id: u32) -> u64
     ensures { result ≡ association marker id }
 {
-    (marker as u64) * 8388608 + (id as u64)
+    u64::from(marker) * 8388608 + u64::from(id)
 }
 
 pub fn marker_in(entry: u64) -> u64

@@ -6,7 +6,7 @@ ghost use Rattle.rules.specs.Settings.{at_top_level, in_list_of, showing, in_cod
 use crate::scope::Scope;
 
 // What list an expression is an element of: the top level, a data form, or another.
-#[derive(Clone, Copy)]
+#[derive(Clone, Copy, Debug, PartialEq, Eq)]
 pub enum Within {
     Top,
     Element,
@@ -14,14 +14,14 @@ pub enum Within {
 }
 
 // How many codes are in progress, how many arguments the nearest has, and where in the workspace they end.
-#[derive(Clone, Copy)]
+#[derive(Clone, Copy, Debug, PartialEq, Eq)]
 pub struct Frame {
     pub depth: usize,
     pub count: usize,
     pub end: usize,
 }
 
-#[derive(Clone, Copy)]
+#[derive(Clone, Copy, Debug, PartialEq, Eq)]
 pub struct Here {
     pub scope: Scope,
     pub within: Within,
@@ -51,26 +51,14 @@ impl Here {
     pub fn entering(self, within: Within) -> Self
         ensures { result ≡ in_list_of within self }
     {
-        let scope = self.scope;
-        let frame = self.frame;
-        Self {
-            scope,
-            within,
-            frame,
-        }
+        Self { within, ..self }
     }
 
     // With another scope.
     pub fn showing(self, scope: Scope) -> Self
         ensures { result ≡ showing scope self }
     {
-        let within = self.within;
-        let frame = self.frame;
-        Self {
-            scope,
-            within,
-            frame,
-        }
+        Self { scope, ..self }
     }
 
     // In a code that sees so much, and has so many arguments, which end there.

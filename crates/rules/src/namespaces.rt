@@ -11,8 +11,8 @@ ghost use Rattle.rules.specs.Associations.{Linked, SomeLinked};
 use crate::entries;
 use crate::scope::Scope;
 use atoms::Kind;
+use rows::table;
 use rows::words::Core;
-use rows::{compare, table};
 
 // Whether an id, which is the stream's bytes from a place up to another, is used.
 fn used(s: &[u8], associations: &[u64; 64], scope: Scope, from: usize, to: usize) -> bool
@@ -20,13 +20,10 @@ fn used(s: &[u8], associations: &[u64; 64], scope: Scope, from: usize, to: usize
     requires from_le_to { (from ≤ to) × (to ≤ length s.now) }
     ensures { (ks : List Namespace) → Linked s.now (latest associations.now scope.associated) ks → result ≡ some (λ k. same k.id (slice from to s.now)) ks }
 {
-    let mut i = scope.associated;
-    while 0 < i {
-        i -= 1;
-        let other = associations[i];
-        let place = entries::place_in(other);
-        let end = place + entries::size_in(other);
-        if compare::same_bytes(&s[place..end], &s[from..to]) {
+    for entry in &associations[..scope.associated] {
+        let place = entries::place_in(*entry);
+        let end = place + entries::size_in(*entry);
+        if &s[place..end] == &s[from..to] {
             return true;
         }
     }
@@ -38,10 +35,7 @@ fn bears(s: &[u8], table: &[u32], row: usize, marker: u32) -> bool
     requires { (e : Node) × WrittenAt s.now table.now row e }
     ensures { ((q : ℕ) (a : Atom) → LeafAt s.now table.now row a → result ≡ some (eqb marker) (markers (leaf q a))) × (kind table.now row ≡ 1 → result ≡ false) }
 {
-    if table::kind(table, row) != Kind::REFERENCE {
-        return false;
-    }
-    marker == table::key(s, table, row) / 256
+    table::has_kind(table, row, Kind::Reference) && marker == table::key(s, table, row) / 256
 }
 
 // Whether a reference before a row of the top level bears a marker.
@@ -49,12 +43,10 @@ fn borne(s: &[u8], table: &[u32], row: usize, marker: u32) -> bool
     requires { (es : Nodes) × NodesAt s.now table.now false 0 row es }
     ensures { (es : Nodes) → NodesAt s.now table.now false 0 row es → result ≡ some (eqb marker) (markers_all es) }
 {
-    let mut r: usize = 0;
-    while r < row {
+    for r in 0..row {
         if bears(s, table, r, marker) {
             return true;
         }
-        r += 1;
     }
     false
 }
@@ -77,13 +69,7 @@ pub fn clash(
         → NodesAt s.now table.now false 0 row es → some (eqb marker) earlier ≡ some (eqb marker) (markers_all es)
         → result ≡ clash marker (slice from to s.now) earlier ks }
 {
-    if marker == Core::MARKER {
-        return true;
-    }
-    if borne(s, table, row, marker) {
-        return true;
-    }
-    used(s, associations, scope, from, to)
+    marker == Core::MARKER || borne(s, table, row, marker) || used(s, associations, scope, from, to)
 }
 
 // Whether nothing may be defined with a marker.
@@ -91,8 +77,5 @@ pub fn undefinable(associations: &[u64; 64], scope: Scope, marker: u32) -> bool
     requires { scope.associated ≤ 64 }
     ensures { (s : List ℕ) (ks : List Namespace) → Linked s (latest associations.now scope.associated) ks → result ≡ undefinable marker ks }
 {
-    if marker == Core::MARKER {
-        return true;
-    }
-    !scope.has_marker(associations, marker)
+    marker == Core::MARKER || !scope.has_marker(associations, marker)
 }

@@ -11,46 +11,35 @@ use crate::entries;
 use workspace::packed;
 
 // Of `definitions` and of `associations` the first so many are visible; the latest is the last.
-#[derive(Clone, Copy)]
+// Kept: arrays with a length beside them, since memory is fixed and a scope is handed on by value.
+// Kept: no invariant for the limits, since `up_to` takes every number.
+#[derive(Clone, Copy, Debug, PartialEq, Eq)]
 pub struct Scope {
     pub defined: usize,
     pub associated: usize,
 }
 
-#[derive(Clone, Copy)]
-pub enum Found {
+// What a reference's key is defined as: a value, which stands in the workspace from one byte up to another, or a function, by the row of its code and
+// the number of definitions that it sees.
+#[derive(Clone, Copy, Debug, PartialEq, Eq)]
+pub enum Content {
     Value { from: usize, to: usize },
     Function { code: usize, visible: usize },
-    Nothing,
-}
-
-// The row of a function's code.
-fn code_row(content: u32) -> usize
-    ensures { result ≡ content }
-{
-    content as usize
-}
-
-// Stores a number in a lent array.
-fn put(numbers: &mut [u64], n: usize, number: u64)
-    requires { n < length numbers.old }
-    ensures { numbers.new ≡ set numbers.old n number }
-{
-    numbers[n] = number;
 }
 
 impl Scope {
+    // Kept: `add` and `associate` share one assignment, which a generic function over N would not shorten.
+
     // One more definition, written past those that are visible.
     pub fn add(self, definitions: &mut [u64; 256], key: u32, content: u32) -> Self
         requires { self.defined < 256 }
         ensures { (definitions.new ≡ set definitions.old self.defined (definition key content))
             × (result ≡ record { defined = self.defined + 1; associated = self.associated }) × (length definitions.old ≡ 256) }
     {
-        let n = self.defined;
-        put(definitions, n, entries::definition(key, content));
+        definitions[self.defined] = entries::definition(key, content);
         Self {
-            defined: n + 1,
-            associated: self.associated,
+            defined: self.defined + 1,
+            ..self
         }
     }
 
@@ -60,39 +49,36 @@ impl Scope {
         ensures { (associations.new ≡ set associations.old self.associated (association marker id))
             × (result ≡ record { defined = self.defined; associated = self.associated + 1 }) × (length associations.old ≡ 64) }
     {
-        let n = self.associated;
-        put(associations, n, entries::association(marker, id));
+        associations[self.associated] = entries::association(marker, id);
         Self {
-            defined: self.defined,
-            associated: n + 1,
+            associated: self.associated + 1,
+            ..self
         }
     }
 
     // The latest definition of a reference's key.
-    pub fn look_up(self, definitions: &[u64; 256], key: u32) -> Found
+    pub fn look_up(self, definitions: &[u64; 256], key: u32) -> Option<Content>
         requires { (self.defined ≤ 256) × (key < function_bit) }
         ensures { result ≡ find key (latest definitions.now self.defined) }
     {
-        let mut i = self.defined;
-        while 0 < i {
-            i -= 1;
+        for i in (0..self.defined).rev() {
             let entry = definitions[i];
             let k = entries::key_in(entry);
             if k == key {
                 let part = entries::content_in(entry);
-                return Found::Value {
+                return Some(Content::Value {
                     from: packed::packed_from(part),
                     to: packed::packed_to(part),
-                };
+                });
             }
             if k == key + entries::FUNCTION {
-                return Found::Function {
-                    code: code_row(entries::content_in(entry)),
+                return Some(Content::Function {
+                    code: entries::content_in(entry) as usize,
                     visible: i,
-                };
+                });
             }
         }
-        Found::Nothing
+        None
     }
 
     // Whether a marker is associated.
@@ -100,23 +86,15 @@ impl Scope {
         requires { self.associated ≤ 64 }
         ensures { (s : List ℕ) (ks : List Namespace) → Linked s (latest associations.now self.associated) ks → result ≡ some (λ k. eqb k.marker marker) ks }
     {
-        let mut i = self.associated;
-        while 0 < i {
-            i -= 1;
-            if entries::marker_in(associations[i]) == marker as u64 {
-                return true;
-            }
-        }
-        false
+        associations[..self.associated]
+            .iter()
+            .any(|entry| entries::marker_in(*entry) == u64::from(marker))
     }
 
     // The first so many definitions, and the same associations: what a function sees.
     pub fn up_to(self, defined: usize) -> Self
         ensures { result ≡ record { defined = defined; associated = self.associated } }
     {
-        Self {
-            defined,
-            associated: self.associated,
-        }
+        Self { defined, ..self }
     }
 }

@@ -1,14 +1,14 @@
--- Laws of parts of the workspace: one behind the other, what is written and what that leaves as it was, and a move byte for byte.
+-- Laws of parts of the workspace: one behind the other, what is written and what that leaves as it was, and a move.
 -- Document 01: "Workspace" says how much; where in it is the code's own. Assumes nothing.
-use Prim.Native.Nat.{ℕ, suc, ◌+◌, ◌-◌, ◌≤◌, ◌<◌}
+use Prim.Native.Nat.{ℕ, ◌+◌, ◌-◌, ◌≤◌}
 use mathlib.Core.Path.{◌≡◌, refl, sym, ap, ◌∙◌}
-use mathlib.Core.List.{List, [], ◌∷◌, ◌++◌, append_assoc, append-nil}
-use lib.ListN.{length, get_or, set, take, drop, length-append, length-set, take-append-drop}
-use lib.Seq.{slice, slice-cons, slice_empty, length-slice, length-take-le, take-suc, take_at, drop_at, take-take, drop-drop, drop-append-le, drop-set-lt, take-set-le}
+use mathlib.Core.List.{List, [], ◌++◌, append_assoc, append-nil}
+use lib.ListN.{length, take, drop, length-append, take-append-drop}
+use lib.Seq.{slice, slice_empty, length-slice, length-take-le, take_at, drop_at, take-take, drop-drop}
 use native.Mathlib.Omega.{arith}
-use native.Mathlib.Numerals.{add-one}
+use Rattle.std.specs.List.{copy_within}
 use Rattle.writer.specs.Bytes.{put_at}
-use Rattle.writer.proofs.Puts.{length_put_at, stored}
+use Rattle.writer.proofs.Puts.{length_put_at}
 use Rattle.spec.specs.Expr.{Exprs, none, append, canonical}
 use Rattle.laws.proofs.Canonical.{canonical_append}
 use Rattle.laws.proofs.Steps.{split_rest}
@@ -110,36 +110,13 @@ put_before w at bs cs room =
     (sym (append_assoc (take at w ++ bs) cs (drop (mid + length cs) w))
     ∙ ap (λ (l : List ℕ). l ++ drop (mid + length cs) w) (append_assoc (take at w) bs cs))
 
--- Moves, byte for byte
+-- Moves
 
 -- the bytes from one up to another, moved to a third
 abbrev pub moved : List ℕ → ℕ → ℕ → ℕ → List ℕ
 moved w from to at = put_at w at (slice from to w)
 
-pub moved_none : (w : List ℕ) (from to at : ℕ) → from ≡ to → w ≡ moved w from to at
-moved_none w from to at h = rw (h, slice_empty to w) (put_none w at)
-
--- the first byte, then the others downwards
-pub moved_first : (w : List ℕ) (p to q : ℕ) → q ≤ p → p < to → to ≤ length w → moved (set w q (get_or w p 0)) (p + 1) to (q + 1) ≡ moved w p to q
-moved_first w p to q h h' h'' =
-    let b : ℕ = get_or w p 0 in
-    let cs = slice (suc p) to w in
-    let size = length-slice (suc p) to w h'' in
-    let same : slice (suc p) to (set w q b) ≡ cs =
-    slice_take (suc p) to (set w q b) ∙ ap (take (to - suc p)) (drop-set-lt (suc p) w q b (omega arith)) ∙ sym (slice_take (suc p) to w) in
-    rw (add-one p, add-one q, same, slice-cons p to w 0 h' h'')
-    (sym (stored (set w q b) (suc q) cs (simp length-set (omega arith))).is ∙ (stored w q (b ∷ cs) (omega arith)).is)
-
--- the last byte, then the others upwards
-pub moved_last : (w : List ℕ) (from p at q : ℕ) → from ≤ p → from ≤ at → q + from ≡ at + p → q < length w
-    → moved (set w q (get_or w p 0)) from p at ≡ moved w from (p + 1) at
-moved_last w from p at q h h' along inside =
-    let b : ℕ = get_or w p 0 in
-    let bs = slice from p w in
-    let size = length-slice from p w (omega arith) in
-    let past : q ≡ at + length bs = omega arith in
-    let same : slice from p (set w q b) ≡ bs = ap (drop from) (take-set-le p w q b (omega arith)) in
-    let on : slice from (suc p) w ≡ bs ++ (b ∷ []) =
-    ap (drop from) (take-suc w p 0 (omega arith)) ∙ drop-append-le from (take p w) (b ∷ []) (omega (arith, length-take-le p w (omega arith))) in
-    rw (add-one p, same, on)
-    (ap (λ (l : List ℕ). put_at l at bs) ((stored w q (b ∷ []) (omega arith)).is ∙ rw past) ∙ put_before w at bs (b ∷ []) (omega arith))
+-- by std's `copy_within`
+pub moved_within : (w : List ℕ) {w' : List ℕ} (from to at : ℕ) → to ≤ length w → w' ≡ copy_within w from to at → w' ≡ moved w from to at
+unfolding put_at
+moved_within w from to at h is = is ∙ rw (length-slice from to w h, slice_take from to w) refl

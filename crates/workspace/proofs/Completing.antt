@@ -5,17 +5,29 @@ use Prim.Native.Nat.{ℕ, ◌+◌, ◌-◌, ◌≤◌, ◌<◌}
 use mathlib.Core.Path.{◌≡◌, refl, sym, ap, ◌∙◌}
 use mathlib.Core.List.{List, [], ◌∷◌, ◌++◌, append_assoc, append-nil}
 use mathlib.Core.Bool.{false}
-use lib.ListN.{length, set, take, drop, length-append, length-take, length-drop}
+use lib.ListN.{length, set, take, length-append}
 use lib.Seq.{slice, length-slice}
-use borrow.Author.Tests.{ne_eqb}
 use native.Mathlib.Omega.{arith}
-use Rattle.spec.specs.Expr.{Atom, nil, array, int, ref, atom, form, Exprs, only, depth, deepest, atom_bytes, bytes, canonical}
+use borrow.Author.Tests.{lt-ltb, le-ltb}
+use mathlib.Core.Logic.{inl, inr}
+use Rattle.std.specs.Prelude.{ltb, Result, Ok, Err, IfOk, IfErr, IsErrAnd}
+use Rattle.std.proofs.lemmas.Bool.{cases_lt}
+use Rattle.std.proofs.lemmas.Result.{err_from_is_err_and}
+use Rattle.spec.specs.Expr.{when◌then◌else◌, Atom, nil, array, int, ref, atom, form, Exprs, only, depth, deepest, atom_bytes, bytes, canonical}
 use Rattle.spec.specs.Nodes.{leaf, branch, bytecode, Nodes, empty, cons, unnumbered, unnumbered_all}
-use Rattle.atoms.specs.Tokens.{atom_head}
+use Rattle.laws.specs.Demands.{Bytes}
+use Rattle.laws.proofs.Basics.{impossible}
+use Rattle.laws.proofs.Fits.{bytes_drop, bytes_take}
+use Rattle.laws.proofs.Shortest.{spelled_fits}
+use Rattle.atoms.specs.Refusals.{number, refused}
+use Rattle.atoms.specs.declared.refusal.Refusal.{Refusal}
+use Rattle.atoms.specs.declared.refusal.Reason.TheVariants.{FullWorkspace}
+use Rattle.atoms.specs.Tokens.{kind_of}
+use Rattle.atoms.specs.declared.Kind.TheVariants.{Array}
 use Rattle.writer.specs.Bytes.{put_at, Put, with_head}
 use Rattle.writer.proofs.Puts.{length_put_at, put_at_more, stored, written_on}
-use Rattle.rows.specs.Rows.{cell, kind, start, LeafAt, NodeAt, NodesAt}
-use Rattle.workspace.specs.Completed.{Fitting, Stand, with_top, Complete, Incomplete, too_deep, too_long, BodyOf, Atoms, Stored}
+use Rattle.rows.specs.Rows.{cell, start, LeafAt, NodeAt, NodesAt}
+use Rattle.workspace.specs.Completed.{Fitting, Stand, with_top, Complete, Completed, Incomplete, too_deep, too_long, BodyOf, Atoms, Stored}
 use Rattle.workspace.specs.declared.values.State.{State}
 use Rattle.workspace.specs.declared.values.Body.{Body}
 use Rattle.rows.proofs.Nodes.{leaf_array, leaf_nil, leaf_int, leaf_ref, nodes_done, nodes_first, leaf_at, leaf_skipped}
@@ -29,11 +41,22 @@ pub record Sized (vs : Exprs) (n : ℕ) : Type 0 where
   pub shallow : deepest vs ≤ 64
   pub size : length (canonical vs) ≡ n
 
+-- what `State::charged` answers
+abbrev pub charge : State → ℕ → ℕ → ℕ → Result State Refusal
+charge st n top row = when ltb st.room n then Err (refused FullWorkspace row) else Ok (with_top st (st.room - n) top)
+
+-- what is charged was there
+pub paid : (st : State) (n top row : ℕ) (r : Result State Refusal) → r ≡ charge st n top row → IfOk r (λ st'. n ≤ st.room)
+paid st n top row r is = elim (cases_lt st.room n) [ inl l ↦ rw (is, lt-ltb st.room n l) tt | inr l ↦ rw (is, le-ltb st.room n l) l ]
+
+-- of values with n bytes that are written where those before them end, if they are charged
 module _ {vs : Exprs} {n : ℕ} (v : Sized vs n) {st : State} where
+  -- they are not
   pub unpaid : {row : ℕ} → st.room < n → (row ≡ row) × Incomplete st vs 17
   unpaid h = (refl, too_long v.shallow (omega (arith, v.size)))
 
-  pub written : {w w' : List ℕ} {start : ℕ} → Fitting w st → start ≤ st.top → n ≤ st.room → w' ≡ put_at w start (canonical vs)
+  -- they are
+  written : {w w' : List ℕ} {start : ℕ} → Fitting w st → start ≤ st.top → n ≤ st.room → w' ≡ put_at w start (canonical vs)
       → Complete w w' st start vs (with_top st (st.room - n) (start + n))
   written {w} {w'} {start} fits h paid put =
       let size = v.size in
@@ -46,6 +69,25 @@ module _ {vs : Exprs} {n : ℕ} (v : Sized vs n) {st : State} where
         stand = record { order = omega arith; inside = omega (arith, others.size); bytes = slice_put w start (canonical vs) room };
         others = others;
       })
+
+module _ {vs : Exprs} {n : ℕ} (v : Sized vs n) (st : State) (start row : ℕ) where
+  pub completed : {w w' : List ℕ} (r : Result State Refusal) → Fitting w st → start ≤ st.top → r ≡ charge st n (start + n) row
+      → (n ≤ st.room → w' ≡ put_at w start (canonical vs)) → Completed w w' st start row vs r
+  completed r fits h is put = elim (cases_lt st.room n) [
+    | inl l ↦ rw (is, lt-ltb st.room n l) (unpaid v l)
+    | inr l ↦ rw (is, le-ltb st.room n l) (written v fits h l (put l))
+  ]
+
+  uncharged : (r : Result State Refusal) → r ≡ charge st n (start + n) row → IfErr r (λ e. (e.place ≡ row) × Incomplete st vs (number e.reason))
+  uncharged r is = elim (cases_lt st.room n) [
+    | inl l ↦ rw (is, lt-ltb st.room n l) (unpaid v l)
+    | inr l ↦ rw (is, le-ltb st.room n l) tt
+  ]
+
+  -- a refusal that is passed on by `?`
+  pub refused_on : (w : List ℕ) {e : Refusal} (r : Result State Refusal) → IsErrAnd r (λ x. x ≡ e) → Err e ≡ charge st n (start + n) row
+      → Completed w w st start row vs r
+  refused_on w {e} r on is = let p = err_from_is_err_and r on in rw (p.1, p.2) (uncharged (Err e) is)
 
 -- values that stand in the workspace
 pub part_sized : {w : List ℕ} {vs : Exprs} {from to : ℕ} → deepest vs ≤ 64 → Stand w from to vs → Sized vs (to - from)
@@ -109,34 +151,42 @@ module _ (vs : Exprs) (n : ℕ) (size : length (canonical vs) + 2 ≡ n) where
 
 -- An atom of the stream
 
-module _ {s t : List ℕ} {r : ℕ} {b : Body} (kinded : b.kind ≡ kind t r) (to : b.to ≡ cell t r 2) where
+-- that is an array
+pub array_leaf : {s t : List ℕ} {r : ℕ} {a : Atom} → LeafAt s t r a → kind_of a ≡ Array → (bs : List ℕ) × (a ≡ array bs) × LeafAt s t r (array bs)
+array_leaf {a = nil} l is = impossible (cc)
+array_leaf {a = array bs} l is = (bs, refl, l)
+array_leaf {a = int v} l is = impossible (cc)
+array_leaf {a = ref m n} l is = impossible (cc)
+
+module _ {s t : List ℕ} {r : ℕ} {b : Body} (to : b.to ≡ cell t r 2) where
   body_of : (a : Atom) → LeafAt s t r a → b.from ≤ b.to → with_head b.kind (slice b.from b.to s) ≡ atom_bytes a → BodyOf s a b
   body_of a l order is =
       record { order = order; inside = omega (arith, l.row.ends); short = l.row.short; is = rw (← slice_take b.from b.to s) is }
 
-  pub body_array : {bs : List ℕ} → LeafAt s t r (array bs) → b.from ≡ cell t r 2 - length bs → BodyOf s (array bs) b
+  pub body_array : {bs : List ℕ} → b.kind ≡ Array → LeafAt s t r (array bs) → b.from ≡ cell t r 2 - length bs → BodyOf s (array bs) b
   unfolding atom_bytes
-  body_array {bs} l from = body_of (array bs) l (omega arith) (rw (kinded ∙ l.row.kind_is, from, to) (ap (with_head 2) (leaf_array l).0))
+  body_array {bs} kinded l from = body_of (array bs) l (omega arith) (rw (kinded, from, to) (ap (with_head Array) (leaf_array l).0))
 
-  pub body_other : (a : Atom) → LeafAt s t r a → (b.kind ≡ 2 → ⊥) → b.from ≡ start t r → BodyOf s a b
-  body_other a l h from = body_of a l (omega (arith, l.row.starts)) (rw (ne_eqb b.kind 2 h, from, to) (go a l))
+  pub body_other : (a : Atom) → LeafAt s t r a → b.kind ≡ kind_of a → (b.kind ≡ Array → ⊥) → b.from ≡ start t r → BodyOf s a b
+  body_other a l kinded h from = body_of a l (omega (arith, l.row.starts)) (rw (kinded, from, to) (go a l kinded))
     where
-      go : (a : Atom) → LeafAt s t r a → slice (start t r) (cell t r 2) s ≡ atom_bytes a
-      go nil l = leaf_nil l
-      go (array bs) l = absurd (h (kinded ∙ l.row.kind_is))
-      go (int v) l = leaf_int l
-      go (ref m n) l = leaf_ref l
+      go : (a : Atom) → LeafAt s t r a → b.kind ≡ kind_of a → with_head (kind_of a) (slice (start t r) (cell t r 2) s) ≡ atom_bytes a
+      go nil l kinded = leaf_nil l
+      go (array bs) l kinded = absurd (h kinded)
+      go (int v) l kinded = leaf_int l
+      go (ref m n) l kinded = leaf_ref l
+
+-- its canonical bytes are no more than a stream's
+pub leaf_short : {s t : List ℕ} {r : ℕ} {a : Atom} → Bytes s → LeafAt s t r a → length (atom_bytes a) ≤ 65536
+leaf_short {s} {t} {r} {a} stream l =
+    let x = slice (start t r) (cell t r 2) s in
+    let own = bytes_drop (start t r) (take (cell t r 2) s) (bytes_take (cell t r 2) s stream) in
+    omega (arith, (spelled_fits a x own l.spells).1, length-slice (start t r) (cell t r 2) s l.row.ends, l.row.ends, l.row.short)
 
 -- an atom alone
 pub only_atom : (a : Atom) → (canonical (only (atom a)) ≡ atom_bytes a) × (deepest (only (atom a)) ≤ 64)
 unfolding bytes depth
 only_atom a = (append-nil (atom_bytes a), omega arith)
-
-pub body_size : {s : List ℕ} {a : Atom} {b : Body} → BodyOf s a b → length (atom_bytes a) ≡ length (atom_head b.kind (b.to - b.from)) + (b.to - b.from)
-body_size {s} {a} {b} of =
-    let x = take (b.to - b.from) (drop b.from s) in
-    let n : length x ≡ b.to - b.from = simp (length-take, length-drop) (omega (arith, of.order, of.inside)) in
-    ap length (sym of.is) ∙ length-append (atom_head b.kind (length x)) x ∙ rw n
 
 pub atom_sized : {a : Atom} {n : ℕ} → n ≡ length (atom_bytes a) → Sized (only (atom a)) n
 atom_sized {a} size = record { shallow = (only_atom a).1; size = ap length (only_atom a).0 ∙ sym size }

@@ -8,6 +8,7 @@ use native.Mathlib.Omega.{arith}
 use lib.ListN.{length, drop, length-drop}
 use lib.Dec.{leb}
 use borrow.Author.Tests.{le-leb, lt-leb}
+use Rattle.std.specs.Prelude.{Result, Ok, Err}
 use Rattle.spec.specs.Expr.{Expr, atom, form, Exprs, none, more, depth, deepest, canonical}
 use Rattle.spec.specs.Reading.{Token, opening, closing, whole, unfinished, bad, tokens}
 use Rattle.laws.specs.Demands.{Bytes}
@@ -18,8 +19,10 @@ use Rattle.laws.proofs.Reading.{expr_tokens, all_tokens, tokens_all, canonical_s
 use Rattle.laws.proofs.Steps.{tokens_from}
 use Rattle.atoms.specs.Tokens.{token_at, shown}
 use Rattle.atoms.specs.declared.Token.{Token as Answer}
-use Rattle.atoms.specs.declared.Token.TheVariants.{Opening, Closing, Whole, Unfinished, Bad}
-use Rattle.atoms.proofs.Next.{Next, next}
+use Rattle.atoms.specs.Refusals.{told}
+use Rattle.atoms.specs.declared.refusal.Refusal.{Refusal}
+use Rattle.atoms.specs.declared.Token.TheVariants.{Opening, Closing, Atom as Whole, Unfinished}
+use Rattle.atoms.proofs.Next.{Stands, next}
 
 -- tokens that close the d open forms, and whether at most 63 forms are open at once; each form that is open has its closing ahead
 abbrev pub Within : List Token → ℕ → Bool → Type 0
@@ -106,21 +109,24 @@ nesting_start s stream some = record {
 }
 
 -- what holds after each kind of token
-abbrev pub NestingTurn : (s : List ℕ) (p d : ℕ) → Answer → Type 0
-NestingTurn s p d Opening = (63 ≤ d → Answers s false) × (d < 63 → Nesting s (p + 1) (d + 1))
-NestingTurn s p d Closing = (0 < d) × Nesting s (p + 1) (d - 1)
-NestingTurn s p d (Whole k b e) = (p < e) × Nesting s e d
-NestingTurn s p d Unfinished = ⊥
-NestingTurn s p d (Bad w q) = ⊥
+abbrev pub NestingTurn : (s : List ℕ) (p d : ℕ) → Result Answer (ℕ × ℕ) → Type 0
+NestingTurn s p d (Ok Opening) = (63 ≤ d → Answers s false) × (d < 63 → Nesting s (p + 1) (d + 1))
+NestingTurn s p d (Ok Closing) = (0 < d) × Nesting s (p + 1) (d - 1)
+NestingTurn s p d (Ok (Whole k b e)) = (p < e) × Nesting s e d
+NestingTurn s p d (Ok Unfinished) = ⊥
+NestingTurn s p d (Err r) = ⊥
 
 module _ (s : List ℕ) (p d : ℕ) (f : Nesting s p d) where
   pub nesting_end : length s - p + d < 128 → Answers s true
   nesting_end h vs is fits =
       sym (few_tokens (tokens_from s p) d (leb (deepest vs) 63) (f.each vs is fits) (omega (arith, tokens_few (drop p s) p 0, length-drop p s)))
 
-  pub nesting_turn : p < length s → (r : Answer) → r ≡ shown (token_at s p) → NestingTurn s p d r
-  nesting_turn inside r told = go r (next s p r f.stream inside told)
+  pub nesting_turn : 128 ≤ length s - p + d → (r : Result Answer Refusal) → told r ≡ shown (token_at s p) → NestingTurn s p d (told r)
+  nesting_turn some r is = go (told r) (next s p r f.stream inside is)
     where
+      inside : p < length s
+      inside = omega (arith, some, f.few)
+
       -- what is known of the tokens from here on
       here : (ts : List Token) → tokens_from s p ≡ ts → (vs : Exprs) → s ≡ canonical vs → FitsAll vs → Within ts d (leb (deepest vs) 63)
       here ts e vs is fits = subst (λ (l : List Token). Within l d (leb (deepest vs) 63)) e (f.each vs is fits)
@@ -132,12 +138,12 @@ module _ (s : List ℕ) (p d : ℕ) (f : Nesting s p d) where
       one : (ts : List Token) → tokens_from s p ≡ ts → Within ts d (leb (deepest f.some.0) 63)
       one ts e = here ts e f.some.0 f.some.1 f.some.2
 
-      go : (r : Answer) → Next s p r → NestingTurn s p d r
-      go Opening is = (
+      go : (r : Result Answer (ℕ × ℕ)) → Stands s p r → NestingTurn s p d r
+      go (Ok Opening) is = (
         λ h vs v fits. sym ((here _ is vs v fits).1 h),
         λ h. dive (p + 1) (d + 1) (omega arith) (omega arith) (λ vs v fits. (here _ is vs v fits).2 h),
       )
-      go Closing is = ((one _ is).0, dive (p + 1) (d - 1) (omega arith) (omega (arith, f.few)) (λ vs v fits. (here _ is vs v fits).1))
-      go (Whole k b e) w = (w.forward, dive e d w.inside f.few (here _ w.is))
-      go Unfinished x = one _ x.1
-      go (Bad w q) x = one _ x.1
+      go (Ok Closing) is = ((one _ is).0, dive (p + 1) (d - 1) (omega arith) (omega (arith, f.few)) (λ vs v fits. (here _ is vs v fits).1))
+      go (Ok (Whole k b e)) w = (w.forward, dive e d w.inside f.few (here _ w.is))
+      go (Ok Unfinished) x = one _ x.1
+      go (Err r) x = one _ x.1

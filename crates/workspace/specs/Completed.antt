@@ -1,17 +1,18 @@
 -- What completing a value does to the workspace. Values stand in it as their canonical bytes, in two stacks: from its start up to `top` the
 -- finished values of all open lists, one after the other; from `floor` to its end the values of visible definitions. What is held has been
 -- charged, so that a charge that fits is room enough. Document 01: "Workspace". Assumes nothing.
-use Rattle.std.specs.Prelude.{ℕ, ◌+◌, ◌-◌, ◌≤◌, ◌<◌, ◌≡◌, List, ◌++◌, false, length, take, drop, get_or}
+use Rattle.std.specs.Prelude.{ℕ, ◌+◌, ◌-◌, ◌≤◌, ◌<◌, ◌≡◌, List, ◌++◌, false, length, take, drop, get_or, Result, Ok, Err}
 use Rattle.std.proofs.Math.Seq.{slice}
 use Rattle.spec.specs.Expr.{Atom, array, Expr, atom, Exprs, none, more, only, deepest, atom_bytes, bytes, canonical}
 use Rattle.spec.specs.Nodes.{leaf, branch, bytecode, Nodes, empty, cons}
+use Rattle.atoms.specs.Refusals.{number, refused}
+use Rattle.atoms.specs.declared.refusal.Reason.TheVariants.{WrongElements}
+use Rattle.atoms.specs.declared.refusal.Refusal.{Refusal}
 use Rattle.writer.specs.Bytes.{with_head}
 use Rattle.rows.specs.Rows.{NodesAt}
 use Rattle.rows.specs.declared.forms.Form.{Form}
 use Rattle.workspace.specs.Packed.{pack}
 use Rattle.workspace.specs.declared.values.State.{State}
-use Rattle.workspace.specs.declared.values.Out.{Out}
-use Rattle.workspace.specs.declared.values.Out.TheVariants.{Done, Refused}
 use Rattle.workspace.specs.declared.values.Body.{Body}
 
 -- a state of a workspace
@@ -82,15 +83,15 @@ pub record SomeAtoms (s t : List ℕ) (f : Form) : Type 0 where
   pub atoms : Atoms nodes
 
 -- completing the values of the expression at a row
-abbrev pub Completed : List ℕ → List ℕ → State → ℕ → ℕ → Exprs → Out → Type 0
-Completed w w' st start row vs (Done st') = Complete w w' st start vs st'
-Completed w w' st start row vs (Refused number at) = (at ≡ row) × Incomplete st vs number
+abbrev pub Completed : List ℕ → List ℕ → State → ℕ → ℕ → Exprs → Result State Refusal → Type 0
+Completed w w' st start row vs (Ok st') = Complete w w' st start vs st'
+Completed w w' st start row vs (Err r) = (r.place ≡ row) × Incomplete st vs (number r.reason)
 
 -- the two values of a concat's operands joined, if they are arrays; else 11
-pub data Joined (w w' : List ℕ) (st : State) (start row : ℕ) (a b : Expr) : Out → Type 0 where
-  joined : {r : Out} (bs cs : List ℕ) → a ≡ atom (array bs) → b ≡ atom (array cs) → Completed w w' st start row (only (atom (array (bs ++ cs)))) r
+pub data Joined (w w' : List ℕ) (st : State) (start row : ℕ) (a b : Expr) : Result State Refusal → Type 0 where
+  joined : {r : Result State Refusal} (bs cs : List ℕ) → a ≡ atom (array bs) → b ≡ atom (array cs) → Completed w w' st start row (only (atom (array (bs ++ cs)))) r
       → Joined w w' st start row a b r
-  no_arrays : ((bs cs : List ℕ) → a ≡ atom (array bs) → b ≡ atom (array cs) → ⊥) → Joined w w' st start row a b (Refused 11 row)
+  no_arrays : ((bs cs : List ℕ) → a ≡ atom (array bs) → b ≡ atom (array cs) → ⊥) → Joined w w' st start row a b (Err (refused WrongElements row))
 
 -- the values of a definition moved from the finished ones to the definitions'
 pub record Stored (w w' : List ℕ) (st : State) (start : ℕ) (st' : State) : Type 0 where

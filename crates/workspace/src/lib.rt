@@ -3,6 +3,5 @@
 #![tactic(auto)]
 
 pub mod made;
-mod moves;
 pub mod packed;
 pub mod values;

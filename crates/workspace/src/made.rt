@@ -7,9 +7,10 @@ ghost use Rattle.workspace.specs.Packed.{pack};
 ghost use Rattle.workspace.specs.Joins.{array_at};
 ghost use Rattle.workspace.specs.Completed.{Fitting, Stand, Completed, Joined, ArgumentsAt};
 
-use crate::values::{Out, State};
-use crate::{moves, packed, values};
-use atoms::{Kind, Token};
+use crate::packed;
+use crate::values::State;
+use atoms::{Kind, Reason, Refusal, Token};
+use std::ops::Range;
 
 // Whether values have at most 63 forms one inside another.
 fn shallow(values: &[u8]) -> bool
@@ -20,8 +21,12 @@ fn shallow(values: &[u8]) -> bool
     let mut at: usize = 0;
     let mut depth: usize = 0;
     // The bytes left close every form, so with n left and d forms open no more than (n + d) / 2 are open at once.
+    // Kept: only a token tells where the next begins.
     while 128 <= values.len() - at + depth {
-        match atoms::token_at(values, at) {
+        let Ok(token) = atoms::token_at(values, at) else {
+            return false;
+        };
+        match token {
             Token::Opening => {
                 if 63 <= depth {
                     return false;
@@ -33,72 +38,54 @@ fn shallow(values: &[u8]) -> bool
                 depth -= 1;
                 at += 1;
             }
-            Token::Whole {
-                kind: _,
-                body: _,
-                end,
-            } => {
-                at = end;
-            }
-            Token::Unfinished => {
-                return false;
-            }
-            Token::Bad(_, _) => {
-                return false;
-            }
+            Token::Atom { end, .. } => at = end,
+            Token::Unfinished => return false,
         }
     }
     true
 }
 
 // The form of the values from `from` up to the top, instead of all from `start` on.
-pub fn wrapped(w: &mut [u8], state: State, start: usize, from: usize, row: usize) -> Out
+pub fn wrapped(
+    w: &mut [u8],
+    state: State,
+    start: usize,
+    from: usize,
+    row: usize,
+) -> Result<State, Refusal>
     requires fitting { Fitting w.old state × (start ≤ from) }
     requires stand { (vs : Exprs) × Stand w.old from state.top vs × FitsAll vs }
     ensures { (vs : Exprs) → Stand w.old from state.top vs → FitsAll vs → Completed w.old w.new state start row (only (form vs)) result }
 {
     let top = state.top;
     if !shallow(&w[from..top]) {
-        return Out::Refused(6, row);
+        return Err(Refusal::new(Reason::TooDeep, row));
     }
     let n = top - from + 2;
-    if state.room < n {
-        return Out::Refused(17, row);
-    }
-    moves::move_bytes(w, from, top, start + 1);
+    let left = state.charged(n, start + n, row)?;
+    w.copy_within(from..top, start + 1);
     w[start] = 0x01;
     w[start + n - 1] = 0x02;
-    values::charged(state, n, start + n)
+    Ok(left)
 }
 
-#[derive(Clone, Copy)]
-enum Bytes {
-    Array { from: usize, to: usize },
-    Other,
-}
-
-// The array that stands at a byte of the workspace, if one does.
-fn array_at(w: &[u8], at: usize) -> Bytes
+// The bytes of the array that stands at a byte of the workspace, if one does.
+fn array_at(w: &[u8], at: usize) -> Option<Range<usize>>
     requires { length w.now ≤ 65536 }
     ensures { result ≡ array_at w.now at }
 {
     if w.len() <= at {
-        return Bytes::Other;
+        return None;
     }
     match atoms::any_token(w, at) {
-        Token::Opening => Bytes::Other,
-        Token::Closing => Bytes::Other,
-        Token::Whole { kind, body, end } => {
-            if kind == Kind::ARRAY {
-                return Bytes::Array {
-                    from: body,
-                    to: end,
-                };
-            }
-            Bytes::Other
-        }
-        Token::Unfinished => Bytes::Other,
-        Token::Bad(_, _) => Bytes::Other,
+        Ok(
+            Token::Atom {
+                kind: Kind::Array,
+                body,
+                end,
+            },
+        ) => Some(body..end),
+        _ => None,
     }
 }
 
@@ -108,49 +95,44 @@ fn join_at(
     state: State,
     start: usize,
     row: usize,
-    a: usize,
-    b: usize,
-    c: usize,
-    d: usize,
-) -> Out
+    a: Range<usize>,
+    b: Range<usize>,
+) -> Result<State, Refusal>
     requires fitting { Fitting w.old state × (start ≤ state.top) }
-    requires a_le_b { (a ≤ b) × (b ≤ state.top) × (c ≤ d) × (d ≤ state.top) }
-    ensures { Completed w.old w.new state start row (only (atom (array (slice a b w.old ++ slice c d w.old)))) result }
+    requires in_order { (a.start ≤ a.end) × (a.end ≤ state.top) × (b.start ≤ b.end) × (b.end ≤ state.top) }
+    ensures { Completed w.old w.new state start row (only (atom (array (slice a.start a.end w.old ++ slice b.start b.end w.old)))) result }
 {
-    let k = (b - a) + (d - c);
+    let first = a.len();
+    let k = first + b.len();
     let top = state.top;
-    let n = writer::atom_size(Kind::ARRAY, k);
-    if state.room < n {
-        return Out::Refused(17, row);
-    }
+    let n = writer::atom_size(Kind::Array, k);
+    let left = state.charged(n, start + n, row)?;
     let at = writer::put_head(k, w, top);
-    moves::move_bytes(w, a, b, at);
-    moves::move_bytes(w, c, d, at + (b - a));
-    moves::move_bytes(w, top, top + n, start);
-    values::charged(state, n, start + n)
+    w.copy_within(a, at);
+    w.copy_within(b, at + first);
+    w.copy_within(top..top + n, start);
+    Ok(left)
 }
 
 // The join of the two values from `start` up to the top, which are concat's operands.
-pub fn joined(w: &mut [u8], state: State, start: usize, row: usize) -> Out
+pub fn joined(w: &mut [u8], state: State, start: usize, row: usize) -> Result<State, Refusal>
     requires fitting { Fitting w.old state }
     requires stand { (a b : Expr) × Stand w.old start state.top (more a (only b)) × FitsAll (more a (only b)) }
     ensures { (a b : Expr) → Stand w.old start state.top (more a (only b)) → FitsAll (more a (only b)) → Joined w.old w.new state start row a b result }
 {
-    match array_at(w, start) {
-        Bytes::Other => Out::Refused(11, row),
-        Bytes::Array { from: a, to: b } => match array_at(w, b) {
-            Bytes::Other => Out::Refused(11, row),
-            Bytes::Array { from: c, to: d } => join_at(w, state, start, row, a, b, c, d),
-        },
-    }
+    let no_array = Refusal::new(Reason::WrongElements, row);
+    let a = array_at(w, start).ok_or(no_array)?;
+    let b = array_at(w, a.end).ok_or(no_array)?;
+    join_at(w, state, start, row, a, b)
 }
 
 // Packs where argument n stands, if n is below 64.
-fn put_argument(args: &mut [u32], n: usize, from: usize, to: usize)
-    requires { (from < to) × (to ≤ 65536) × (length args.old ≡ 64) }
+fn put_argument(args: &mut [u32; 64], n: usize, from: usize, to: usize)
+    requires { (from < to) × (to ≤ 65536) }
     ensures { args.new ≡ set args.old n (pack from to) }
 {
-    if n < 64 {
+    // Kept: a proof knows nothing of the elements behind a slice's `get_mut`.
+    if n < args.len() {
         args[n] = packed::pack(from, to);
     }
 }
@@ -163,6 +145,7 @@ pub fn spread(values: &[u8], base: usize, args: &mut [u32; 64]) -> usize
 {
     let mut at: usize = 0;
     let mut n: usize = 0;
+    // Kept: only a value tells where the next begins.
     while at < values.len() {
         let end = reader::expression_end(values, at);
         put_argument(args, n, base + at, base + end);

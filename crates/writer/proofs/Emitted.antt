@@ -6,6 +6,7 @@ use lib.ListN.{length, drop, length-append}
 use lib.Seq.{sets}
 use borrow.Rule.Slice.PartMut.{mid_of, mid_len}
 use native.Mathlib.Omega.{arith}
+use Rattle.std.specs.Prelude.{Result, Ok, Err}
 use Rattle.spec.specs.Expr.{atom_bytes, canonical}
 use Rattle.spec.specs.Reading.{Token, opening, closing, whole, unfinished, bad}
 use Rattle.spec.specs.Calls.{over}
@@ -14,9 +15,12 @@ use Rattle.laws.proofs.Tokens.{Right, right_opening, right_closing, right_whole,
 use Rattle.laws.proofs.Reading.{read_readable}
 use Rattle.laws.proofs.Steps.{tokens_from, tokens_end}
 use Rattle.laws.proofs.Written.{bytes_of, token_bytes, canonical_stream}
+use Rattle.atoms.specs.Refusals.{told}
 use Rattle.atoms.specs.Tokens.{token_at, shown, atom_head}
+use Rattle.atoms.specs.declared.Kind.{Kind}
 use Rattle.atoms.specs.declared.Token.{Token as Answer}
-use Rattle.atoms.specs.declared.Token.TheVariants.{Opening, Closing, Whole, Unfinished, Bad}
+use Rattle.atoms.specs.declared.Token.TheVariants.{Opening, Closing, Atom as Whole, Unfinished}
+use Rattle.atoms.specs.declared.refusal.Refusal.{Refusal}
 use Rattle.atoms.proofs.Next.{AtomAt, Next, next}
 use Rattle.writer.specs.Bytes.{put_at, Put, with_head}
 use Rattle.writer.proofs.Puts.{length_put_at, stored, written_on}
@@ -71,12 +75,12 @@ pub record AtomTurn (s out₀ out : List ℕ) (p to b e : ℕ) (bytes : List ℕ
 abbrev pub ByteTurn : (s out₀ out : List ℕ) (p to : ℕ) → Token → Type 0
 ByteTurn s out₀ out p to t = (to + length (bytes_of t) ≤ length out) × Emitted s out₀ (sets out to (bytes_of t)) (p + 1) (to + length (bytes_of t))
 
-abbrev pub EmitTurn : (s out₀ out : List ℕ) (p to : ℕ) → Answer → Type 0
-EmitTurn s out₀ out p to Opening = ByteTurn s out₀ out p to (opening p)
-EmitTurn s out₀ out p to Closing = ByteTurn s out₀ out p to (closing p)
-EmitTurn s out₀ out p to (Whole k b e) = AtomTurn s out₀ out p to b e (with_head k (mid_of b (e - b) s))
-EmitTurn s out₀ out p to Unfinished = ⊥
-EmitTurn s out₀ out p to (Bad w q) = ⊥
+abbrev pub EmitTurn : (s out₀ out : List ℕ) (p to : ℕ) → Result Answer Refusal → Type 0
+EmitTurn s out₀ out p to (Ok Opening) = ByteTurn s out₀ out p to (opening p)
+EmitTurn s out₀ out p to (Ok Closing) = ByteTurn s out₀ out p to (closing p)
+EmitTurn s out₀ out p to (Ok (Whole k b e)) = AtomTurn s out₀ out p to b e (with_head k (mid_of b (e - b) s))
+EmitTurn s out₀ out p to (Ok Unfinished) = ⊥
+EmitTurn s out₀ out p to (Err r) = ⊥
 
 module _ {s out₀ out : List ℕ} {p to : ℕ} (r : Emitted s out₀ out p to) where
   size : length (canonical (meaning_of s)) ≡ length r.done + length (token_bytes (tokens_from s p))
@@ -109,7 +113,7 @@ module _ {s out₀ out : List ℕ} {p to : ℕ} (r : Emitted s out₀ out p to) 
       let room = token_room (p + 1) step in
       (room, emitted_token (p + 1) step (omega arith) (stored _ _ _ room))
 
-  turn_atom : (k b e : ℕ) → AtomAt s p k b e → EmitTurn s out₀ out p to (Whole k b e)
+  turn_atom : (k : Kind) (b e : ℕ) → AtomAt s p k b e → EmitTurn s out₀ out p to (Ok (Whole k b e))
   turn_atom k b e w =
       let part = mid_of b (e - b) s in
       let bytes : atom_bytes w.atom ≡ with_head k part = w.written ∙ ap (λ (n : ℕ). atom_head k n ++ part) (sym (mid_len b e s w.inside)) in
@@ -122,15 +126,15 @@ module _ {s out₀ out : List ℕ} {p to : ℕ} (r : Emitted s out₀ out p to) 
         on = λ x. emitted_token e w.is w.inside (rw bytes x);
       }
 
-  pub emit_turn : p < length s → (a : Answer) → a ≡ shown (token_at s p) → EmitTurn s out₀ out p to a
-  emit_turn inside a told = go a (next s p a r.stream inside told)
+  pub emit_turn : p < length s → (a : Result Answer Refusal) → told a ≡ shown (token_at s p) → EmitTurn s out₀ out p to a
+  emit_turn inside a is = go a (next s p a r.stream inside is)
     where
-      go : (a : Answer) → Next s p a → EmitTurn s out₀ out p to a
-      go Opening step = turn_byte inside step
-      go Closing step = turn_byte inside step
-      go (Whole k b e) w = turn_atom k b e w
-      go Unfinished x = right_first (rw x.1 at r.passes.2)
-      go (Bad w q) x = right_first (rw x.1 at r.passes.2)
+      go : (a : Result Answer Refusal) → Next s p a → EmitTurn s out₀ out p to a
+      go (Ok Opening) step = turn_byte inside step
+      go (Ok Closing) step = turn_byte inside step
+      go (Ok (Whole k b e)) w = turn_atom k b e w
+      go (Ok Unfinished) x = right_first (rw x.1 at r.passes.2)
+      go (Err w) x = right_first (rw x.1 at r.passes.2)
 
   pub emitted_all : length s ≤ p → out ≡ over (canonical (meaning_of s)) out₀
   unfolding put_at token_bytes

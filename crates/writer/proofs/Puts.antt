@@ -9,6 +9,7 @@ use borrow.Rule.Slice.PartMut.{put_mid, Post-is}
 use native.Mathlib.Omega.{arith}
 use borrow.Author.Tests.{lt-ltb, le-ltb}
 use Rattle.spec.specs.Expr.{array_head}
+use Rattle.laws.proofs.Atoms.{head_bounds}
 use Rattle.writer.specs.Bytes.{put_at, Put}
 
 pub head_one : {n : ℕ} → n < 64 → array_head n ≡ (0xC0 + n) ∷ []
@@ -22,6 +23,8 @@ head_three {n} h l = rw (le-ltb n 64 h, lt-ltb n 256 l)
 pub head_four : {n : ℕ} → 256 ≤ n → array_head n ≡ 0x03 ∷ 0xC2 ∷ (n / 256) ∷ (n % 256) ∷ []
 unfolding array_head
 head_four {n} h = rw (le-ltb n 64 (omega arith), le-ltb n 256 h)
+
+pub ruleset heads = (head_one, head_three, head_four)
 
 module _ (out : List ℕ) (to : ℕ) (bs : List ℕ) (room : to + length bs ≤ length out) where
   -- what stands up to the end of the bytes
@@ -65,3 +68,5 @@ written_on {out} {to} {bs} {new} {mid} {cs} room p q = record {
   place = q.place ∙ rw (p.place, length-append bs cs) (omega arith);
   is = q.is ∙ rw (p.is, p.place) (put_at_more out to bs room cs);
 }
+
+pub ruleset puts = (head_bounds, length-append)

@@ -1,6 +1,7 @@
 -- What this crate's functions write. Document 01: "Canonical". Assumes nothing.
 use Rattle.std.specs.Prelude.{ℕ, ◌+◌, ◌≡◌, List, ◌++◌, length, take, drop}
 use Rattle.atoms.specs.Tokens.{atom_head}
+use Rattle.atoms.specs.declared.Kind.{Kind}
 
 -- bytes in the place of as many of a list's, from index `to` on
 unfoldable pub put_at : List ℕ → ℕ → List ℕ → List ℕ
@@ -12,5 +13,5 @@ pub record Put (out : List ℕ) (to : ℕ) (bs new : List ℕ) (past : ℕ) : Ty
   pub is : new ≡ put_at out to bs
 
 -- the canonical bytes of an atom, by its kind and its body
-abbrev pub with_head : ℕ → List ℕ → List ℕ
+abbrev pub with_head : Kind → List ℕ → List ℕ
 with_head kind body = atom_head kind (length body) ++ body

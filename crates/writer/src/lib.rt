@@ -11,6 +11,7 @@ ghost use Rattle.writer.specs.Bytes.{Put, with_head};
 use atoms::{Kind, Token};
 
 // How many bytes the head of an array of n bytes takes.
+#[tactic(auto, using(crate::proofs::Puts::heads))]
 pub fn head_size(n: usize) -> usize
     ensures { result ≡ length (array_head n) }
 {
@@ -22,14 +23,15 @@ pub fn head_size(n: usize) -> usize
 }
 
 // How many bytes an atom of that kind, with a body of n bytes, is written with.
-pub fn atom_size(kind: u32, n: usize) -> usize
+#[tactic(auto, using(laws::proofs::Atoms::head_bounds))]
+pub fn atom_size(kind: Kind, n: usize) -> usize
     requires { n ≤ 2 * 65536 }
     ensures { result ≡ length (atom_head kind n) + n }
 {
-    if kind == Kind::ARRAY {
-        return head_size(n) + n;
+    match kind {
+        Kind::Array => head_size(n) + n,
+        _ => n,
     }
-    n
 }
 
 // Writes bytes; gives the place behind them.
@@ -43,34 +45,37 @@ fn put_bytes(part: &[u8], out: &mut [u8], to: usize) -> usize
 }
 
 // Writes the head of an array of n bytes.
+#[tactic(auto, using(crate::proofs::Puts::heads))]
 pub fn put_head(n: usize, out: &mut [u8], to: usize) -> usize
     requires n_bound { n < 65536 }
     requires n_in_bounds { to + length (array_head n) ≤ length out.old }
     ensures { Put out.old to (array_head n) out.new result }
 {
-    if n < 64 {
-        let head = [0xC0 + (n as u8)];
-        return put_bytes(&head, out, to);
+    // Kept: `as`, since each arm bounds n; `try_from` would have to be unwrapped.
+    match n {
+        0..=63 => put_bytes(&[0xC0 + n as u8], out, to),
+        64..=255 => put_bytes(&[0x03, 0xC1, n as u8], out, to),
+        _ => {
+            let [high, low] = (n as u16).to_be_bytes();
+            put_bytes(&[0x03, 0xC2, high, low], out, to)
+        }
     }
-    if n < 256 {
-        let head = [0x03, 0xC1, n as u8];
-        return put_bytes(&head, out, to);
-    }
-    let head = [0x03, 0xC2, (n / 256) as u8, (n % 256) as u8];
-    put_bytes(&head, out, to)
 }
 
 // Writes an atom of that kind and body.
-pub fn put_atom(kind: u32, body: &[u8], out: &mut [u8], to: usize) -> usize
+#[tactic(auto, using(crate::proofs::Puts::puts))]
+pub fn put_atom(kind: Kind, body: &[u8], out: &mut [u8], to: usize) -> usize
     requires body_len_bound { length (with_head kind body.now) ≤ 65536 }
     requires body_in_bounds { to + length (with_head kind body.now) ≤ length out.old }
     ensures { Put out.old to (with_head kind body.now) out.new result }
 {
-    if kind == Kind::ARRAY {
-        let past = put_head(body.len(), out, to);
-        return put_bytes(body, out, past);
+    match kind {
+        Kind::Array => {
+            let past = put_head(body.len(), out, to);
+            put_bytes(body, out, past)
+        }
+        _ => put_bytes(body, out, to),
     }
-    put_bytes(body, out, to)
 }
 
 // Writes the canonical bytes of a stream that can be read.
@@ -81,8 +86,12 @@ pub fn emit(s: &[u8], out: &mut [u8])
 {
     let mut at: usize = 0;
     let mut to: usize = 0;
+    // Kept: a `while`, since a token's end says where the next one begins.
     while at < s.len() {
-        match atoms::token_at(s, at) {
+        let Ok(token) = atoms::token_at(s, at) else {
+            return;
+        };
+        match token {
             Token::Opening => {
                 out[to] = 0x01;
                 to += 1;
@@ -93,16 +102,11 @@ pub fn emit(s: &[u8], out: &mut [u8])
                 to += 1;
                 at += 1;
             }
-            Token::Whole { kind, body, end } => {
+            Token::Atom { kind, body, end } => {
                 to = put_atom(kind, &s[body..end], out, to);
                 at = end;
             }
-            Token::Unfinished => {
-                return;
-            }
-            Token::Bad(_, _) => {
-                return;
-            }
+            Token::Unfinished => return,
         }
     }
 }

@@ -8,12 +8,12 @@ use mir.Syntax.{w8}
 use mir.Val.{Fits}
 use denote.Ref.{Bor}
 use borrow.Author.Rules.{rules}
+use Rattle.std.specs.Prelude.{Option, Some, None}
 use Rattle.spec.specs.Reading.{read}
 use Rattle.spec.specs.Calls.{Buffer, of_stream, of_result, chosen, Item, item_read}
 use Rattle.laws.proofs.Steps.{all_bytes}
 use Rattle.reader.specs.Passes.{found_part}
-use Rattle.reader.specs.declared.Found.{Found}
-use Rattle.reader.specs.declared.Found.TheVariants.{At, Nothing}
+use Rattle.reader.specs.declared.Part.{Part}
 use Rattle.bulk.specs.Answers.{lent}
 use Rattle.bulk.proofs.Items.{item_inside}
 use Rattle.bulk.proofs.item_of.Goals as goal
@@ -23,40 +23,40 @@ chosen_lent of_stream stream result = refl
 chosen_lent of_result stream result = refl
 
 -- the part that was told
-told_part : (buffer : Bor (List ℕ)) (k : ℕ) (r : Found) → ((b : Buffer) → found_part b r ≡ item_read b k (read buffer.now (length buffer.now)))
+told_part : (buffer : Bor (List ℕ)) (k : ℕ) (r : Option Part) → ((b : Buffer) → found_part b r ≡ item_read b k (read buffer.now (length buffer.now)))
     → (b : Buffer) (stream result : Bor (List ℕ)) → lent b stream result ≡ buffer → found_part b r ≡ Item stream.now result.now b k
 unfolding Item
 told_part buffer k r told b stream result same = rw (← chosen_lent b stream result, same) (told b)
 
 -- it lies in the buffer
-inside : (x : Bor (List ℕ)) (k start end : ℕ) → ((i : ℕ) → Fits w8 (get_or x.now i 0))
-    → ((b : Buffer) → found_part b (At start end) ≡ item_read b k (read x.now (length x.now))) → (start ≤ end) × (end ≤ length x.now)
-inside x k start end bytes told =
-    item_inside of_stream x.now x.now _ _ _ (all_bytes x.now (λ i. (bytes i).fits)) (told_part x k (At start end) told of_stream x x refl)
+inside : (x : Bor (List ℕ)) (k : ℕ) (p : Part) → ((i : ℕ) → Fits w8 (get_or x.now i 0))
+    → ((b : Buffer) → found_part b (Some p) ≡ item_read b k (read x.now (length x.now))) → (p.start ≤ p.end) × (p.end ≤ length x.now)
+inside x k p bytes told =
+    item_inside of_stream x.now x.now _ _ _ (all_bytes x.now (λ i. (bytes i).fits)) (told_part x k (Some p) told of_stream x x refl)
 
 pub slice_bounds-result-count : goal.slice_bounds-result-count
-slice_bounds-result-count c = (inside c.args.buffer c.args.k _ _ c.type_inv.buffer c.in-At.ensures).0
+slice_bounds-result-count c = (inside c.args.buffer c.args.k _ c.type_inv.buffer c.in-Some.ensures).0
 
 pub slice_bounds-result-start : goal.slice_bounds-result-start
 slice_bounds-result-start c =
-    let i = inside c.args.buffer c.args.k _ _ c.type_inv.buffer c.in-At.ensures in
+    let i = inside c.args.buffer c.args.k _ c.type_inv.buffer c.in-Some.ensures in
     search rules
 
 pub slice_bounds-result-end : goal.slice_bounds-result-end
 slice_bounds-result-end c =
-    let i = inside c.args.buffer c.args.k _ _ c.type_inv.buffer c.in-At.ensures in
+    let i = inside c.args.buffer c.args.k _ c.type_inv.buffer c.in-Some.ensures in
     search rules
 
-pub returns-in-At : goal.returns-in-At
-returns-in-At c =
+pub returns-in-Some : goal.returns-in-Some
+returns-in-Some c =
     let x = c.args.buffer in
-    let i = inside x c.args.k _ _ c.type_inv.buffer c.in-At.ensures in
-    λ b stream res same. rw (← told_part x _ (At c.in-At.start c.in-At.end) c.in-At.ensures b stream res same) (record {
+    let i = inside x c.args.k _ c.type_inv.buffer c.in-Some.ensures in
+    λ b stream res same. rw (← told_part x _ (Some c.in-Some.part) c.in-Some.ensures b stream res same) (record {
       bytes = rw (← chosen_lent b stream res, same);
       place = rw same (record { block = refl; offset = omega arith; size = simp (length-take, length-drop) (omega arith) });
     })
 
-pub returns-in-Nothing : goal.returns-in-Nothing
-returns-in-Nothing c =
+pub returns-in-None : goal.returns-in-None
+returns-in-None c =
     let x = c.args.buffer in
-    λ b stream res same. rw (← told_part x _ Nothing c.in-Nothing.ensures b stream res same) (record { bytes = refl; place = tt })
+    λ b stream res same. rw (← told_part x _ None c.in-None.ensures b stream res same) (record { bytes = refl; place = tt })

@@ -1,10 +1,5 @@
--- `bulk_calls::main`: the measure is how much of the input is left. Assumes nothing.
-use Rattle.std.proofs.Common.{◌≤◌}
-use Rattle.text.specs.Size.{buffer_size}
+-- `bulk_calls::main`: the measure is how many bytes can still be taken. Assumes nothing.
 use Rattle.bulk_calls.proofs.main.Given as goal
 
-abbrev pub invariant-loop-at : goal.invariant-loop-at
-invariant-loop-at l = l.used ≤ buffer_size
-
-abbrev pub decreases-loop-at : goal.decreases-loop-at
-decreases-loop-at l = l.at.left
+abbrev pub decreases-loop-source : goal.decreases-loop-source
+decreases-loop-source l = l.source.left

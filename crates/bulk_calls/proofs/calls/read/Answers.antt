@@ -6,5 +6,5 @@ use Rattle.bulk_calls.proofs.calls.read.Goals as goal
 
 pub rows-requires : goal.rows-requires
 rows-requires g c =
-    let fits : row_width * c.in-Accepted.given ≤ length c.read.new.table = given_rows _ _ _ _ _ c.in-Accepted.is c.read.ensures in
-    (c.requires, simp length-append (omega arith))
+    let fits : row_width * c.in-Ok.rows ≤ length c.read.new.table = given_rows _ _ _ _ _ c.in-Ok.is c.read.ensures in
+    simp length-append (omega arith)

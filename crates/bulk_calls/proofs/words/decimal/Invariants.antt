@@ -1,9 +1,9 @@
--- `bulk_calls::words::decimal`: the measure is how much of the input is left. Assumes nothing.
+-- `bulk_calls::words::decimal`: the measure is how many bytes can still be taken. Assumes nothing.
 use Rattle.std.proofs.Common.{◌≤◌}
 use Rattle.bulk_calls.proofs.words.decimal.Given as goal
 
-abbrev pub invariant-loop-input : goal.invariant-loop-input
-invariant-loop-input g l = l.input.left ≤ l.initial.input.left
+abbrev pub invariant-loop-source : goal.invariant-loop-source
+invariant-loop-source g l = l.source.left ≤ l.initial.source.left
 
-abbrev pub decreases-loop-input : goal.decreases-loop-input
-decreases-loop-input g l = l.input.left
+abbrev pub decreases-loop-source : goal.decreases-loop-source
+decreases-loop-source g l = l.source.left

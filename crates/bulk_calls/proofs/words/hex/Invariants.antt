@@ -1,10 +1,9 @@
--- `bulk_calls::words::hex`: the measure is how much of the input is left, and a byte that was taken is never given back, so that
--- the count stays small. Assumes nothing.
-use Rattle.std.proofs.Common.{◌+◌, ◌≤◌}
+-- `bulk_calls::words::hex`: each byte takes two digits. Assumes nothing.
+use Rattle.std.proofs.Common.{◌≤◌, ◌+◌}
 use Rattle.bulk_calls.proofs.words.hex.Given as goal
 
-abbrev pub invariant-loop-input : goal.invariant-loop-input
-invariant-loop-input g l = l.length + l.input.left ≤ l.initial.input.left
+abbrev pub invariant-loop-source : goal.invariant-loop-source
+invariant-loop-source g l = l.count + l.source.left ≤ l.initial.source.left
 
-abbrev pub decreases-loop-input : goal.decreases-loop-input
-decreases-loop-input g l = l.input.left
+abbrev pub decreases-loop-source : goal.decreases-loop-source
+decreases-loop-source g l = l.source.left

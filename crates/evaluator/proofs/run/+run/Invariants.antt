@@ -1,4 +1,4 @@
--- The steps that are left fall, or are as many and the function called is a later one of `closed`, `finish`, `function` and `code`, `call` and `entered`,
+-- The steps that are left fall, or are as many and the function called is a later one of `finish`, `function` and `code`, `call` and `entered`,
 -- `list`, `expression`. Assumes nothing.
 use Prim.Native.Nat.{ℕ, ◌+◌, ◌-◌, ◌*◌}
 use mathlib.Core.Path.{◌≡◌}
@@ -9,32 +9,28 @@ use Rattle.rules.specs.Scope.{view}
 use Rattle.rules.specs.declared.here.Here.{Here as Seen}
 use Rattle.evaluator.specs.Listed.{SomeReady, Extends}
 use Rattle.evaluator.proofs.Turns.{held_list, Going}
-use Rattle.evaluator.proofs.Insides.{steps_of}
 use Rattle.evaluator.proofs.run.+run.Given as goal
 
 abbrev pub decreases-call : goal.decreases-call
-decreases-call l = 6 * l.values.state.steps + 2
-
-abbrev pub decreases-closed : goal.decreases-closed
-decreases-closed l = 6 * steps_of l.ended + 5
+decreases-call l = 5 * l.values.state.steps + 2
 
 abbrev pub decreases-code : goal.decreases-code
-decreases-code l = 6 * l.values.state.steps + 3
+decreases-code l = 5 * l.values.state.steps + 3
 
 abbrev pub decreases-entered : goal.decreases-entered
-decreases-entered l = 6 * l.state.steps + 2
+decreases-entered l = 5 * l.state.steps + 2
 
 abbrev pub decreases-expression : goal.decreases-expression
-decreases-expression l = 6 * l.state.steps
+decreases-expression l = 5 * l.state.steps
 
 abbrev pub decreases-finish : goal.decreases-finish
-decreases-finish l = 6 * l.values.state.steps + 4
+decreases-finish l = 5 * l.values.state.steps + 4
 
 abbrev pub decreases-function : goal.decreases-function
-decreases-function l = 6 * l.values.state.steps + 3
+decreases-function l = 5 * l.values.state.steps + 3
 
 abbrev pub decreases-list : goal.decreases-list
-decreases-list l = 6 * l.state.steps + 1
+decreases-list l = 5 * l.state.steps + 1
 
 -- what each turn of `list` keeps
 pub record Turning (s table w₀ associations₀ args definitions₀ : List ℕ) (here₀ : Seen) (state₀ : State) (form : Form) (w associations definitions : List ℕ)
