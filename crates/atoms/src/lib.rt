@@ -146,7 +146,8 @@ fn length_at(s: &[u8], at: usize) -> Result<Option<Length>, Refusal>
     Ok(nested_length(s, inner, depth))
 }
 
-// The generic array whose 03 is at a place, by its length expression of any shape.
+// The generic array whose 03 is at a place, by its length expression of any shape. It stays a call, so that `any_token` saves no registers.
+#[inline(never)]
 fn any_array(s: &[u8], at: usize) -> Result<Token, Refusal>
     requires { (length s.now ≤ 65536) × (at < length s.now) }
     ensures { told result ≡ shown_atom at (length s.now)
@@ -165,19 +166,19 @@ fn array_at(s: &[u8], at: usize) -> Result<Token, Refusal>
     ensures { told result ≡ shown_atom at (length s.now)
         (and_then (and_then (length_expr 7 (drop (suc at) s.now)) take_bytes) as_array) }
 {
-    if s.len() - at < 4 {
-        return any_array(s, at);
-    }
-    let b = s[at + 1];
-    match b {
-        0x80..=0xBF => Ok(bytes_at(s, at + 2, usize::from(b - 0x80))),
-        0xC1 => Ok(bytes_at(s, at + 3, usize::from(s[at + 2]))),
-        0xC2 => {
-            let size = u16::from_be_bytes([s[at + 2], s[at + 3]]);
-            Ok(bytes_at(s, at + 4, usize::from(size)))
+    if 4 <= s.len() - at {
+        let b = s[at + 1];
+        match b {
+            0x80..=0xBF => return Ok(bytes_at(s, at + 2, usize::from(b - 0x80))),
+            0xC1 => return Ok(bytes_at(s, at + 3, usize::from(s[at + 2]))),
+            0xC2 => {
+                let size = u16::from_be_bytes([s[at + 2], s[at + 3]]);
+                return Ok(bytes_at(s, at + 4, usize::from(size)));
+            }
+            _ => {}
         }
-        _ => any_array(s, at),
     }
+    any_array(s, at)
 }
 
 // The array of `size` bytes that begin at `body`.
@@ -252,21 +253,23 @@ pub fn any_token(s: &[u8], at: usize) -> Result<Token, Refusal>
 {
     let b = s[at];
     match b {
-        0x00 => Ok(single(Kind::Nil, at)),
-        0x01 => Ok(Token::Opening),
-        0x02 => Ok(Token::Closing),
-        0x03 => array_at(s, at),
-        0x04..=0x0F => Err(Refusal::new(Reason::ReservedMarker, at)),
-        0x10..=0x7E => reference(s, at, usize::from(b), at + 1),
-        0x7F => long_reference(s, at),
-        0x80..=0xBF => Ok(single(Kind::Int, at)),
-        0xC0..=0xFF => Ok(bytes_at(s, at + 1, usize::from(b - 0xC0))),
+        0x00 => return Ok(single(Kind::Nil, at)),
+        0x01 => return Ok(Token::Opening),
+        0x02 => return Ok(Token::Closing),
+        0x03 => {}
+        0x04..=0x0F => return Err(Refusal::new(Reason::ReservedMarker, at)),
+        0x10..=0x7E => return reference(s, at, usize::from(b), at + 1),
+        0x7F => return long_reference(s, at),
+        0x80..=0xBF => return Ok(single(Kind::Int, at)),
+        0xC0..=0xFF => return Ok(bytes_at(s, at + 1, usize::from(b - 0xC0))),
     }
+    array_at(s, at)
 }
 
 // The token at a place of a stream. The common ones are told here, in so few instructions that they are compiled into the loops over tokens; the
 // others by `any_token`.
 #[tactic(auto, using(crate::proofs::First::first_bytes))]
+#[inline(always)]
 pub fn token_at(s: &[u8], at: usize) -> Result<Token, Refusal>
     requires { (length s.now ≤ 65536) × (at < length s.now) }
     ensures { told result ≡ shown (token_at s.now at) }
@@ -274,8 +277,8 @@ pub fn token_at(s: &[u8], at: usize) -> Result<Token, Refusal>
     let b = s[at];
     let left = s.len() - at;
     match b {
-        0x00 => return Ok(single(Kind::Nil, at)),
         0x01 => return Ok(Token::Opening),
+        0x00 => return Ok(single(Kind::Nil, at)),
         0x02 => return Ok(Token::Closing),
         0x10..=0x7E => {
             if 1 < left {
@@ -299,5 +302,7 @@ pub fn token_at(s: &[u8], at: usize) -> Result<Token, Refusal>
         }
         _ => {}
     }
-    any_token(s, at)
+    // Told apart here, so that a loop need not tell a refusal from the answers above, nor have these in memory.
+    let other = any_token(s, at)?;
+    Ok(other)
 }

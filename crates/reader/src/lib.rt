@@ -243,8 +243,8 @@ fn find(s: &[u8], k: usize) -> Option<Part>
     requires { CanRead s.now }
     ensures { (b : Buffer) → found_part b result ≡ item b (rows_of (tokens 0 0 s.now)) k (meaning_of s.now) }
 {
-    let mut part = expression_at(s, 0)?;
-    for _ in 0..k {
+    let mut part = Part { start: 0, end: 0 };
+    for _ in 0..=k {
         part = expression_at(s, part.end)?;
     }
     Some(part)
