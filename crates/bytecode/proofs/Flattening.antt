@@ -1,5 +1,5 @@
 -- Bytecode forms in the table: by their heads, what they become. Document 02, §1. Assumes nothing.
-use Prim.Native.Nat.{ℕ, suc, ◌+◌, ◌≤◌, ◌<◌}
+use Prim.Native.Nat.{ℕ, ◌+◌, ◌≤◌, ◌<◌}
 use mathlib.Core.Path.{◌≡◌, refl, ap, sym, ◌∙◌}
 use mathlib.Core.List.{List, [], ◌∷◌}
 use mathlib.Core.Bool.{Bool, true, false, not, ◌&&◌, ◌||◌}
@@ -14,9 +14,6 @@ use Rattle.spec.proofs.Made.{keep, each_row, transform_other, result}
 use Rattle.spec.proofs.Flat.{refusal, Role, operator, operand, role, by_role, by_its_role, foremost, others, first_part, first_part_written, gathered_cons, transform_star, transform_nested, star_listed}
 use Rattle.laws.proofs.Basics.{both_false}
 use Rattle.laws.proofs.Bytecode.{unled_plain, Turned, same_leaf, same_form, to_bytecode, same_bytecode, transform_turned}
-use Rattle.atoms.specs.Refusals.{number}
-use Rattle.atoms.specs.declared.refusal.Reason.{Reason}
-use Rattle.atoms.specs.declared.refusal.Reason.TheVariants.{TooDeep, WrongBytecode}
 use Rattle.rows.specs.Rows.{RowInside, mark, next, WrittenAt, WrittenAll, behind, led_by_reference, NodeAt, NodesAt, OutcomeAt, ResultAt, single}
 use Rattle.rows.specs.declared.forms.Form.{Form}
 use Rattle.rows.proofs.Nodes.{written_whole}
@@ -208,12 +205,3 @@ refusal_small r os es = go (short os 0 es || led_by_name (elements (result r os 
     go true c = omega arith
     go false true = omega arith
     go false false = omega arith
-
--- each has a reason
-pub refusal_reason : (r : ℕ) (os : List Operator) (es : Nodes) (w : ℕ) → refusal r os es ≡ suc w → (reason : Reason) × (number reason ≡ suc w)
-refusal_reason r os es w = go (short os 0 es || led_by_name (elements (result r os es))) (ltb 64 (node_depth (result r os es)))
-  where
-    go : (b c : Bool) → (when b then 22 else when c then 6 else 0) ≡ suc w → (reason : Reason) × (number reason ≡ suc w)
-    go true c e = (WrongBytecode, e)
-    go false true e = (TooDeep, e)
-    go false false e = absurd (omega (arith, e))

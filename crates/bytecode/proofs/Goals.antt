@@ -13,7 +13,6 @@ use Rattle.spec.specs.Bytecode.{prefix*, is_name, Operator, if_operator, ill_for
 use Rattle.spec.proofs.Made.{keep, each_row}
 use Rattle.spec.proofs.Flat.{Role, operator, operand, role, by_operand, by_operator, operator_leaf, none_listed, without, foremost, others, first_part_written, gathered_cons, short_operands, refusal, outcome_refused, outcome_fine, transform_star, arity_list, star_ill_formed}
 use Rattle.laws.proofs.Basics.{both_false}
-use Rattle.atoms.specs.declared.refusal.Reason.TheVariants.{WrongBytecode}
 use Rattle.rows.specs.Rows.{kind, mark, link, next, WrittenAt, WrittenAll, is_made, behind, form_at, Opens, led_by_reference, Unmarked, NodeAt, NodesAt, OutcomeAt}
 use Rattle.rows.proofs.Nodes.{written_order, written_row}
 use Rattle.bytecode.specs.Numbers.{Changed}
@@ -21,7 +20,7 @@ use Rattle.bytecode.specs.Gathered.{beyond, lacks, GatheredAt}
 use Rattle.bytecode.specs.Frames.{Mode, plain, flat, is_flat, operators_in, expressions, Frame, Goal, Holds, going_on, inside}
 use Rattle.bytecode.proofs.Changing.{written_all_kept}
 use Rattle.bytecode.proofs.Links.{short_lacks, beyond_kept, beyond_written, beyond_changed}
-use Rattle.bytecode.proofs.Flattening.{NoBytecode, transform_plain, head_kept, refusal_reason, Flattens, flat_from, LedPlainly, named_head, flattens_to, outcome_asked}
+use Rattle.bytecode.proofs.Flattening.{NoBytecode, transform_plain, head_kept, Flattens, flat_from, LedPlainly, named_head, flattens_to, outcome_asked}
 
 -- An element of a list that is not flat is as it would be in one that is, where it is no operator
 
@@ -274,7 +273,7 @@ module _ (s t : List ℕ) (f : Frame) (e : Node) (es : Nodes) (here : FirstAt s 
     unfolding NodeAt word among
     goal_ill_formed p a m =
         goal_bytecode (fails 22) (named_head prefix* refl h gs p)
-        (transform_star f.first h gs f.around p ∙ ap (bytecode f.first (cons h gs)) (star_ill_formed f.first f.around gs a)) (m, omega arith, (WrongBytecode, refl))
+        (transform_star f.first h gs f.around p ∙ ap (bytecode f.first (cons h gs)) (star_ill_formed f.first f.around gs a)) (m, omega arith)
 
     module _ (k : ℕ) (os' : List Operator) (around : Around) (flats : Nodes) (flattens : Flattens f.around h gs k os' around flats) where
       -- one that is refused
@@ -283,8 +282,7 @@ module _ (s t : List ℕ) (f : Frame) (e : Node) (es : Nodes) (here : FirstAt s 
       goal_refused w z m =
           let to = flattens_to f.first f.around h flattens in
           let refused = outcome_refused f.first os' around flats w z in
-          goal_bytecode (fails (suc w)) to.0 (to.1 ∙ ap (bytecode f.first (cons h gs)) refused.0)
-          (m, omega (arith, refused.1), refusal_reason f.first os' flats w z)
+          goal_bytecode (fails (suc w)) to.0 (to.1 ∙ ap (bytecode f.first (cons h gs)) refused.0) (m, omega (arith, refused.1))
 
       -- one that is fine
       pub goal_fine : (list : ℕ) → refusal f.first os' flats ≡ 0 → mark t (form_at t true f.first).first ≡ k

@@ -11,7 +11,7 @@ use native.Mathlib.Omega.{arith}
 use Rattle.std.specs.Prelude.{Result, Ok, Err, IsErrAnd}
 use Rattle.std.proofs.lemmas.Result.{err_from_is_err_and}
 use Rattle.spec.specs.Expr.{when◌then◌else◌, Atom, atom, form, Exprs, none, only, deepest}
-use Rattle.spec.specs.Nodes.{Node, leaf, branch, bytecode, Nodes, Outcome, becomes, unnumbered_all, elements}
+use Rattle.spec.specs.Nodes.{Node, leaf, branch, bytecode, Nodes, Outcome, fails, becomes, unnumbered_all, elements}
 use Rattle.spec.specs.Runs.{Held, ceased, hold}
 use Rattle.spec.specs.Plan.{Definition, Namespace, Within, Here, Finish, Plan, refuse, leave, associate, define_function, inside, plan}
 use Rattle.spec.specs.Evaluation.{Left, add_namespace, add_definition, defining, complete, Call, perform, eval, eval_all}
@@ -41,7 +41,7 @@ use Rattle.rules.specs.declared.scope.Scope.{Scope}
 use Rattle.rules.specs.declared.here.Here.{Here as Seen}
 use Rattle.rules.specs.declared.plan.After.{After}
 use Rattle.rules.specs.declared.plan.Task.{Task}
-use Rattle.rules.specs.declared.plan.Task.TheVariants.{Own, Again, Ns, Function, Inside, Unfold}
+use Rattle.rules.specs.declared.plan.Task.TheVariants.{Own, Again, Ns, Function, Inside, Failed, Unfold}
 use Rattle.rules.proofs.Latest.{latest_length, view_added, view_associated}
 use Rattle.rules.proofs.Shown.{function_entry, sees_kept, sees_lower, sees_defined, sees_associated}
 use Rattle.evaluator.specs.Listed.{Extends, LeftBy, Taken, GoesInside, Begun, Beginning, left_as}
@@ -49,7 +49,7 @@ use Rattle.evaluator.specs.Performed.{Performing, Decided, Unfolding}
 use Rattle.evaluator.specs.declared.element.Decision.{Decision}
 use Rattle.evaluator.specs.declared.element.Step.{Step}
 use Rattle.evaluator.specs.declared.element.Step.TheVariants.{Leaves}
-use Rattle.evaluator.proofs.Unfolds.{taken_itself, taken_result, bytecode_fails, bytecode_short}
+use Rattle.evaluator.proofs.Unfolds.{taken_itself, taken_result, bytecode_short}
 
 -- A refusal that `?` passes on
 
@@ -135,6 +135,7 @@ module _ (s t w : List ℕ) (floor : ℕ) (v : View) (sc : Scope) (at : ℕ) (e 
   Does (Ok (Inside f after)) q =
       (k : ℕ) × (p : Within) × (g : Finish) × NodesAt s t f.flat f.first f.end (skip k (elements e)) × Finishes s t w floor v sc (elements e) after k p g
       × (q ≡ inside k p g)
+  Does (Ok (Failed mark)) q = ⊥
   Does (Ok (Unfold g)) q = ⊥
 
   does : {task : Result Task Reason} {q : Plan} → Planned s t w floor v sc at e task q → Does task q
@@ -234,12 +235,13 @@ abbrev pub decision_as : State → ℕ → ℕ → Result Task Reason → Result
 decision_as st at row (Ok task) = Ok (record { state = st; task = task; atom = at })
 decision_as st at row (Err n) = Err (refused n row)
 
--- a bytecode form that is refused
-decided_refused : {s t : List ℕ} (bound : ℕ) (w : List ℕ) (v : View) (sc : Scope) (st : State) {place : ℕ} (es : Nodes) (h : Here) {o : Outcome} {task : Result Task Reason} → 0 < st.steps
-    → AnswersBytecode s t place o task → ((g : Form) → task ≡ Ok (Unfold g) → ⊥)
-    → Decided s t bound w v sc st place (bytecode place es o) h (decision_as (stepped st) place place task)
-decided_refused bound w v sc st {place} es h some (fails_so n) other = λ run. bytecode_fails run h place es st.steps st.room some (number n)
-decided_refused bound w v sc st es h some (unfolds g rows e flat at_rows result) other = absurd (other g refl)
+-- no task for a bytecode form
+abbrev pub OtherTask : Result Task Reason → Type 0
+OtherTask task = ((mark : ℕ) → task ≡ Ok (Failed mark) → ⊥) × ((g : Form) → task ≡ Ok (Unfold g) → ⊥)
+
+bytecode_answered : {s t : List ℕ} {place : ℕ} {o : Outcome} {task : Result Task Reason} → AnswersBytecode s t place o task → OtherTask task → ⊥
+bytecode_answered (fails_so w) other = other.0 w refl
+bytecode_answered (unfolds g rows e flat at_rows result) other = other.1 g refl
 
 module _ {s t w args : List ℕ} {bound : ℕ} {v : View} {st : State} {at : Seen} {node : Ranged} {place : ℕ} {h : Here} (some : 0 < st.steps) where
   -- the task of e', which was planned in its place
@@ -267,16 +269,16 @@ module _ {s t w args : List ℕ} {bound : ℕ} {v : View} {st : State} {at : See
       → Planned s t w st.floor v at.scope place e task (plan e h) → Decided s t bound w v at.scope st place e h (decision_as (stepped st) place place task)
   decided_itself {e} b other p = decided b place (st.steps - 1) e (taken_itself bound st e other b.fit some) p
 
-  -- an expression that is not unfolded
+  -- an expression that is no bytecode form
   pub decided_as : {e : Node} {task : Result Task Reason} → Beginning s t bound w args v st at node place e h → AnswersElement s t args v at e task
-      → ((g : Form) → task ≡ Ok (Unfold g) → ⊥) → Decided s t bound w v at.scope st place e h (decision_as (stepped st) place place task)
+      → OtherTask task → Decided s t bound w v at.scope st place e h (decision_as (stepped st) place place task)
   decided_as {e} {task} b answers other = go b.is b answers
     where
       go : {n : Ranged} {x : Node} → IsElement s t place n x → Beginning s t bound w args v st at node place x h → AnswersElement s t args v at x task
           → Decided s t bound w v at.scope st place x h (decision_as (stepped st) place place task)
       go (an_atom a l) b answers = decided_itself b tt (answers w st h b.setting)
       go (a_form f es z u n) b answers = decided_itself b tt (answers w st h b.setting)
-      go (a_bytecode f es o z l p n x) b answers = decided_refused bound w v at.scope st es h some answers other
+      go (a_bytecode f es o z l p n x) b answers = absurd (bytecode_answered answers other)
 
   -- one that is
   module _ {es : Nodes} {rows : List ℕ} {e : Node} {g : Form} (u : Unfolding s t place g rows e)
@@ -305,6 +307,22 @@ unfolded_outcome (fails_so n) is = impossible (cc)
 unfolded_outcome {g = g} {es} (unfolds f rows e flat rows_at result) is =
     let same : f ≡ g = cc in
     record { elements = es; rows = rows; result = e; is = refl; unfolded = rw (sym same) (record { is_flat = flat; rows_at = rows_at; result = result }) }
+
+-- one that is refused
+pub record Failing (place w : ℕ) (e : Node) : Type 0 where
+  pub elements : Nodes
+  pub is : e ≡ bytecode place elements (fails w)
+
+failed_outcome : {s t : List ℕ} {place w : ℕ} {es : Nodes} {o : Outcome} {task : Result Task Reason} → AnswersBytecode s t place o task → task ≡ Ok (Failed w)
+    → Failing place w (bytecode place es o)
+failed_outcome {es = es} (fails_so n) is = record { elements = es; is = cc }
+failed_outcome (unfolds f rows e flat rows_at result) is = impossible (cc)
+
+module _ {s t w args : List ℕ} {v : View} {st : State} {at : Seen} {place : ℕ} {h : Here} (set : Setting s t w args st v at place h) {mark : ℕ} where
+  pub failed_by : {node : Ranged} {e : Node} → IsElement s t place node e → AnswersElement s t args v at e (Ok (Failed mark)) → Failing place mark e
+  failed_by (an_atom a l) answers = absurd (does s t w st.floor v at.scope place (leaf place a) (answers w st h set))
+  failed_by (a_form f es z u n) answers = absurd (does s t w st.floor v at.scope place (branch place es) (answers w st h set))
+  failed_by (a_bytecode f es o z l p n x) answers = failed_outcome answers refl
 
 module _ {s t w args : List ℕ} {v : View} {st : State} {at : Seen} {place : ℕ} {h : Here} {g : Form} (set : Setting s t w args st v at place h) where
   pub unfolded_by : {node : Ranged} {e : Node} → IsElement s t place node e → AnswersElement s t args v at e (Ok (Unfold g)) → Unfoldable s t place g e

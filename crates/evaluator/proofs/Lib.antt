@@ -1,3 +1,4 @@
+pub mod Marks
 pub mod Unfolds
 pub mod Begins
 pub mod Finishes

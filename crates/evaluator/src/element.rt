@@ -5,6 +5,8 @@ ghost use Rattle.spec.specs.Nodes.{Node as Expression, bytecode, Nodes, becomes}
 ghost use Rattle.spec.specs.Runs.{hold};
 ghost use Rattle.spec.specs.Plan.{Here as Known, Finish};
 ghost use Rattle.spec.specs.Evaluation.{Call, one_value, finish as finished, eval};
+ghost use Rattle.laws.specs.Sanity.{RuleNumber};
+ghost use Rattle.atoms.specs.Refusals.{number};
 ghost use Rattle.rows.specs.Rows.{RowsAt, NodesAt};
 ghost use Rattle.workspace.specs.Completed.{with_steps, stepped, with_top, Completed};
 ghost use Rattle.rules.specs.Scope.{view};
@@ -81,8 +83,8 @@ fn perform(
 {
     match task {
         Task::Inside { list, after } => Ok(Step::Inside(state, list, after)),
-        // `decided` has unfolded it.
-        Task::Unfold(_) => unreachable!(),
+        // `decided` has refused it, or unfolded it.
+        Task::Failed { .. } | Task::Unfold(_) => unreachable!(),
         Task::Own => done(values::own(s, table, w, state, atom, row)?, scope),
         Task::Again { from, to } => {
             let top = state.top;
@@ -164,6 +166,14 @@ fn unfolded(
     }
 }
 
+// Why a bytecode form is refused, by its mark.
+fn failed(mark: u32) -> Reason
+    requires { RuleNumber mark }
+    ensures { number result ≡ mark }
+{
+    Reason::try_from(mark).unwrap()
+}
+
 // What is to be done with an expression whose step is taken.
 fn decided(
     s: &[u8],
@@ -184,6 +194,7 @@ fn decided(
     let row = e.row;
     match plan::plan(s, table, associations, args, definitions, here, node, row) {
         Err(reason) => Err(Refusal::new(reason, row)),
+        Ok(Task::Failed { mark }) => Err(Refusal::new(failed(mark), row)),
         Ok(Task::Unfold(flat)) => unfolded(s, table, definitions, here, state, flat, row),
         Ok(task) => Ok(Decision {
             state,

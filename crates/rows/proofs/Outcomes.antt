@@ -9,8 +9,6 @@ use native.Mathlib.Omega.{arith}
 use Rattle.spec.specs.Expr.{Atom}
 use Rattle.spec.specs.Nodes.{plain, is as is_word, Node, leaf, branch, bytecode, Nodes, empty, cons, fails, becomes, row, head_word}
 use Rattle.spec.proofs.Made.{each_row}
-use Rattle.atoms.specs.Refusals.{number}
-use Rattle.atoms.specs.declared.refusal.Reason.{Reason}
 use Rattle.atoms.proofs.Places.{first_left}
 use Rattle.rows.specs.Rows.{RowInside, mark, next, LeafAt, WrittenAt, WrittenAll, form_at, flat_first, flat_of, single, RowsAt, NodeAt, NodesAt, OutcomeAt, ResultAt}
 use Rattle.rows.specs.Forms.{result_at, HeadInside, IsResult, is_leaf, is_branch}
@@ -88,7 +86,7 @@ pub record BecomesAt (s t : List ℕ) (place : ℕ) (f : Form) (rows : List ℕ)
   pub result : ResultAt s t place (flat_of t f) e
 
 module _ (s t : List ℕ) (place : ℕ) (f : Form) where
-  pub fails_at : (w : ℕ) → OutcomeAt s t place f (fails w) → (mark t f.first ≡ w) × (2 < w) × ((r : Reason) × (number r ≡ w))
+  pub fails_at : (w : ℕ) → OutcomeAt s t place f (fails w) → (mark t f.first ≡ w) × (2 < w)
   unfolding NodeAt
   fails_at w h = h
 

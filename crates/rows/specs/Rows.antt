@@ -6,8 +6,6 @@ use Rattle.spec.specs.Expr.{when◌then◌else◌, Atom, ref, if_ref}
 use Rattle.spec.specs.Reading.{atom_kind, row_width}
 use Rattle.spec.specs.Nodes.{plain, is, Node, leaf, branch, bytecode, Nodes, empty, cons, Outcome, fails, becomes, row, head_word}
 use Rattle.laws.specs.Grammar.{SpellsAtom}
-use Rattle.atoms.specs.Refusals.{number}
-use Rattle.atoms.specs.declared.refusal.Reason.{Reason}
 use Rattle.rows.specs.declared.forms.Form.{Form}
 use Rattle.rows.specs.declared.forms.Operands.{Operands}
 use Rattle.rows.specs.declared.forms.Operands.TheVariants.{Empty, Zero, One, Two, More}
@@ -144,7 +142,7 @@ unfoldable mutual
 
   -- what a bytecode form with the place of a row is transformed to
   pub OutcomeAt : List ℕ → List ℕ → ℕ → Form → Outcome → Type 0
-  OutcomeAt s t place f (fails w) = (mark t f.first ≡ w) × (2 < w) × ((r : Reason) × (number r ≡ w))
+  OutcomeAt s t place f (fails w) = (mark t f.first ≡ w) × (2 < w)
   OutcomeAt s t place f (becomes rows e) =
       (0 < mark t f.first) × (mark t f.first ≤ 2) × (mark t f.first ≡ 2 → RowInside t (f.first + 1))
       × RowsAt t (flat_first t f) f.end rows × ResultAt s t place (flat_of t f) e

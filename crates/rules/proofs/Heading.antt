@@ -7,15 +7,13 @@ use mathlib.Core.Bool.{Bool, true, false}
 use native.Mathlib.Omega.{arith}
 use lib.ListN.{length, drop}
 use borrow.Author.Tests.{eq-eqb, ne_eqb}
-use Rattle.std.specs.Prelude.{Result, Ok, Err, IsOk, Option, Some}
+use Rattle.std.specs.Prelude.{Result, Ok, Option, Some}
 use Rattle.spec.specs.Expr.{when◌then◌else◌, nil, array, int, ref}
 use Rattle.spec.specs.Nodes.{Word, ns, define, concat, subst, arg, rest, plain, is, Node, leaf, branch, bytecode, Nodes, empty, cons, Outcome, fails, becomes, elements, tail, head_word, headed_by}
 use Rattle.spec.specs.Reading.{row_width}
 use Rattle.spec.specs.Plan.{Scope as Definitions, Found as Sought, element, inner, as_form, as_call, inside, data_form, plan_head, plan_other, plan_form, plan}
 use Rattle.laws.specs.Holding.{skip}
 use Rattle.laws.proofs.Basics.{impossible}
-use Rattle.atoms.specs.Refusals.{number, Numbers}
-use Rattle.atoms.specs.declared.refusal.UnknownReason.{UnknownReason}
 use Rattle.atoms.specs.declared.refusal.Reason.{Reason}
 use Rattle.rows.specs.Rows.{mark, next, behind, led_by_reference, flat_of, NodeAt, NodesAt, OutcomeAt, ResultAt}
 use Rattle.rows.specs.Forms.{starting_at, flattened, is_named, result_at, IsElement, IsResult, an_atom, a_form, a_bytecode}
@@ -36,7 +34,7 @@ use Rattle.rules.specs.declared.plan.After.{After}
 use Rattle.rules.specs.declared.plan.After.TheVariants.{Make}
 use Rattle.rules.specs.declared.here.Here.{Here as Code}
 use Rattle.rules.specs.declared.plan.Task.{Task}
-use Rattle.rules.specs.declared.plan.Task.TheVariants.{Unfold, Inside}
+use Rattle.rules.specs.declared.plan.Task.TheVariants.{Failed, Unfold, Inside}
 use Rattle.rules.proofs.Shown.{Answers, no_answer, value_answer, function_answer}
 use Rattle.rules.proofs.Expecting.{plain_other, bytecode_plain}
 
@@ -159,23 +157,11 @@ pub bytecode_answers : {s t : List ℕ} (args : List ℕ) (v : View) (here : Cod
     → ((o : Outcome) → OutcomeAt s t r f o → AnswersBytecode s t r o task) → AnswersElement s t args v here e task
 bytecode_answers args v here b k = rw b.is (k b.outcome b.at)
 
--- a reason that is turned back from its number
-pub turned_back : (n : ℕ) (r : Result Reason UnknownReason) → Numbers n r → (reason : Reason) × (number reason ≡ n) → IsOk r
-turned_back n (Ok reason) told some = refl
-turned_back n (Err e) told some = absurd (told.1 some.0 some.1)
-
-pub turned_number : (n : ℕ) {r : Result Reason UnknownReason} {reason : Reason} → Numbers n r → r ≡ Ok reason → number reason ≡ n
-turned_number n told is = rw is at told
-
 module _ (s t : List ℕ) (place : ℕ) (f : Form) where
-  -- a refusal's number is a reason's
-  pub marked_reason : (o : Outcome) → OutcomeAt s t place f o → 2 < mark t f.first → (reason : Reason) × (number reason ≡ mark t f.first)
-  marked_reason (fails w) h l = let told = fails_at s t place f w h in (told.2.0, told.2.1 ∙ sym told.0)
-  marked_reason (becomes rows e) h l = absurd (omega (arith, (becomes_at s t place f rows e h).fine))
-
-  pub marked_fails : (o : Outcome) (reason : Reason) → OutcomeAt s t place f o → 2 < mark t f.first → number reason ≡ mark t f.first → AnswersBytecode s t place o (Err reason)
-  marked_fails (fails w) reason h l is = rw (sym (is ∙ (fails_at s t place f w h).0)) (fails_so reason)
-  marked_fails (becomes rows e) reason h l is = absurd (omega (arith, (becomes_at s t place f rows e h).fine))
+  -- a refusal is told by the mark
+  pub marked_fails : (o : Outcome) → OutcomeAt s t place f o → 2 < mark t f.first → AnswersBytecode s t place o (Ok (Failed (mark t f.first)))
+  marked_fails (fails w) h l = rw (fails_at s t place f w h).0 (fails_so w)
+  marked_fails (becomes rows e) h l = absurd (omega (arith, (becomes_at s t place f rows e h).fine))
 
   -- an arity list follows the head
   pub marked_list : (o : Outcome) → OutcomeAt s t place f o → mark t f.first ≡ 2 → row_width * (f.first + 1) + row_width ≤ length t

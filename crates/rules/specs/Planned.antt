@@ -24,7 +24,7 @@ use Rattle.rules.specs.declared.plan.Making.TheVariants.{Form as Wrap, Define, C
 use Rattle.rules.specs.declared.plan.After.{After}
 use Rattle.rules.specs.declared.plan.After.TheVariants.{Make, Function as Named, Code}
 use Rattle.rules.specs.declared.plan.Task.{Task}
-use Rattle.rules.specs.declared.plan.Task.TheVariants.{Own, Again, Ns, Function, Unfold, Inside}
+use Rattle.rules.specs.declared.plan.Task.TheVariants.{Own, Again, Ns, Function, Failed, Unfold, Inside}
 
 -- what list the values are of that are made into others
 abbrev pub within_made : Making → Among
@@ -104,7 +104,7 @@ AnswersForm s t args v at flat f rule task =
 
 -- the answer for a bytecode form with a place, by what it is transformed to: a refusal, or its flat list
 pub data AnswersBytecode (s t : List ℕ) (place : ℕ) : Outcome → Result Task Reason → Type 0 where
-  fails_so : (w : Reason) → AnswersBytecode s t place (fails (number w)) (Err w)
+  fails_so : (w : ℕ) → AnswersBytecode s t place (fails w) (Ok (Failed w))
   unfolds : (g : Form) (rows : List ℕ) (e : Node) → g.flat ≡ true → RowsAt t g.first g.end rows → ResultAt s t place g e
       → AnswersBytecode s t place (becomes rows e) (Ok (Unfold g))
 

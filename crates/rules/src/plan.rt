@@ -72,6 +72,9 @@ pub enum Task {
     Ns { form: Form, marker: u32, id: u32 },
     // A function is defined, whose code is the form at a row.
     Function { key: u32, code: usize },
+    // A bytecode form is refused.
+    // Kept: no `Reason`. A mark is told as it stands in the table, and this crate asks no more of it.
+    Failed { mark: u32 },
     // A bytecode form's flat list is unfolded.
     Unfold(Form),
     // The elements of a range are evaluated first.
@@ -340,7 +343,7 @@ fn bytecode(table: &[u32], form: Form, mark: u32) -> Result<Task, Reason>
     ensures { (s : List ℕ) (place : ℕ) (o : Outcome) → OutcomeAt s table.now place form o → AnswersBytecode s table.now place o result }
 {
     if 2 < mark {
-        return Err(Reason::try_from(mark).unwrap());
+        return Ok(Task::Failed { mark });
     }
     let behind = form.first + 1;
     let first = if mark == 2 {

@@ -1,6 +1,6 @@
 -- `reader::find` meets its contract: each expression that is passed leaves one fewer to pass (`proofs/Finding.antt`). Assumes nothing.
 use Rattle.std.proofs.Common.{◌≡◌, ◌+◌, ◌-◌, refl, arith}
-use Rattle.reader.proofs.Finding.{Finding, Passed, finding_start, finding_right, finding_end, finding_turn}
+use Rattle.reader.proofs.Finding.{Finding, finding_start, finding_right, finding_end, finding_turn}
 use Rattle.reader.proofs.find.Goals as goal
 use Rattle.reader.proofs.find.Goals.{In-loop, In_ok-part}
 

@@ -1,18 +1,12 @@
 -- `rules::plan::bytecode` meets its contract. Assumes nothing.
 use Rattle.std.proofs.Common.{sym, ◌∙◌, arith}
-use Rattle.rules.proofs.Heading.{marked_reason, turned_back, turned_number, marked_fails, marked_list, unfolds_listed, unfolds_headed}
+use Rattle.rules.proofs.Heading.{marked_fails, marked_list, unfolds_listed, unfolds_headed}
 use Rattle.rules.proofs.plan.bytecode.Goals as goal
 use Rattle.rules.proofs.plan.bytecode.Goals.{then-mark-eq2, else-mark-eq2}
 
-pub unwrap-requires : goal.unwrap-requires
-unwrap-requires c =
-    let pre = c.requires in
-    let reason = marked_reason pre.2.0 _ pre.2.1 c.args.form pre.2.2 pre.2.3 (omega (arith, pre.0, c.if-mark-gt2.true)) in
-    turned_back _ _ c.try_from.ensures (reason.0, reason.1 ∙ sym pre.0)
-
 pub returns-then-mark-gt2 : goal.returns-then-mark-gt2
 returns-then-mark-gt2 c s place o at =
-    marked_fails s _ place c.args.form o _ at (omega (arith, c.requires.0, c.if-mark-gt2.true)) (turned_number _ c.try_from.ensures c.unwrap.ensures ∙ c.requires.0)
+    rw c.requires.0 (marked_fails s _ place c.args.form o at (omega (arith, c.requires.0, c.if-mark-gt2.true)))
 
 pub next-first-requires : goal.next-first-requires
 next-first-requires c = let pre = c.requires in marked_list _ _ _ _ pre.2.2 pre.2.3 (sym pre.0 ∙ c.if-mark-eq2.true)
