@@ -27,6 +27,7 @@ use Rattle.laws.proofs.Steps.{none_left, split_size, split_rest}
 use Rattle.atoms.specs.Tokens.{measured, leading_threes, plain, around, shown_atom}
 use Rattle.atoms.specs.declared.Kind.TheVariants.{Array, Reference}
 use Rattle.atoms.specs.declared.Length.{Length}
+use Rattle.atoms.specs.declared.Token.{Token}
 use Rattle.atoms.specs.declared.Token.TheVariants.{Atom as Whole, Unfinished}
 
 -- what the code was told of a length
@@ -370,6 +371,21 @@ told_refused end (failed w t) u = tt
 
 pub around_told : (end k : ℕ) (x : Taken ℕ) (r : Told) → NoLength r → measured end x ≡ r → measured end (around k x) ≡ r
 around_told end k x r u m = ap (measured end) (around_refused k x (told_refused end x (rw (← m) at u))) ∙ m
+
+abbrev pub refusal_token : (r : Told) → NoLength r → Result Token (ℕ × ℕ)
+refusal_token (Ok (Some l)) u = absurd u
+refusal_token (Ok None) u = Ok Unfinished
+refusal_token (Err r) u = Err r
+
+pub array_told : (q end : ℕ) (x : Taken ℕ) (r : Told) (u : NoLength r) → measured end x ≡ r
+    → shown_atom q end (and_then (and_then x take_bytes) as_array) ≡ refusal_token r u
+array_told q end x (Ok (Some l)) u m = absurd u
+array_told q end (taken n t) (Ok None) u m = impossible (cc)
+array_told q end cut_off (Ok None) u m = refl
+array_told q end (failed v t) (Ok None) u m = impossible (cc)
+array_told q end (taken n t) (Err r) u m = impossible (cc)
+array_told q end cut_off (Err r) u m = impossible (cc)
+array_told q end (failed v t) (Err r) u m = let same : ◌≡◌ {A = ℕ × ℕ} (v, end - length t) r = cc in rw same
 
 -- Markers, from place to place
 

@@ -58,6 +58,9 @@ struct Length {
     end: usize,
 }
 
+// Kept: that a stream is not too long stands in each contract. A struct that holds it would be made of what is lent, at each call.
+// Kept: `from` and `to`, no range: what is handed a range uses it up.
+
 // The big-endian number of the bytes from `from` up to `to`, held at `TOO_MANY`.
 #[tactic(auto, using(crate::proofs::Places::naturals))]
 pub fn number(s: &[u8], from: usize, to: usize) -> usize
@@ -268,6 +271,7 @@ pub fn any_token(s: &[u8], at: usize) -> Result<Token, Refusal>
 
 // The token at a place of a stream. The common ones are told here, in so few instructions that they are compiled into the loops over tokens; the
 // others by `any_token`.
+// Kept: two functions that tell the same. With a call for each token, Read takes about twice the instructions.
 #[tactic(auto, using(crate::proofs::First::first_bytes))]
 #[inline(always)]
 pub fn token_at(s: &[u8], at: usize) -> Result<Token, Refusal>

@@ -27,6 +27,8 @@ pub const WORKSPACE_LIMIT: usize = evaluator::WORKSPACE_LIMIT;
 // The numbers that a backlog gives for a stream: number, place, length and steps.
 pub const ANSWER_WIDTH: usize = 4;
 
+// Kept: `as`, where there is no `From`: the ends are within the buffer, and the numbers of an answer within 64 bits.
+
 // Which of Item's two buffers.
 #[derive(Clone, Copy, Debug, PartialEq, Eq)]
 pub enum Buffer {
@@ -92,6 +94,7 @@ fn is_23(buffer: &[u8], ends: &[u64], answers: &[u64]) -> bool
 }
 
 // What a backlog tells of a stream: number, place, length and steps.
+// Kept: zeros where there is nothing to tell, as the list of answers has them, which C lends.
 fn told(answer: Result<Evaluation, Refusal>) -> [u64; ANSWER_WIDTH]
     ensures { result ≡ told_numbers answer }
 {
@@ -165,6 +168,7 @@ pub fn item<'a>(stream: &'a [u8], res: &'a [u8], which: Buffer, k: usize) -> &'a
 }
 
 // Where in its buffer the part is that `item` gives.
+// Kept: a match of its own beside `item`'s, since the edits `item_other_buffer` and `item_part_other_buffer` exchange the buffers in each.
 pub fn item_part(stream: &[u8], res: &[u8], which: Buffer, k: usize) -> Option<Part>
     ensures { of_buffer (asked which) result ≡ Item stream.now res.now (asked which) k }
 {

@@ -12,6 +12,7 @@ ghost use Rattle.bulk_bench.specs.Given.{given, result as given_result, size, wh
 use bulk::{Buffer, Evaluation, Refusal};
 
 // What Read, Write or Backlog gives.
+// Kept: 0 for a refusal, since C is given a number.
 fn given(answer: Result<usize, Refusal>) -> usize
     ensures { result ≡ given answer }
 {
@@ -68,6 +69,7 @@ pub extern "C" fn bulk_bench_backlog(
 }
 
 // Which of Item's two buffers.
+// Kept: no `From<bool>`. C gives a bool, which in `bulk` would say nothing.
 fn which(of_result: bool) -> Buffer
     ensures { asked result ≡ which of_result }
 {

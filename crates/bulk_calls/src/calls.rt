@@ -4,6 +4,7 @@ use crate::requests::{
     BacklogRequest, EvaluateRequest, ItemRequest, ReadRequest, Request, WriteRequest,
 };
 use crate::words::{ENDS_SIZE, Ends, KEPT_SIZE, Kept};
+use bulk::Reason;
 use text::{Text, within};
 
 // One byte more than counts of a workspace, so that one in which not all counts can be asked for.
@@ -11,6 +12,8 @@ const WORKSPACE_SIZE: usize = bulk::WORKSPACE_LIMIT + 1;
 
 // A place for each number that the ends that are kept can ask for: more would change no answer.
 const ANSWERS_SIZE: usize = bulk::ANSWER_WIDTH * ENDS_SIZE;
+
+// Kept: `as`, where there is no `From`.
 
 // What the calls are lent.
 #[derive(Drop)]
@@ -38,26 +41,26 @@ impl Lent {
     }
 }
 
+// As many of what can be lent as were asked for; all if there are fewer.
+fn first<T>(items: &mut [T], count: u64) -> &mut [T] {
+    let size = within(count, items.len());
+    &mut items[..size]
+}
+
 fn read<P: Print>(out: &mut Text<'_, P>, asked: ReadRequest, lent: &mut Lent) {
-    let table = &mut lent.table[..];
-    let length = within(asked.stream, lent.stream.len());
-    let size = within(asked.table, table.len());
-    match bulk::read(&lent.stream[..length], &mut table[..size]) {
+    let table = first(&mut lent.table, asked.table);
+    match bulk::read(first(&mut lent.stream, asked.stream), table) {
         Err(refusal) => answers::refused(out, refusal),
         Ok(rows) => answers::rows(out, table, rows),
     }
 }
 
 fn write<P: Print>(out: &mut Text<'_, P>, asked: WriteRequest, lent: &mut Lent) {
-    let table = &mut lent.table[..];
-    let output = &mut lent.output[..];
-    let length = within(asked.stream, lent.stream.len());
-    let size = within(asked.table, table.len());
-    let room = within(asked.output, output.len());
+    let output = first(&mut lent.output, asked.output);
     match bulk::write(
-        &lent.stream[..length],
-        &mut table[..size],
-        &mut output[..room],
+        first(&mut lent.stream, asked.stream),
+        first(&mut lent.table, asked.table),
+        output,
     ) {
         Err(refusal) => answers::refused(out, refusal),
         Ok(written) => answers::written(out, &output[..written]),
@@ -65,19 +68,14 @@ fn write<P: Print>(out: &mut Text<'_, P>, asked: WriteRequest, lent: &mut Lent) 
 }
 
 fn evaluate<P: Print>(out: &mut Text<'_, P>, asked: EvaluateRequest, lent: &mut Lent) {
-    let table = &mut lent.table[..];
-    let workspace = &mut lent.workspace[..];
-    let output = &mut lent.output[..];
-    let length = within(asked.stream, lent.stream.len());
-    let size = within(asked.table, table.len());
-    let work = within(asked.workspace, workspace.len());
-    let room = within(asked.output, output.len());
+    let bounds = asked.bounds;
+    let output = first(&mut lent.output, bounds.output);
     match bulk::evaluate(
-        &lent.stream[..length],
-        &mut table[..size],
-        &mut workspace[..work],
-        &mut output[..room],
-        asked.steps,
+        first(&mut lent.stream, asked.stream),
+        first(&mut lent.table, bounds.table),
+        first(&mut lent.workspace, bounds.workspace),
+        output,
+        bounds.steps,
     ) {
         Err(refusal) => answers::refused(out, refusal),
         Ok(evaluation) => {
@@ -88,46 +86,41 @@ fn evaluate<P: Print>(out: &mut Text<'_, P>, asked: EvaluateRequest, lent: &mut 
 
 // Whether a stream was refused for want of output.
 fn lacks_output(told: &[u64]) -> bool {
+    let number = u64::from(u32::from(Reason::ShortOutput));
     told.chunks(bulk::ANSWER_WIDTH)
-        .any(|numbers| numbers.first() == Some(&18))
+        .any(|numbers| numbers.first() == Some(&number))
 }
 
 fn backlog<P: Print>(out: &mut Text<'_, P>, asked: BacklogRequest, lent: &mut Lent) {
-    let table = &mut lent.table[..];
-    let workspace = &mut lent.workspace[..];
-    let output = &mut lent.output[..];
-    let answers = &mut lent.answers[..];
-    let length = within(asked.buffer, lent.stream.len());
-    let count = within(asked.ends, lent.ends.len());
-    let size = within(asked.table, table.len());
-    let work = within(asked.workspace, workspace.len());
-    let room = within(asked.output, output.len());
-    let places = within(asked.answers, answers.len());
-    let answer = bulk::backlog(
-        &lent.stream[..length],
-        &lent.ends[..count],
-        &mut table[..size],
-        &mut workspace[..work],
-        &mut output[..room],
-        asked.steps,
-        &mut answers[..places],
-    );
-    let told = &answers[..bulk::ANSWER_WIDTH * count];
-    match answer {
+    let bounds = asked.bounds;
+    let ends = first(&mut lent.ends, asked.ends);
+    let output = first(&mut lent.output, bounds.output);
+    let answers = first(&mut lent.answers, asked.answers);
+    match bulk::backlog(
+        first(&mut lent.stream, asked.buffer),
+        ends,
+        first(&mut lent.table, bounds.table),
+        first(&mut lent.workspace, bounds.workspace),
+        output,
+        bounds.steps,
+        answers,
+    ) {
         Err(refusal) => answers::refused(out, refusal),
-        // If a stream lacked output, and more was asked for than can be lent, the call that was asked for might have told otherwise.
-        Ok(_) if (output.len() as u64) < asked.output && lacks_output(told) => answers::too_long(
-            out,
-        ),
-        Ok(written) => answers::backlog(out, told, &output[..written]),
+        Ok(written) => {
+            let told = &answers[..bulk::ANSWER_WIDTH * ends.len()];
+            // If a stream lacked output, and more was asked for than can be lent, the call that was asked for might have told otherwise.
+            if (output.len() as u64) < bounds.output && lacks_output(told) {
+                answers::too_long(out);
+            } else {
+                answers::backlog(out, told, &output[..written]);
+            }
+        }
     }
 }
 
-fn item<P: Print>(out: &mut Text<'_, P>, asked: ItemRequest, lent: &Lent) {
-    let length = within(asked.stream, lent.stream.len());
-    let result_length = within(asked.result, lent.output.len());
-    let stream = &lent.stream[..length];
-    let result = &lent.output[..result_length];
+fn item<P: Print>(out: &mut Text<'_, P>, asked: ItemRequest, lent: &mut Lent) {
+    let stream = first(&mut lent.stream, asked.stream);
+    let result = first(&mut lent.output, asked.result);
     let k = asked.k as usize;
     let part = bulk::item(stream, result, asked.which, k);
     match bulk::item_part(stream, result, asked.which, k) {

@@ -15,6 +15,7 @@ pub struct Source<R: Read> {
     next: usize,
     end: usize,
     // The byte at hand; at the input's end a newline.
+    // Kept: a newline for no byte, no `Option`: a word ends at the one as at the other.
     pub byte: u8,
     // How many bytes can still be taken, the one at hand counted: 0 at the input's end. A proved loop has to end, and nothing says that
     // the input does, so this starts at a number that no run uses up.

@@ -21,9 +21,9 @@ pub struct WriteRequest {
     pub output: u64,
 }
 
+// What every evaluation is lent.
 #[derive(Clone, Copy)]
-pub struct EvaluateRequest {
-    pub stream: u64,
+pub struct Bounds {
     pub table: u64,
     pub workspace: u64,
     pub output: u64,
@@ -31,13 +31,16 @@ pub struct EvaluateRequest {
 }
 
 #[derive(Clone, Copy)]
+pub struct EvaluateRequest {
+    pub stream: u64,
+    pub bounds: Bounds,
+}
+
+#[derive(Clone, Copy)]
 pub struct BacklogRequest {
     pub buffer: u64,
     pub ends: u64,
-    pub table: u64,
-    pub workspace: u64,
-    pub output: u64,
-    pub steps: u64,
+    pub bounds: Bounds,
     pub answers: u64,
 }
 
@@ -61,19 +64,10 @@ pub enum Request {
     Bad,
 }
 
-// The words for what every evaluation is lent.
-#[derive(Clone, Copy)]
-struct Lent {
-    table: u64,
-    workspace: u64,
-    output: u64,
-    steps: u64,
-}
-
-fn lending(source: &mut Source<impl Read>) -> Option<Lent>
+fn bounds(source: &mut Source<impl Read>) -> Option<Bounds>
     ensures { source.new.left ≤ source.old.left }
 {
-    Some(Lent {
+    Some(Bounds {
         table: words::number(source)?,
         workspace: words::number(source)?,
         output: words::number(source)?,
@@ -103,14 +97,9 @@ fn write(source: &mut Source<impl Read>, stream: &mut Kept) -> Option<Request>
 fn evaluate(source: &mut Source<impl Read>, stream: &mut Kept) -> Option<Request>
     ensures { source.new.left ≤ source.old.left }
 {
-    let bytes = words::hex(source, stream)?;
-    let lent = lending(source)?;
     Some(Request::Evaluate(EvaluateRequest {
-        stream: bytes,
-        table: lent.table,
-        workspace: lent.workspace,
-        output: lent.output,
-        steps: lent.steps,
+        stream: words::hex(source, stream)?,
+        bounds: bounds(source)?,
     }))
 }
 
@@ -119,7 +108,7 @@ fn backlog(source: &mut Source<impl Read>, stream: &mut Kept, ends: &mut Ends) -
 {
     let bytes = words::hex(source, stream)?;
     let numbers = words::ends(source, ends)?;
-    let lent = lending(source)?;
+    let bounds = bounds(source)?;
     let answers = words::number(source)?;
     // All of it has to be kept.
     if (KEPT_SIZE as u64) < bytes || (ENDS_SIZE as u64) < numbers {
@@ -128,10 +117,7 @@ fn backlog(source: &mut Source<impl Read>, stream: &mut Kept, ends: &mut Ends) -
     Some(Request::Backlog(BacklogRequest {
         buffer: bytes,
         ends: numbers,
-        table: lent.table,
-        workspace: lent.workspace,
-        output: lent.output,
-        steps: lent.steps,
+        bounds,
         answers,
     }))
 }

@@ -6,6 +6,9 @@ use crate::input::Source;
 use bulk::Buffer;
 use std::io::Read;
 
+// Kept: that `left` does not rise stands in each contract, since an invariant speaks of one state, and this of two.
+// Kept: what is kept has a number beside it, since memory is fixed; `as`, where there is no `From`.
+
 // How many bytes of a word are kept: as many as three of the longest streams have. A stream of which others were dropped is still too long.
 pub const KEPT_SIZE: usize = 3 * bulk::STREAM_LIMIT;
 

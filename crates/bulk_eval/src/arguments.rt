@@ -52,6 +52,7 @@ pub fn read(rt: &impl Env) -> Option<Bounds> {
     }
     Some(Bounds {
         steps: argument(rt, 1, STEPS)?,
+        // Kept: `as`, for which there is no `From`.
         workspace: argument(rt, 2, bulk::WORKSPACE_LIMIT as u64)?,
     })
 }

@@ -37,6 +37,7 @@ fn name_all(s: &[u8], table: &mut [u32], list: usize, number: usize, end: usize)
     ensures { Changed table.old table.new list end × ((n : ℕ) (es : Nodes) (os : List Operator) → LeafAt s.now table.old number (int n)
         → Naming s.now table.old list (number + 1) end os es → NamedBy s.now table.new list end (series n es os) result) }
 {
+    // Kept: `as`, here and in `arity_by`, for which there is no `From`.
     let arity = table::small(s, table, number) as u32;
     for row in number + 1..end {
         if !table::has_kind(table, row, Kind::Reference) {

@@ -11,6 +11,8 @@ use crate::{numbers, tree};
 use atoms::Kind;
 use rows::table;
 
+// Kept: 63 for no arity, no `Option`: it is put into the table as a mark.
+
 // The row whose tree has the references of all lists.
 pub const ALL: usize = 0;
 

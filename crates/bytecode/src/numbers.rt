@@ -6,6 +6,8 @@ ghost use Rattle.bytecode.specs.Numbers.{child as child-of, Changed};
 
 use reader::ROW_WIDTH;
 
+// Kept: 0 for no child, and no `Option`, as the table has it; `as`, where there is no `From`.
+
 // A row's first number is its kind, and MARK times its mark, and LINK times its link.
 const MARK: u32 = 256;
 

@@ -1,5 +1,6 @@
 // Trees of references by the bits of their keys, the lowest first, so that a search has at most one turn more than a key has bits. The second
 // child of a row is the first reference of its tree; a reference's children lead to those with a bit of 0 and of 1.
+// Kept: rows, no boxes and no map: there is no heap, and the rows have room for it in the table.
 ghost use Rattle.std.specs.Prelude.{ℕ};
 ghost use Rattle.bytecode.specs.Named.{Tree, Sought};
 
@@ -30,6 +31,7 @@ pub fn seek(s: &[u8], table: &[u32], tree: usize, key: u32) -> Result<usize, Vac
         }
         at = Vacancy {
             row,
+            // Kept: `as`, for which there is no `From`.
             bit: (bits % 2) as usize,
         };
         bits /= 2;

@@ -48,6 +48,7 @@ pub struct Values {
 }
 
 // After an expression's step: it is done, or a list is to be evaluated first, and what becomes of its values.
+// Kept: no closure, as `Task` of rules.
 #[derive(Clone, Copy)]
 pub enum Step {
     Leaves(Left),
@@ -61,6 +62,14 @@ fn done(state: State, scope: Scope) -> Result<Step, Refusal>
     Ok(Step::Leaves(Left { state, scope }))
 }
 
+// A task, with the state before it and the row of the expression if it is an atom.
+#[derive(Clone, Copy)]
+struct Decision {
+    state: State,
+    task: Task,
+    atom: usize,
+}
+
 // Carries out a task, where the step is taken.
 fn perform(
     s: &[u8],
@@ -69,18 +78,17 @@ fn perform(
     associations: &mut [u64; 64],
     definitions: &mut [u64; 256],
     scope: Scope,
-    state: State,
-    task: Task,
-    atom: usize,
+    decision: Decision,
     row: usize,
 ) -> Result<Step, Refusal>
-    requires { SomePerforming s.now table.now w.old (view associations.old definitions.old scope) scope state task atom row }
-    ensures { ((bound : ℕ) (st : State) (left : ℕ) (run : Call) (e : Expression) (h : Known) → state ≡ with_steps st left
-        → Performs s.now table.now bound w.old (view associations.old definitions.old scope) scope st left task atom row e h
+    requires { SomePerforming s.now table.now w.old (view associations.old definitions.old scope) scope decision.state decision.task decision.atom row }
+    ensures { ((bound : ℕ) (st : State) (left : ℕ) (run : Call) (e : Expression) (h : Known) → decision.state ≡ with_steps st left
+        → Performs s.now table.now bound w.old (view associations.old definitions.old scope) scope st left decision.task decision.atom row e h
         → Begun s.now table.now bound w.old w.new (view associations.old definitions.old scope)
         (view associations.new definitions.new) scope st e h (hold st.steps st.room (eval run e h)) result)
         × (view associations.new definitions.new scope ≡ view associations.old definitions.old scope) }
 {
+    let Decision { state, task, atom } = decision;
     match task {
         Task::Inside { list, after } => Ok(Step::Inside(state, list, after)),
         // `decided` has refused it, or unfolded it.
@@ -94,6 +102,7 @@ fn perform(
             let more = scope.associate(associations, marker, id);
             done(values::itself(s, table, w, state, form, row)?, more)
         }
+        // Kept: `as`, since a row is below 65,536; there is no `From`.
         Task::Function { key, code } => done(state, scope.add(definitions, key, code as u32)),
     }
 }
@@ -123,14 +132,6 @@ fn row_of(table: &[u32], first: usize, steps: u64) -> usize
         row = table::next(table, row);
     }
     row
-}
-
-// A task, with the state before it and the row of the expression if it is an atom.
-#[derive(Clone, Copy)]
-struct Decision {
-    state: State,
-    task: Task,
-    atom: usize,
 }
 
 // What is to be done with the result of a bytecode form, after a step for each expression of its flat list.
@@ -225,11 +226,7 @@ pub fn begin(
 {
     let row = e.row;
     let stepped = state.step(row)?;
-    let Decision {
-        state: left,
-        task,
-        atom,
-    } = decided(s, table, associations, args, definitions, here, stepped, e)?;
+    let decision = decided(s, table, associations, args, definitions, here, stepped, e)?;
     perform(
         s,
         table,
@@ -237,9 +234,7 @@ pub fn begin(
         associations,
         definitions,
         here.scope,
-        left,
-        task,
-        atom,
+        decision,
         row,
     )
 }

@@ -129,6 +129,7 @@ fn evaluate_all(
 }
 
 // Evaluates a stream whose rows are in the table; they are so many. The result then stands at the workspace's start.
+// Kept: `rows` beside the table, which C lends longer than it is filled.
 pub fn evaluate(
     s: &[u8],
     table: &mut [u32],

@@ -138,6 +138,7 @@ fn finish(
 }
 
 // Calls the function whose code is the form at a row.
+// Kept: this and `code` are two, so that `call` has two callers and stays out of the frame of a list.
 #[cycle(run)]
 fn function(
     s: &[u8],

@@ -16,6 +16,8 @@ use atoms::{Kind, Reason, Refusal, Token};
 // The bytes of the longest stream.
 pub const STREAM_LIMIT: usize = atoms::STREAM_LIMIT;
 
+// Kept: `as`, where there is no `From`: each place is below 65,537, and what `try_from` gives would have to be unwrapped.
+
 // The forms that may be open at once.
 const FORM_LIMIT: usize = 64;
 

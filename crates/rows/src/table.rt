@@ -8,6 +8,7 @@ ghost use Rattle.rows.specs.Rows.{RowInside, cell, kind as kind_in, start, mark,
 use atoms::Kind;
 use reader::ROW_WIDTH;
 
+// Kept: `as`, where there is no `From`: the bounds are proved, and what `try_from` gives would have to be unwrapped.
 // Kept: table and row are no struct. It would be made anew for each number that is read, and would have to show the same of the row.
 
 // Number j of a row.

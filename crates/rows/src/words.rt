@@ -16,6 +16,7 @@ pub enum Word {
 }
 
 // Each name as the key of its reference: the marker times 256, plus the name's byte.
+// Kept: numbers, no enum. A key is any 32 bits, most are no core name's, and a key is compared with one of these.
 #[derive(Clone, Copy)]
 pub struct Core;
 

@@ -1,5 +1,5 @@
 // Definitions and associations as numbers, for the lent arrays. Document 01: "definitions that are visible", "associates ref's marker with id".
-// Kept: each in one number, since memory is fixed: each code in progress has its own array of definitions.
+// Kept: each in one number, since memory is fixed: each code in progress has its own array of definitions. `as`, where there is no `From`.
 ghost use Rattle.std.specs.Prelude.{◌≡◌, ◌≤◌, ◌<◌};
 ghost use Rattle.rules.specs.Entries.{definition, key_in, content_in, id, association, marker_in, place_in, size_in};
 
@@ -10,6 +10,7 @@ pub const FUNCTION: u32 = 0x1000000;
 pub const STREAM: u32 = 0;
 
 // A definition: its key, and the part of the workspace where its value stands or the row of its code.
+// Kept: one function, and `association` another. They differ in a power of two and in what they are of, and one for both would have to be told these.
 pub fn definition(key: u32, content: u32) -> u64
     ensures { result ≡ definition key content }
 {

@@ -14,6 +14,7 @@ pub enum Within {
 }
 
 // How many codes are in progress, how many arguments the nearest has, and where in the workspace they end.
+// Kept: `count` beside the arguments, which lie on each call's stack, since memory is fixed.
 #[derive(Clone, Copy, Debug, PartialEq, Eq)]
 pub struct Frame {
     pub depth: usize,

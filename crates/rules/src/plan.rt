@@ -23,6 +23,8 @@ use rows::words::{Core, Word};
 use rows::{arrays, forms, table};
 use workspace::packed;
 
+// Kept: `Making`, `After` and `Task` are no closures. No two would have one type, so that a box would be handed out, and there is no heap.
+
 // What the values of a list are made into.
 #[derive(Clone, Copy, Debug, PartialEq, Eq)]
 pub enum Making {

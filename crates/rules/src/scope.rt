@@ -72,6 +72,7 @@ impl Scope {
                 });
             }
             if k == key + entries::FUNCTION {
+                // Kept: `as`, for which there is no `From`.
                 return Some(Content::Function {
                     code: entries::content_in(entry) as usize,
                     visible: i,

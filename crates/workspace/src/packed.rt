@@ -1,4 +1,5 @@
 // A part of the workspace that is not empty, in one number: where a definition's value or an argument stands.
+// Kept: `as`, where there is no `From`.
 // Kept: a number, for the fixed memory: an entry of the definitions has 32 bits for it, 64 arguments lie on each call's stack (`ArgumentsAt`).
 ghost use Rattle.std.specs.Prelude.{◌≡◌, ◌≤◌, ◌<◌};
 ghost use Rattle.workspace.specs.Packed.{pack, packed_from, packed_to};

@@ -13,6 +13,8 @@ use rows::forms::Form;
 use rows::{arrays, table};
 
 // Steps and workspace that are left, where the finished values end, and where the definitions' begin.
+// Kept: `top` and `floor` beside the lent bytes, no slices of them, since values move across both; and no struct with the bytes, which are lent where a
+// state is handed on by value.
 #[derive(Clone, Copy, Debug, PartialEq, Eq)]
 pub struct State {
     pub steps: u64,

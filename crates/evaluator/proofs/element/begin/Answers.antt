@@ -14,7 +14,7 @@ pub returns : goal.returns
 returns c =
     let taken = begin_some _ _ (sym c.in_ok-stepped.ensures) in (
       λ bound run e h b.
-          let p = c.in_ok-left.ensures bound c.args.w.now c.args.state e h taken.0 taken.1 b in
+          let p = c.in_ok-decision.ensures bound c.args.w.now c.args.state e h taken.0 taken.1 b in
           c.perform.ensures.0 bound _ p.0 run e h p.1 p.2,
       c.perform.ensures.1,
     )
