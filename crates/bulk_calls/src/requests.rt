@@ -64,7 +64,7 @@ pub enum Request {
     Bad,
 }
 
-fn bounds(source: &mut Source<impl Read>) -> Option<Bounds>
+fn lending(source: &mut Source<impl Read>) -> Option<Bounds>
     ensures { source.new.left ≤ source.old.left }
 {
     Some(Bounds {
@@ -99,7 +99,7 @@ fn evaluate(source: &mut Source<impl Read>, stream: &mut Kept) -> Option<Request
 {
     Some(Request::Evaluate(EvaluateRequest {
         stream: words::hex(source, stream)?,
-        bounds: bounds(source)?,
+        bounds: lending(source)?,
     }))
 }
 
@@ -108,7 +108,7 @@ fn backlog(source: &mut Source<impl Read>, stream: &mut Kept, ends: &mut Ends) -
 {
     let bytes = words::hex(source, stream)?;
     let numbers = words::ends(source, ends)?;
-    let bounds = bounds(source)?;
+    let bounds = lending(source)?;
     let answers = words::number(source)?;
     // All of it has to be kept.
     if (KEPT_SIZE as u64) < bytes || (ENDS_SIZE as u64) < numbers {
