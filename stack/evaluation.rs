@@ -6,7 +6,7 @@ use crate::frames::frame;
 
 /// A list that is evaluated takes a level of the first, with one of each other below it that was
 /// not inlined; a call whose code runs takes one of each of the second.
-const OF_A_LIST: [&str; 5] = ["list", "expression", "entered", "closed", "finish"];
+const OF_A_LIST: [&str; 4] = ["list", "expression", "entered", "finish"];
 const OF_A_CALL: [&str; 3] = ["call", "function", "code"];
 /// So many functions are the run of lists and codes.
 pub const SIZE: usize = OF_A_LIST.len() + OF_A_CALL.len();
