@@ -163,6 +163,7 @@ fn any_array(s: &[u8], at: usize) -> Result<Token, Refusal>
 }
 
 // The generic array whose 03 is at a place. The lengths that a canonical stream has, and small integers, are read here, the others by `any_array`.
+// Kept: two functions that tell the same. By `any_array` alone, such an array takes 24 percent more instructions to check.
 #[tactic(auto, using(crate::proofs::Places::short_lengths))]
 fn array_at(s: &[u8], at: usize) -> Result<Token, Refusal>
     requires { (length s.now ≤ 65536) × (at < length s.now) }

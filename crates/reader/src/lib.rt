@@ -141,6 +141,7 @@ pub fn fill(s: &[u8], table: &mut [u32])
     requires { CanRead s.now × (row_width * length (rows_of (tokens 0 0 s.now)) ≤ length table.old) }
     ensures { table.new ≡ filled (rows_of (tokens 0 0 s.now)) table.old }
 {
+    // Kept: `depth` beside `forms`, since there is no heap.
     let mut forms = [0u32; FORM_LIMIT];
     let mut at: usize = 0;
     let mut depth: usize = 0;

@@ -12,6 +12,8 @@ use crate::values::State;
 use atoms::{Kind, Reason, Refusal, Token};
 use std::ops::Range;
 
+// Kept: `state`, `start` and `row` are no struct, here and in `values`: most callers have them apart.
+
 // Whether values have at most 63 forms one inside another.
 fn shallow(values: &[u8]) -> bool
     requires values_len_bound { length values.now ≤ 65536 }
@@ -131,7 +133,7 @@ fn put_argument(args: &mut [u32; 64], n: usize, from: usize, to: usize)
     requires { (from < to) × (to ≤ 65536) }
     ensures { args.new ≡ set args.old n (pack from to) }
 {
-    // Kept: a proof knows nothing of the elements behind a slice's `get_mut`.
+    // Kept: no `get_mut`: tried, and the proof did not close.
     if n < args.len() {
         args[n] = packed::pack(from, to);
     }
