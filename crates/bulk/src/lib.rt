@@ -8,7 +8,7 @@ ghost use Rattle.spec.specs.Calls.{Read, Write, Evaluate, Item, Buffer as Chosen
 ghost use Rattle.spec.specs.Backlog.{is_23, Backlog};
 ghost use Rattle.bulk.specs.Answers.{Answered, AnsweredEvaluation, AnsweredBacklog, told_numbers, asked, of_buffer, lent, PartItself};
 
-pub use atoms::refusal::{Reason, Refusal};
+pub use atoms::refusal::{Reason, Refusal, UnknownReason};
 pub use evaluator::Evaluation;
 pub use reader::Part;
 

@@ -7,6 +7,8 @@ use crate::words::{ENDS_SIZE, Ends, KEPT_SIZE, Kept, NAME_SIZE};
 use bulk::Buffer;
 use std::io::Read;
 
+// Kept: that `left` does not rise stands in each contract, as in `words`; `as`, where there is no `From`.
+
 // `stream`, `result`, `buffer` and `ends` are how many bytes or ends were written; other numbers are as written, or the largest of 64 bits.
 #[derive(Clone, Copy)]
 pub struct ReadRequest {
